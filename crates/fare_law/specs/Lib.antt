@@ -1,0 +1,10 @@
+pub mod Lists
+pub mod Days
+pub mod Book
+pub mod Journey
+pub mod Parts
+pub mod Units
+pub mod Lawful
+pub mod Order
+pub mod Flights
+pub mod Faults

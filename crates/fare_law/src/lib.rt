@@ -1,0 +1,35 @@
+//! The plain records of flights, fares, rules, filings, requests and tickets, and in `specs/` the
+//! definitions of the law: what a book has, which tickets are lawful, what they cost, which are best.
+//! Every layer above cites these definitions; a reader has to believe no others.
+#![tactic(auto)]
+
+mod array;
+mod fares;
+mod filings;
+mod flights;
+mod gate;
+mod list;
+mod mem;
+mod moves;
+mod names;
+mod requests;
+mod rows;
+mod rules;
+mod tickets;
+
+pub use array::ArrayVec;
+pub use fares::{Fare, FareKey, FareKind};
+pub use filings::{Action, BookWhy, Filing, Refused, SeatKey};
+pub use flights::Flight;
+pub use gate::{Gate, NoGate};
+pub use list::List;
+pub use mem::Mem;
+pub use moves::{Code, Move, Role};
+pub use names::{Basis, Carrier, Class, Place};
+pub use requests::{Request, Slice, Why};
+pub use rows::{FlightRow, PlaceRow, SeatRow, TextLine};
+pub use rules::{
+    CombineRule, DayRange, DayTime, EndOnEnd, FlightRange, FlightRule, MinStay, Partners, Rule,
+    StopRule, Surcharge, TransferRule, TravelRule, UnitKind,
+};
+pub use tickets::{Component, Piece, Priced, Ticket};

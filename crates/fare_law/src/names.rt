@@ -1,0 +1,28 @@
+//! Names of the trade: places, carriers, fare bases and booking classes.
+ghost use Rattle.std.specs.Prelude.{◌≡◌};
+
+use crate::ArrayVec;
+
+/// A place: three capital letters. One code names one place.
+#[derive(Clone, Copy, Default, PartialEq, Eq, PartialOrd, Ord, Hash, Debug)]
+pub struct Place(pub [u8; 3]);
+
+/// A carrier: two capital letters or digits.
+#[derive(Clone, Copy, Default, PartialEq, Eq, PartialOrd, Ord, Hash, Debug)]
+pub struct Carrier(pub [u8; 2]);
+
+/// A fare basis: one to eight capital letters or digits.
+#[derive(Default, PartialEq, Eq, PartialOrd, Ord, Hash, Debug, Drop)]
+pub struct Basis(pub ArrayVec<u8, 8>);
+
+/// A booking class: 0 for A to 25 for Z.
+pub type Class = u8;
+
+impl Basis {
+    /// The same basis.
+    pub fn copied(&self) -> Basis
+        ensures { result ≡ self.now }
+    {
+        Basis(self.0.copied())
+    }
+}
