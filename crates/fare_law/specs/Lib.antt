@@ -8,3 +8,4 @@ pub mod Lawful
 pub mod Order
 pub mod Flights
 pub mod Faults
+pub mod Moves

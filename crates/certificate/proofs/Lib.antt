@@ -1,0 +1,2 @@
+pub mod YesIsBest
+pub mod SearchChecks

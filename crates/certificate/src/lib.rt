@@ -1,0 +1,2 @@
+//! Certificates: what a checker has to believe no search for.
+#![tactic(auto)]

@@ -1,0 +1,7 @@
+//! Where a journey stands, and which flights lead on from there.
+//! The layers above read the definitions in `specs/`: takeable flights, ranges and paths.
+#![tactic(auto)]
+
+mod positions;
+
+pub use positions::{Path, Position};

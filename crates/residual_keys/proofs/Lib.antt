@@ -1,0 +1,13 @@
+pub mod FareFacts
+pub mod Marks
+pub mod OneUnit
+pub mod Ranges
+pub mod Journeys
+pub mod TicketParts
+pub mod Wholes
+pub mod Runs
+pub mod NothingLost
+pub mod OneNext
+pub mod OneTicket
+pub mod RunsBest
+pub mod CaseA

@@ -1,0 +1,3 @@
+pub mod Residuals
+pub mod NothingLost
+pub mod Searches

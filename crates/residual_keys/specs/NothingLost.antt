@@ -1,0 +1,25 @@
+-- What the moves of a search are to the lawful tickets.
+use Rattle.std.specs.Prelude.{◌≡◌, ℕ, List, ◌++◌}
+use Rattle.fare_law.specs.declared.moves.Move.{Move}
+use Rattle.fare_law.specs.declared.requests.Request.{Request}
+use Rattle.fare_law.specs.declared.tickets.Ticket.{Ticket}
+use Rattle.fare_law.specs.Book.{Book}
+use Rattle.fare_law.specs.Lawful.{Lawful}
+use Rattle.fare_law.specs.Moves.{moves_of, run_code}
+use Rattle.fare_law.specs.Order.{Costs, code}
+use Rattle.residual_keys.specs.Residuals.{State, RunFromRoot, RootLeadsTo}
+
+-- Nothing is lost: the runs from the root are the moves of the lawful tickets, and price and code are the ticket's.
+abbrev pub NothingLost : Book → Request → Type 0
+NothingLost b q =
+    ((ms : List Move) (price : ℕ) → RunFromRoot b q ms price → (t : Ticket) × Lawful t b q × (moves_of t ≡ ms) × Costs t b q price)
+    × ((t : Ticket) → Lawful t b q → (price : ℕ) × RunFromRoot b q (moves_of t) price × Costs t b q price)
+    × ((t : Ticket) → code t ≡ run_code (moves_of t))
+
+-- a further list of moves makes these the moves of a lawful ticket
+abbrev pub Completed : Book → Request → List Move → Type 0
+Completed b q ms = (t : Ticket) × Lawful t b q × (moves_of t ≡ ms)
+
+-- Where two lists of moves lead from the root to one state, a further list completes the one to a lawful ticket exactly where it completes the other.
+abbrev pub SameCompletions : Book → Request → Type 0
+SameCompletions b q = (ms ms' rest : List Move) (x : State) → RootLeadsTo b q ms x → RootLeadsTo b q ms' x → Completed b q (ms ++ rest) → Completed b q (ms' ++ rest)

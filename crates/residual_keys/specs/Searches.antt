@@ -1,0 +1,40 @@
+-- What a search finds: the states that are needed, their least prices, the certificate of a search.
+use Rattle.std.specs.Prelude.{◌≡◌, ◌↔◌, ℕ, ◌+◌, ◌<◌, ◌≤◌, List, ◌++◌, Option, Some, None, MatchOption}
+use Rattle.fare_law.specs.declared.requests.Request.{Request}
+use Rattle.fare_law.specs.Book.{Book}
+use Rattle.fare_law.specs.Lists.{EachPair, IsIn, KLeast}
+use Rattle.fare_law.specs.Order.{Before}
+use Rattle.fare_law.specs.declared.moves.Move.{Move}
+use Rattle.residual_keys.specs.Residuals.{State, Run, RunFromRoot, RootLeadsTo}
+use Rattle.fare_law.specs.Moves.{run_code}
+
+abbrev pub Reached : Book → Request → State → Type 0
+Reached b q x = (ms : List Move) × RootLeadsTo b q ms x
+
+-- The states that lists of moves from the root lead to, in an order that is given, each once.
+pub record AreNeeded (Smaller : State → State → Type 0) (b : Book) (q : Request) (need : List State) : Type 0 where
+  pub in_order : EachPair Smaller need
+  pub are : (x : State) → IsIn x need ↔ Reached b q x
+
+-- the least price of a run from the state
+abbrev pub IsLeast : Book → Request → State → ℕ → Type 0
+IsLeast b q r price = ((ms : List Move) × Run b q r ms price) × ((ms : List Move) (other : ℕ) → Run b q r ms other → price ≤ other)
+
+-- the least price, or none where there is no run
+abbrev pub Least : Book → Request → State → Option ℕ → Type 0
+Least b q r bound = MatchOption bound ((ms : List Move) (price : ℕ) → Run b q r ms price → ⊥) (IsLeast b q r)
+
+-- a run from the root, with its price
+pub record Drawn : Type 0 where
+  pub price : ℕ
+  pub moves : List Move
+
+abbrev pub IsDrawn : Book → Request → Drawn → Type 0
+IsDrawn b q d = RunFromRoot b q d.moves d.price
+
+abbrev pub DrawnBefore : Drawn → Drawn → Type 0
+DrawnBefore d e = Before d.price (run_code d.moves) e.price (run_code e.moves)
+
+-- the k least runs from the root
+abbrev pub BestRuns : Book → Request → ℕ → List Drawn → Type 0
+BestRuns b q k ds = KLeast (IsDrawn b q) DrawnBefore k ds

@@ -1,0 +1,2 @@
+//! What a fare's rule demands of its unit.
+#![tactic(auto)]

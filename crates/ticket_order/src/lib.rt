@@ -1,0 +1,2 @@
+//! Codes of tickets and the order by price and code.
+#![tactic(auto)]
