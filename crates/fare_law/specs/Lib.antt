@@ -9,3 +9,4 @@ pub mod Order
 pub mod Flights
 pub mod Faults
 pub mod Moves
+pub mod Sheets
