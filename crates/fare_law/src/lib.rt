@@ -28,7 +28,9 @@ pub use list::List;
 pub use market::{MarketSheet, OfferKey};
 pub use mem::Mem;
 pub use moves::{Code, Move, Role};
-pub use names::{Basis, Carrier, Class, Place};
+pub use names::{
+    Basis, Carrier, Class, Place, bases_tell_equal, carriers_tell_equal, places_tell_equal,
+};
 pub use requests::{Request, Slice, Why};
 pub use rows::{FlightRow, PlaceRow, SeatRow, TextLine};
 pub use rules::{
