@@ -1,5 +1,5 @@
 -- Sheets: the live fares of one market, with what their rules say of the time of departure.
-use Rattle.std.specs.Prelude.{◌≡◌, ◌⊎◌, ℕ, ◌≤◌, ℤ, pos, List, length, Option, Some, None}
+use Rattle.std.specs.Prelude.{◌≡◌, ◌⊎◌, ◌≤◌, ℤ, pos, List, length, Option, Some, None}
 use Rattle.fare_law.specs.declared.names.Place.{Place}
 use Rattle.fare_law.specs.declared.rules.DayTime.{DayTime}
 use Rattle.fare_law.specs.declared.sheets.SheetRow.{SheetRow}
