@@ -1,0 +1,2 @@
+pub mod CenturyLemmas
+pub mod TextLemmas
