@@ -7,7 +7,7 @@ use Rattle.jiff_core.specs.Calendar.{day_count, days_from_civil, days_in_month, 
 use Rattle.jiff_core.proofs.SignedLemmas.{signed_arith}
 use Rattle.jiff_core.proofs.MarchLemmas.{day_count-early}
 use Rattle.jiff_core.proofs.CalendarLemmas.{days_from_civil-day_count, day_count-day_of_year, day_of_year_bound, day_count-later_year, days_in_year_bounds}
-use Rattle.market_time.specs.Dates.{IsInCentury, is_date, day_number, has_date_form, year_in, month_in, day_in, day_spelled}
+use Rattle.market_time.specs.Dates.{IsInCentury, is_date}
 use borrow.Author.Differences.{up, down}
 
 -- the days before the years 2000 and 2100, counted from the year -10000
@@ -63,26 +63,12 @@ IsInCentury-if_date y m d h =
     let high : pos y ≤ℤ pos 2099 = omega (arith, signed_arith) in
     IsInCentury-date (pos y) m d low high ((omega (arith, signed_arith), omega (arith, signed_arith)), month, day)
 
-pub IsInCentury-day_number : (y m d : ℕ) → IfSome (day_number y m d) IsInCentury
-IsInCentury-day_number y m d =
-    IfSome-if IsInCentury (is_date y m d) (days_from_civil (pos y) m d) (IsInCentury-if_date y m d)
-
-IfSome-within : {A : Type 0} (P : A → Type 0) (o : Option A) (test : Bool) → IfSome o P → IfSome (if test then o else None) P
-IfSome-within P o true h = h
-IfSome-within P o false h = tt
-
--- the days that texts spell
-pub IsInCentury-day_spelled : (text : List ℕ) → IfSome (day_spelled text) IsInCentury
-unfolding day_spelled
-IsInCentury-day_spelled text =
-    IfSome-within IsInCentury (day_number (year_in text) (month_in text) (day_in text)) (has_date_form text) (IsInCentury-day_number (year_in text) (month_in text) (day_in text))
-
 IfOk-ok_or : {E : Type 0} (o : Option ℤ) (e : E) → IfSome o IsInCentury → IfOk (ok_or o e) IsInCentury
 IfOk-ok_or (Some day) e h = h
 IfOk-ok_or None e h = tt
 
--- and the results that tell them
-pub IsInCentury-ok_or : {E : Type 0} (r : Result ℤ E) (o : Option ℤ) (e : E) (y m d : ℕ) → o ≡ day_number y m d → r ≡ ok_or o e → IfOk r IsInCentury
+-- a result that tells the day of a date
+pub IsInCentury-ok_or : {E : Type 0} (r : Result ℤ E) (o : Option ℤ) (e : E) (y m d : ℕ) → o ≡ (if is_date y m d then Some (days_from_civil (pos y) m d) else None) → r ≡ ok_or o e → IfOk r IsInCentury
 IsInCentury-ok_or r o e y m d number told =
-    let number_in : IfSome o IsInCentury = rw number (IsInCentury-day_number y m d) in
-    rw told (IfOk-ok_or o e number_in)
+    let dated : IfSome o IsInCentury = rw number (IfSome-if IsInCentury (is_date y m d) (days_from_civil (pos y) m d) (IsInCentury-if_date y m d)) in
+    rw told (IfOk-ok_or o e dated)

@@ -1,6 +1,6 @@
 -- Times of day and offsets from UTC as text, in minutes.
-use Rattle.std.specs.Prelude.{ℕ, ℤ, pos, neg_ℤ, Bool, ◌+◌, ◌*◌, ◌&&◌, ◌||◌, ◌==◌, nat_lt, nat_le, if◌then◌else◌, List, length, slice_index, Option, Some, None}
-use Rattle.market_time.specs.Digits.{has_two_digits, two_digits}
+use Rattle.std.specs.Prelude.{◌≡◌, ◌⊎◌, ◌<◌, ◌≤◌, ℕ, ℤ, pos, neg_ℤ, Bool, ◌+◌, ◌*◌, ◌/◌, ◌%◌, ◌&&◌, ◌||◌, ◌==◌, nat_lt, nat_le, if◌then◌else◌, List, ◌∷◌, ◌++◌, length, slice_index, Option, Some, None}
+use Rattle.market_time.specs.Digits.{has_two_digits, two_digits, digits_of}
 
 -- five bytes HH:MM from this place on: digits with a colon between, and minutes below 60
 abbrev pub has_clock_form : List ℕ → ℕ → Bool
@@ -25,3 +25,18 @@ offset_spelled text =
         && has_clock_form text 1 && nat_le (clock_minutes text 1) (14 * 60)
     then Some (if slice_index text 0 == 45 then neg_ℤ (pos (clock_minutes text 1)) else pos (clock_minutes text 1))
     else None
+
+-- minutes written as HH:MM
+abbrev pub time_text : ℕ → List ℕ
+time_text minutes = digits_of (minutes / 60) ++ (58 ∷ digits_of (minutes % 60))
+
+-- the text is a minute of the day, written so
+abbrev pub WritesMinute : List ℕ → ℕ → Type 0
+WritesMinute text minute = (minute < 24 * 60) × (text ≡ time_text minute)
+
+-- the text is a sign and at most 14 hours, written so, and the offset has this sign
+pub record WritesOffset (text : List ℕ) (offset : ℤ) : Type 0 where
+  pub minutes : ℕ
+  pub within : minutes ≤ 14 * 60
+  pub signed : ((text ≡ 43 ∷ time_text minutes) × (offset ≡ pos minutes))
+    ⊎ ((text ≡ 45 ∷ time_text minutes) × (offset ≡ neg_ℤ (pos minutes)))

@@ -1,7 +1,8 @@
 -- Dates as text, and the days that they name. A day is the number of days since 1970-01-01.
-use Rattle.std.specs.Prelude.{ℕ, ℤ, pos, Bool, ◌+◌, ◌*◌, ◌&&◌, ◌==◌, nat_le, if◌then◌else◌, List, length, slice_index, Option, Some, None}
+use Rattle.std.specs.Prelude.{◌≡◌, ℕ, ℤ, pos, Bool, ◌+◌, ◌*◌, ◌/◌, ◌%◌, ◌&&◌, ◌==◌, nat_le, if◌then◌else◌, List, ◌∷◌, ◌++◌, length, slice_index, Option, Some, None}
+use Rattle.std.specs.Int.{IsInRange}
 use Rattle.jiff_core.specs.Calendar.{days_from_civil, days_in_month, IsBetween}
-use Rattle.market_time.specs.Digits.{has_two_digits, two_digits}
+use Rattle.market_time.specs.Digits.{has_two_digits, two_digits, digits_of}
 
 -- the days from 2000-01-01 to 2099-12-31
 abbrev pub IsInCentury : ℤ → Type 0
@@ -30,12 +31,24 @@ month_in text = two_digits text 5
 abbrev pub day_in : List ℕ → ℕ
 day_in text = two_digits text 8
 
--- the day of a date
-abbrev pub day_number : ℕ → ℕ → ℕ → Option ℤ
-day_number year month day =
-    if is_date year month day then Some (days_from_civil (pos year) month day) else None
-
 -- the day that a text spells, if it spells one
 unfoldable pub day_spelled : List ℕ → Option ℤ
 day_spelled text =
-    if has_date_form text then day_number (year_in text) (month_in text) (day_in text) else None
+    if has_date_form text && is_date (year_in text) (month_in text) (day_in text)
+    then Some (days_from_civil (pos (year_in text)) (month_in text) (day_in text)) else None
+
+-- a date written as YYYY-MM-DD
+abbrev pub date_text : ℕ → ℕ → ℕ → List ℕ
+date_text year month day =
+    digits_of (year / 100) ++ (digits_of (year % 100) ++ (45 ∷ digits_of month ++ (45 ∷ digits_of day)))
+
+-- the text is a date of the years 2000 to 2099, written so, and the day is the date's
+pub record WritesDay (text : List ℕ) (day : ℤ) : Type 0 where
+  pub year : ℕ
+  pub month : ℕ
+  pub day_of_month : ℕ
+  pub in_century : IsInRange 2000 2099 year
+  pub in_year : IsInRange 1 12 month
+  pub in_month : IsInRange 1 (days_in_month (pos year) month) day_of_month
+  pub written : text ≡ date_text year month day_of_month
+  pub counted : day ≡ days_from_civil (pos year) month day_of_month

@@ -1,5 +1,5 @@
--- Two digits in a text.
-use Rattle.std.specs.Prelude.{ℕ, Bool, ◌+◌, ◌-◌, ◌*◌, ◌&&◌, List, slice_index}
+-- Numbers below 100 as two digits of a text.
+use Rattle.std.specs.Prelude.{ℕ, Bool, ◌+◌, ◌-◌, ◌*◌, ◌/◌, ◌%◌, ◌&&◌, List, [], ◌∷◌, slice_index}
 use Rattle.std.specs.Char.{is_ascii_digit}
 
 -- the byte at this place and the next one are digits
@@ -10,3 +10,7 @@ has_two_digits text at =
 -- the number that these two digits write
 abbrev pub two_digits : List ℕ → ℕ → ℕ
 two_digits text at = 10 * (slice_index text at - 48) + (slice_index text (at + 1) - 48)
+
+-- a number below 100 as two digits
+abbrev pub digits_of : ℕ → List ℕ
+digits_of n = (48 + n / 10) ∷ (48 + n % 10) ∷ []

@@ -1,11 +1,11 @@
 //! Dates as text.
-ghost use Rattle.std.specs.Prelude.{◌≡◌, ◌+◌, ◌-◌, ◌/◌, ◌%◌, ◌<◌, ◌≤◌, pos, length, IfOk, IfErr, IfSome, Some};
+ghost use Rattle.std.specs.Prelude.{◌≡◌, ◌+◌, ◌-◌, ◌/◌, ◌%◌, ◌<◌, ◌≤◌, pos, length, IfOk, IfErr, None, Some, if◌then◌else◌};
 ghost use Rattle.std.specs.Result.{result_ok};
 ghost use Rattle.std.specs.Str.{IsAscii};
-ghost use Rattle.jiff_core.specs.Calendar.{IsBetween};
+ghost use Rattle.jiff_core.specs.Calendar.{days_from_civil, IsBetween};
 ghost use Rattle.jiff_core.specs.Date.{epoch_day};
 ghost use Rattle.market_time.specs.Dates as Dates;
-ghost use Rattle.market_time.specs.Dates.{day_spelled, IsInCentury};
+ghost use Rattle.market_time.specs.Dates.{day_spelled, is_date, IsInCentury};
 
 use crate::TimeFault;
 use crate::digits::{has_two_digits, two_digits};
@@ -92,7 +92,8 @@ fn has_date_form(text: &[u8]) -> bool
 fn day_number(year: u16, month: u8, day: u8) -> Option<i32>
     requires month_in { month < 100 }
     requires day_in { day < 100 }
-    ensures { result ≡ Dates.day_number year month day }
+    ensures { result
+        ≡ (if is_date year month day then Some (days_from_civil (pos year) month day) else None) }
 {
     if year < 2000 || year > 2099 {
         return None;

@@ -3,7 +3,7 @@ ghost use Rattle.std.specs.Prelude.{◌≡◌, ◌+◌, ◌*◌, ◌≤◌, ◌<
 ghost use Rattle.market_time.specs.Digits as Digits;
 
 /// Whether the byte at `at` and the next one are digits.
-pub fn has_two_digits(text: &[u8], at: usize) -> bool
+pub(crate) fn has_two_digits(text: &[u8], at: usize) -> bool
     requires { at + 2 ≤ length text.now }
     ensures { result ≡ Digits.has_two_digits text.now at }
 {
@@ -11,7 +11,7 @@ pub fn has_two_digits(text: &[u8], at: usize) -> bool
 }
 
 /// The number that two digits write.
-pub fn two_digits(text: &[u8], at: usize) -> u8
+pub(crate) fn two_digits(text: &[u8], at: usize) -> u8
     requires within { at + 2 ≤ length text.now }
     requires digits { IsTrue (Digits.has_two_digits text.now at) }
     ensures value { result ≡ Digits.two_digits text.now at }

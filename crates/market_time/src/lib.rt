@@ -7,10 +7,15 @@ mod clock;
 mod dates;
 mod digits;
 mod fault;
+mod laws;
+#[cfg(test)]
+mod tests;
 mod weekdays;
 
 pub use clock::{instant, minute_of, offset_of};
 pub use dates::{day_of, day_text};
 pub use fault::TimeFault;
+pub use laws::{
+    dates_as_written, dates_in_century, offsets_as_written, one_date_text, times_as_written, weekdays_in_turn,
+};
 pub use weekdays::{first_sunday_after, weekday};
-
