@@ -1,14 +1,12 @@
 -- The dates from 2000-01-01 to 2099-12-31 are the days from 10957 to 47481: what the range of `day_of` and the year of `day_text` need.
-use Rattle.std.proofs.Common.{◌≡◌, ℕ, ◌+◌, Bool, true, false, refl, ◌<◌, ◌≤◌, arith, Option, Some, None, if◌then◌else◌, IfSome, IfOk, Result, Ok, Err, ok_or, List, sym, ℤ, pos, ◌<ℤ◌, ◌≤ℤ◌}
+use Rattle.std.proofs.Common.{◌≡◌, ℕ, Bool, true, false, refl, ◌<◌, ◌≤◌, arith, Option, Some, None, if◌then◌else◌, IfSome, IfOk, Result, ok_or, ℤ, pos, ◌≤ℤ◌}
 use Rattle.std.proofs.lemmas.Bool.Decides.{nat_tests}
-use Rattle.std.specs.Result.{result_ok}
 use Rattle.std.proofs.lemmas.Int.{by_lt_z}
 use Rattle.jiff_core.specs.Calendar.{day_count, days_from_civil, days_in_month, IsCivilDate}
 use Rattle.jiff_core.proofs.SignedLemmas.{signed_arith}
 use Rattle.jiff_core.proofs.MarchLemmas.{day_count-early}
 use Rattle.jiff_core.proofs.CalendarLemmas.{days_from_civil-day_count, day_count-day_of_year, day_of_year_bound, day_count-later_year, days_in_year_bounds}
 use Rattle.market_time.specs.Dates.{IsInCentury, is_date}
-use borrow.Author.Differences.{up, down}
 
 -- the days before the years 2000 and 2100, counted from the year -10000
 day_count-2000 : day_count (pos 2000) 1 1 ≡ 4_382_910
@@ -41,13 +39,14 @@ year_of_day y m d h day =
     let fits = day_of_year_bound y m d h in
     let count = days_from_civil-day_count y m d in
     let low : 4_382_910 ≤ day_count y m d = omega (arith, signed_arith) in
-    let high : day_count y m d < 4_419_435 = omega (arith, signed_arith) in
-    (by_lt_z y (pos 2000)
-    (λ lt. absurd (omega (arith, day_count-later_year y (pos 2000) (omega (arith, signed_arith)) lt, day_count-2000)))
-    (λ le. le),
-    by_lt_z (pos 2099) y
-    (λ lt. absurd (omega (arith, day_count-later_year (pos 2099) y (omega (arith, signed_arith)) lt, day_count-2099, days_in_year_bounds (pos 2099), h.2.0)))
-    (λ le. le))
+    let high : day_count y m d < 4_419_435 = omega (arith, signed_arith) in (
+      by_lt_z y (pos 2000)
+          (λ lt. absurd (omega (arith, day_count-later_year y (pos 2000) (omega (arith, signed_arith)) lt, day_count-2000)))
+          (λ le. le),
+      by_lt_z (pos 2099) y
+          (λ lt. absurd (omega (arith, day_count-later_year (pos 2099) y (omega (arith, signed_arith)) lt, day_count-2099, days_in_year_bounds (pos 2099), h.2.0)))
+          (λ le. le),
+    )
 
 -- what a test lets through
 IfSome-if : {A : Type 0} (P : A → Type 0) (test : Bool) (x : A) → (test ≡ true → P x) → IfSome (if test then Some x else None) P

@@ -1,8 +1,6 @@
 -- The times and offsets that texts spell are those that they write: what the laws on them need.
-use Rattle.std.proofs.Common.{◌≡◌, ◌↔◌, ◌⊎◌, inl, inr, ℕ, ◌+◌, ◌*◌, ◌-◌, ◌/◌, ◌%◌, ◌<◌, ◌≤◌, ◌==◌, ◌&&◌, ◌||◌, nat_lt, nat_le, Bool, true, false, refl, sym, arith, ℤ, pos, neg_ℤ, List, [], ◌∷◌, slice_index, Option, Some, None, length, if◌then◌else◌, ap, ◌∙◌}
+use Rattle.std.proofs.Common.{◌≡◌, ◌↔◌, ◌⊎◌, inl, inr, ℕ, ◌+◌, ◌*◌, ◌-◌, ◌/◌, ◌%◌, ◌<◌, ◌≤◌, ◌==◌, ◌&&◌, ◌||◌, nat_lt, nat_le, Bool, true, refl, sym, arith, ℤ, pos, neg_ℤ, List, [], ◌∷◌, slice_index, Some, length, if◌then◌else◌, ap, ◌∙◌}
 use Rattle.std.proofs.lemmas.Bool.Decides.{nat_tests}
-use Rattle.jiff_core.specs.Calendar.{IsWithin}
-use Rattle.jiff_core.proofs.SignedLemmas.{signed_arith}
 use Rattle.market_time.proofs.DigitLemmas.{let_through, is_number, at_most, digits_in_range, three_hold, four_hold}
 use Rattle.market_time.specs.Digits.{has_two_digits, two_digits}
 use Rattle.market_time.specs.Clock.{has_clock_form, clock_minutes, minute_spelled, offset_spelled, time_text, WritesMinute, WritesOffset}
@@ -85,8 +83,8 @@ writes_offset (s ∷ a ∷ b ∷ c ∷ d ∷ e ∷ []) offset h =
       minutes = minutes;
       within = at_most minutes 840 tests.3;
       signed = elim (sign_cases s (neg_ℤ (pos minutes)) (pos minutes) tests.1) [
-        inl p ↦ inl (ap (λ n. n ∷ a ∷ b ∷ c ∷ d ∷ e ∷ []) p.0 ∙ ap (λ xs. 43 ∷ xs) written, read.1 ∙ p.1)
-      | inr p ↦ inr (ap (λ n. n ∷ a ∷ b ∷ c ∷ d ∷ e ∷ []) p.0 ∙ ap (λ xs. 45 ∷ xs) written, read.1 ∙ p.1)
+        | inl p ↦ inl (ap (λ n. n ∷ a ∷ b ∷ c ∷ d ∷ e ∷ []) p.0 ∙ ap (λ xs. 43 ∷ xs) written, read.1 ∙ p.1)
+        | inr p ↦ inr (ap (λ n. n ∷ a ∷ b ∷ c ∷ d ∷ e ∷ []) p.0 ∙ ap (λ xs. 45 ∷ xs) written, read.1 ∙ p.1)
       ];
     }
 writes_offset text offset h =
@@ -111,8 +109,8 @@ offset_minus minutes below =
 offset_read : (text : List ℕ) (offset : ℤ) → WritesOffset text offset → offset_spelled text ≡ Some offset
 offset_read text offset w =
     elim w.signed [
-      inl p ↦ ap offset_spelled p.0 ∙ offset_plus w.minutes w.within ∙ ap Some (sym p.1)
-    | inr p ↦ ap offset_spelled p.0 ∙ offset_minus w.minutes w.within ∙ ap Some (sym p.1)
+      | inl p ↦ ap offset_spelled p.0 ∙ offset_plus w.minutes w.within ∙ ap Some (sym p.1)
+      | inr p ↦ ap offset_spelled p.0 ∙ offset_minus w.minutes w.within ∙ ap Some (sym p.1)
     ]
 
 pub offsets_written : (text : List ℕ) (offset : ℤ) → (offset_spelled text ≡ Some offset) ↔ WritesOffset text offset

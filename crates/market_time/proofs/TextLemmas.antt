@@ -1,5 +1,5 @@
 -- The dates that texts spell are those that they write: what `day_text` and the laws on dates need.
-use Rattle.std.proofs.Common.{◌≡◌, ℕ, ◌+◌, ◌*◌, ◌-◌, ◌/◌, ◌%◌, ◌<◌, ◌≤◌, ◌==◌, ◌&&◌, Bool, true, false, refl, subst, sym, arith, ℤ, pos, ◌≤ℤ◌, List, [], ◌∷◌, Option, Some, None, length, if◌then◌else◌, ap, ◌∙◌}
+use Rattle.std.proofs.Common.{◌≡◌, ℕ, ◌+◌, ◌*◌, ◌-◌, ◌/◌, ◌%◌, ◌≤◌, ◌==◌, ◌&&◌, true, sym, arith, ℤ, pos, ◌≤ℤ◌, List, [], ◌∷◌, Some, length, ap, ◌∙◌}
 use Rattle.std.specs.Int.{IsInRange}
 use Rattle.std.proofs.lemmas.Bool.Decides.{nat_tests}
 use Rattle.jiff_core.specs.declared.civil.date.Date.{Date}

@@ -22,7 +22,7 @@ minute_spelled text =
 unfoldable pub offset_spelled : List ℕ → Option ℤ
 offset_spelled text =
     if (length text == 6) && ((slice_index text 0 == 43) || (slice_index text 0 == 45))
-        && has_clock_form text 1 && nat_le (clock_minutes text 1) (14 * 60)
+    && has_clock_form text 1 && nat_le (clock_minutes text 1) (14 * 60)
     then Some (if slice_index text 0 == 45 then neg_ℤ (pos (clock_minutes text 1)) else pos (clock_minutes text 1))
     else None
 
@@ -39,4 +39,4 @@ pub record WritesOffset (text : List ℕ) (offset : ℤ) : Type 0 where
   pub minutes : ℕ
   pub within : minutes ≤ 14 * 60
   pub signed : ((text ≡ 43 ∷ time_text minutes) × (offset ≡ pos minutes))
-    ⊎ ((text ≡ 45 ∷ time_text minutes) × (offset ≡ neg_ℤ (pos minutes)))
+      ⊎ ((text ≡ 45 ∷ time_text minutes) × (offset ≡ neg_ℤ (pos minutes)))

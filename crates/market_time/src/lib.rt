@@ -16,6 +16,7 @@ pub use clock::{instant, minute_of, offset_of};
 pub use dates::{day_of, day_text};
 pub use fault::TimeFault;
 pub use laws::{
-    dates_as_written, dates_in_century, offsets_as_written, one_date_text, times_as_written, weekdays_in_turn,
+    dates_as_written, dates_in_century, offsets_as_written, one_date_text, times_as_written,
+    weekdays_in_turn,
 };
 pub use weekdays::{first_sunday_after, weekday};

@@ -8,7 +8,11 @@ fn reads_dates(rt: HostRuntime) {
         ("the first day", b"2000-01-01", Ok(10957)),
         ("a leap day of a century", b"2000-02-29", Ok(11016)),
         ("the last day", b"2099-12-31", Ok(47481)),
-        ("before the first day", b"1999-12-31", Err(TimeFault::BadDate)),
+        (
+            "before the first day",
+            b"1999-12-31",
+            Err(TimeFault::BadDate),
+        ),
         ("after the last day", b"2100-01-01", Err(TimeFault::BadDate)),
         ("no leap year", b"2031-02-29", Err(TimeFault::BadDate)),
         ("no month", b"2031-00-03", Err(TimeFault::BadDate)),

@@ -1,4 +1,4 @@
-use Rattle.std.proofs.Common.{arith, ◌≡◌, pos, ℤ, unsigned_abs, ◌/◌, ◌%◌, ◌+◌, ◌-◌, ◌∙◌, ap, subst, sym, Some, [], ◌∷◌}
+use Rattle.std.proofs.Common.{arith, ◌≡◌, pos, ℤ, unsigned_abs, ◌/◌, ◌%◌, ◌+◌, ◌∙◌, ap, subst, sym, Some, [], ◌∷◌}
 use Rattle.std.specs.Int.{IsInRange}
 use Rattle.jiff_core.specs.Calendar.{days_from_civil, days_in_month}
 use Rattle.jiff_core.proofs.SignedLemmas.{signed_casts}
