@@ -31,7 +31,7 @@ month_in text = two_digits text 5
 abbrev pub day_in : List ℕ → ℕ
 day_in text = two_digits text 8
 
--- the day that a text spells, if it spells one
+-- the day that a text spells, if it spells one: YYYY-MM-DD from 2000-01-01 to 2099-12-31
 unfoldable pub day_spelled : List ℕ → Option ℤ
 day_spelled text =
     if has_date_form text && is_date (year_in text) (month_in text) (day_in text)
