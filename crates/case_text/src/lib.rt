@@ -2,5 +2,7 @@
 #![tactic(auto)]
 
 mod lines;
+mod numbers;
 
 pub use lines::{Line, case_lines};
+pub use numbers::number_within;
