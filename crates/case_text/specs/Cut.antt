@@ -1,5 +1,6 @@
 -- A line cut at its commas.
-use Rattle.std.specs.Prelude.{◌≡◌, ◌≢◌, ◌==◌, ◌<◌, ℕ, List, [], ◌∷◌, if◌then◌else◌, All}
+use Rattle.std.specs.Prelude.{◌≡◌, ◌≢◌, ◌==◌, ◌<◌, ℕ, List, [], ◌∷◌, if◌then◌else◌, All, nat_lt, not, ◌&&◌}
+use Rattle.std.specs.List.{list_all}
 
 -- the byte goes onto the first field
 abbrev pub onto_first : ℕ → List (List ℕ) → List (List ℕ)
@@ -21,3 +22,7 @@ pub record IsPlain (c : ℕ) : Type 0 where
 -- a line that has only such bytes
 abbrev pub IsPlainLine : List ℕ → Type 0
 IsPlainLine line = All IsPlain line
+
+-- the test of such a line
+abbrev pub plain_line : List ℕ → Bool
+plain_line line = list_all (λ c. nat_lt c 128 && not (c == 34) && not (c == 10) && not (c == 13)) line

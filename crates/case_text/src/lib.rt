@@ -3,6 +3,7 @@
 
 mod fields;
 mod lines;
+mod marks;
 mod numbers;
 
 pub use fields::{is_plain, line_fields};
