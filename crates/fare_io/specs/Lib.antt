@@ -1,0 +1,4 @@
+pub mod Counts
+pub mod Streams
+pub mod Memory
+pub mod Failing
