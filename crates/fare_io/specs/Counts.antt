@@ -1,5 +1,5 @@
 -- Counts of faults and of stalls, which stay at their last value once they are there.
-use Rattle.std.specs.Prelude.{◌≡◌, ◌⊎◌, ℕ, ◌+◌, ◌-◌, ◌^◌, ◌<◌, ◌≤◌, min, Result, IfOk, OnErr}
+use Rattle.std.specs.Prelude.{◌≡◌, ◌⊎◌, ℕ, ◌+◌, ◌-◌, ◌^◌, ◌<◌, ◌≤◌, min, Result, IfOk, OnOk, OnErr}
 
 -- the last value of a count
 abbrev pub last_count : ℕ
@@ -17,6 +17,11 @@ Rose before now = (before < now) ⊎ (now ≡ last_count)
 pub record FailsWithCause {T E : Type 0} (before now : ℕ) (result : Result T E) : Type 0 where
   pub later : before ≤ now
   pub failed : OnErr result (Rose before now)
+
+-- the count of faults is one higher where the call failed, and as before where it didn't
+pub record CountsFaults {T E : Type 0} (before now : ℕ) (result : Result T E) : Type 0 where
+  pub failed : OnErr result (now ≡ raised before)
+  pub steady : OnOk result (now ≡ before)
 
 -- the count of stalls rose where the call took nothing of a piece that has bytes, and is as before after every other call
 pub record CountsStalls {E : Type 0} (before now : ℕ) (result : Result ℕ E) (size : ℕ) : Type 0 where

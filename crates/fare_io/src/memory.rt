@@ -1,9 +1,10 @@
 //! A source and a sink in memory, which never fail.
-ghost use Rattle.std.specs.Prelude.{◌≡◌, ◌<◌, ◌≤◌, ◌-◌, ◌+◌, ℕ, List, [], Some, take, drop, length, min, Ok, IfOk, OnOk, vec_len, vec_capacity};
+ghost use Rattle.std.specs.Prelude.{◌≡◌, ◌<◌, ◌≤◌, ◌-◌, ◌+◌, ◌++◌, ℕ, List, [], Some, take, drop, length, min, Ok, IfOk, OnOk, vec_len, vec_capacity};
 ghost use Rattle.std.specs.Io.{ReadsAtMost, WritesAtMost};
 ghost use Rattle.std.specs.Io.KnownBytes.{ReadConsumes, WriteAppends};
 ghost use Rattle.fare_io.specs.Counts.{FailsWithCause, CountsStalls};
 ghost use Rattle.fare_io.specs.Memory.{Space, free_of};
+ghost use Rattle.fare_io.specs.declared.source.Failed.{Failed};
 
 use crate::{Failed, Sink, Source};
 use fare_law::{List as Items, Mem};
@@ -97,6 +98,24 @@ impl MemSink {
     {
         self.held.as_slice()
     }
+
+    // Takes as many bytes of the piece as still fit, and at most this many.
+    pub(crate) fn take(&mut self, piece: &[u8], most: usize) -> usize
+        ensures count { result ≡ min (min most (free_of self.old)) (length piece.now) }
+        ensures held { self.new.held ≡ self.old.held ++ take result piece.now }
+        ensures stall { CountsStalls {E = Failed} self.old.stalls self.new.stalls (Ok result) (length piece.now) }
+        ensures room { self.new.room ≡ self.old.room }
+    {
+        let room = self.room as usize - self.held.len();
+        let count = most.min(room).min(piece.len());
+        if count == 0 && !piece.is_empty() {
+            self.stalls = self.stalls.saturating_add(1);
+        }
+        match self.held.extend_from_slice(&piece[..count]) {
+            Ok(()) => count,
+            Err(_) => unreachable!(),
+        }
+    }
 }
 
 impl Sink for MemSink {
@@ -114,14 +133,6 @@ impl Sink for MemSink {
         ensures count { result ≡ Ok (min (free_of self.old) (length piece.now)) }
         ensures room { self.new.room ≡ self.old.room }
     {
-        let room = self.room as usize - self.held.len();
-        let count = room.min(piece.len());
-        if count == 0 && !piece.is_empty() {
-            self.stalls = self.stalls.saturating_add(1);
-        }
-        match self.held.extend_from_slice(&piece[..count]) {
-            Ok(()) => Ok(count),
-            Err(_) => unreachable!(),
-        }
+        Ok(self.take(piece, piece.len()))
     }
 }
