@@ -16,25 +16,28 @@ echo 'read_all_bench: fare_io' >> "$copy/crates.txt"
 rustc -O -o "$copy/peer" "$top/bench/read_all/peer.rs"
 head -c 67108864 /dev/urandom > "$copy/input"
 
-# The best of 20 runs of the program named, in microseconds.
-best() {
-    local least=0 start taken
-    for _ in {1..20}; do
-        start=${EPOCHREALTIME/./}
-        "$@" > /dev/null
-        taken=$((${EPOCHREALTIME/./} - start))
-        if [ "$least" -eq 0 ] || [ "$taken" -lt "$least" ]; then least=$taken; fi
-    done
-    echo "$least"
-}
-from_file() { "$1" < "$copy/input"; }
-from_pipe() { cat "$copy/input" | "$1"; }
+from_file() { "$1" < "$copy/input" > /dev/null; }
+from_pipe() { cat "$copy/input" | "$1" > /dev/null; }
 
-for program in "$crate/out/read_all_bench" "$copy/peer"; do
+# How long one run took, in microseconds.
+taken() {
+    local start=${EPOCHREALTIME/./}
+    "$@"
+    echo $((${EPOCHREALTIME/./} - start))
+}
+
+ours=$crate/out/read_all_bench
+theirs=$copy/peer
+for program in "$ours" "$theirs"; do
     "$program" < "$copy/input" | cmp - "$copy/input"
 done
+# The runs of the two take turns, so that both meet the same machine.
 for way in from_file from_pipe; do
-    ours=$(best "$way" "$crate/out/read_all_bench")
-    theirs=$(best "$way" "$copy/peer")
-    echo "$way: read_all $ours us, read_to_end $theirs us, $((ours * 100 / theirs)) %"
+    for _ in {1..20}; do
+        taken "$way" "$ours" >> "$copy/$way.ours"
+        taken "$way" "$theirs" >> "$copy/$way.theirs"
+    done
+    a=$(sort -n "$copy/$way.ours" | head -1)
+    b=$(sort -n "$copy/$way.theirs" | head -1)
+    echo "$way: read_all $a us, read_to_end $b us, $((a * 100 / b)) %"
 done

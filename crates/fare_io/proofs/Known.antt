@@ -3,7 +3,7 @@ use Rattle.std.proofs.Common.{◌≡◌, ℕ, ◌+◌, ◌≤◌, ◌<◌, ◌-�
 use Rattle.std.specs.Prelude.{slice_range}
 use Rattle.std.specs.Io.{StartsWith, appended_bytes}
 use Rattle.std.specs.Io.KnownBytes.{Appends, Consumes, Keeps, IsAtEnd}
-use Rattle.std.proofs.lemmas.List.{take-append-drop, take_all, drop-drop, drop_all, length-drop, length-append, drop-append-le}
+use Rattle.std.proofs.lemmas.List.{take-append-drop, take_all, drop-drop, drop_all, length-drop, length-append}
 use Rattle.std.proofs.Math.Seq.{drop-append_seam}
 use Rattle.std.proofs.KnownBytes.{Consumes-nil, Appends-nil}
 use Rattle.fare_io.specs.Streams.{ReadsWhole, ReadsPast, GivesAtMost, AppendsFront}
@@ -78,7 +78,7 @@ appends_more (Some x) (Some y) None text at end p l q = absurd q
 appends_more (Some x) (Some y) (Some z) text at end p l q =
     let sum : at + (end - at) ≡ end = omega arith in
     q ∙ ap (λ xs. xs ++ slice_range text at end) p ∙ append_assoc x (take at text) (slice_range text at end)
-      ∙ ap (λ xs. x ++ xs) (sym (take-add at (end - at) text) ∙ ap (λ n. take n text) sum)
+    ∙ ap (λ xs. x ++ xs) (sym (take-add at (end - at) text) ∙ ap (λ n. take n text) sum)
 
 -- the text up to its end
 pub appends_all : (a b : Option (List ℕ)) (text : List ℕ) (at : ℕ) → length text ≤ at → Appends a b (take at text) → Appends a b text

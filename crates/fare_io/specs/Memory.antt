@@ -1,5 +1,5 @@
 -- What a sink in memory shows.
-use Rattle.std.specs.Prelude.{ℕ, ◌-◌, List, length, min}
+use Rattle.std.specs.Prelude.{ℕ, ◌-◌, List, length}
 
 -- the bytes that it holds, how many it can hold, and how often it took nothing of a piece that has bytes
 pub record Space : Type 0 where

@@ -43,7 +43,12 @@ impl Calls {
     {
         let number = self.made.saturating_add(1);
         self.made = number;
-        if self.listed.as_slice().iter().any(|listed| u64::from(*listed) == number) {
+        if self
+            .listed
+            .as_slice()
+            .iter()
+            .any(|listed| u64::from(*listed) == number)
+        {
             self.faults = self.faults.saturating_add(1);
             return Err(Failed);
         }

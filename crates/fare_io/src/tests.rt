@@ -37,11 +37,31 @@ impl Write for Broken {
 #[test]
 fn reads_to_the_end(rt: HostRuntime) -> Result<(), Fail> {
     let cases = [
-        ("below the limit", b"hello".as_slice(), 9, Ok(b"hello".as_slice())),
-        ("at the limit", b"hello".as_slice(), 5, Ok(b"hello".as_slice())),
-        ("past the limit", b"hello".as_slice(), 4, Err(InFault::TooLong)),
+        (
+            "below the limit",
+            b"hello".as_slice(),
+            9,
+            Ok(b"hello".as_slice()),
+        ),
+        (
+            "at the limit",
+            b"hello".as_slice(),
+            5,
+            Ok(b"hello".as_slice()),
+        ),
+        (
+            "past the limit",
+            b"hello".as_slice(),
+            4,
+            Err(InFault::TooLong),
+        ),
         ("nothing", b"".as_slice(), 0, Ok(b"".as_slice())),
-        ("nothing may come", b"h".as_slice(), 0, Err(InFault::TooLong)),
+        (
+            "nothing may come",
+            b"h".as_slice(),
+            0,
+            Err(InFault::TooLong),
+        ),
     ];
     for (name, text, limit, want) in cases {
         let mut source = MemSource::new(bytes(rt.alloc(), text)?);
@@ -50,15 +70,6 @@ fn reads_to_the_end(rt: HostRuntime) -> Result<(), Fail> {
             Err(fault) => assert_eq!(rt; Err(fault), want, "{name}"),
         }
     }
-    Ok(())
-}
-
-#[test]
-fn leaves_what_is_past_the_limit(rt: HostRuntime) -> Result<(), Fail> {
-    let mut source = MemSource::new(bytes(rt.alloc(), b"hello")?);
-    assert!(rt; matches!(&read_all(rt.alloc(), &mut source, 2), Err(InFault::TooLong)));
-    let rest = read_all(rt.alloc(), &mut source, 9)?;
-    assert_eq!(rt; rest.as_slice(), b"lo".as_slice());
     Ok(())
 }
 
@@ -100,10 +111,28 @@ fn writes_what_fits(rt: HostRuntime) -> Result<(), Fail> {
 #[test]
 fn tells_a_failed_write(rt: HostRuntime) -> Result<(), Fail> {
     let cases = [
-        ("the second call", 4, 2, Err(OutFault::Failed), b"vers".as_slice()),
-        ("the first call", 4, 1, Err(OutFault::Failed), b"".as_slice()),
+        (
+            "the second call",
+            4,
+            2,
+            Err(OutFault::Failed),
+            b"vers".as_slice(),
+        ),
+        (
+            "the first call",
+            4,
+            1,
+            Err(OutFault::Failed),
+            b"".as_slice(),
+        ),
         ("no call", 4, 0, Ok(()), b"version 1".as_slice()),
-        ("a byte a call", 1, 9, Err(OutFault::Failed), b"version ".as_slice()),
+        (
+            "a byte a call",
+            1,
+            9,
+            Err(OutFault::Failed),
+            b"version ".as_slice(),
+        ),
         ("no byte a call", 0, 2, Err(OutFault::Stuck), b"".as_slice()),
     ];
     for (name, step, call, want, held) in cases {
@@ -122,7 +151,10 @@ fn passes_on_the_bytes_of_std(rt: HostRuntime) -> Result<(), Fail> {
     assert_eq!(rt; read.as_slice(), b"version 1".as_slice());
 
     let mut held = Vec::new(rt.alloc());
-    assert_eq!(rt; write_all(&mut StdSink::new(&mut held), b"version 1"), Ok(()));
+    assert_eq!(rt;
+        write_all(&mut StdSink::new(&mut held), b"version 1"),
+        Ok(())
+    );
     assert_eq!(rt; held.as_slice(), b"version 1".as_slice());
     Ok(())
 }
@@ -131,7 +163,10 @@ fn passes_on_the_bytes_of_std(rt: HostRuntime) -> Result<(), Fail> {
 fn passes_on_the_faults_of_std(rt: HostRuntime) -> Result<(), Fail> {
     let read = read_all(rt.alloc(), &mut StdSource::new(Broken), 9);
     assert!(rt; matches!(&read, Err(InFault::ReadFault)));
-    assert_eq!(rt; write_all(&mut StdSink::new(Broken), b"version 1"), Err(OutFault::Failed));
+    assert_eq!(rt;
+        write_all(&mut StdSink::new(Broken), b"version 1"),
+        Err(OutFault::Failed)
+    );
 
     let mut room = [0; 4];
     let mut full = StdSink::new(room.as_mut_slice());
