@@ -9,7 +9,8 @@ pub record Counted : Type 0 where
   pub made : ℕ
   pub faults : ℕ
 
--- a call has the next number, fails exactly where that is listed, and counts a fault exactly then
+-- a call has the next number, up to the last value of a count; it fails exactly where its number is listed, and counts a
+-- fault exactly then
 pub record FailsAsListed {T E : Type 0} (old new : Counted) (result : Result T E) : Type 0 where
   pub numbered : new.made ≡ raised old.made
   pub fails : IsErr result ↔ Contains old.listed new.made

@@ -39,7 +39,9 @@ pub fn read_all<S: Source>(alloc: Global, source: &mut S, limit: usize) -> Resul
     ensures whole { IfOk result (ReadsWhole (S.left source.old) (S.left source.new)) }
     ensures fits { IfOk result (λ bytes. length bytes ≤ limit) }
     ensures long { IsErrOf result InFault.TooLong → ReadsPast (S.left source.old) (S.left source.new) limit }
+    // Whatever the answer, no byte is read past the one that is too many.
     ensures gives { GivesAtMost (S.left source.old) (S.left source.new) (limit + 1) }
+
     ensures later { S.faults source.old ≤ S.faults source.new }
     ensures fault { IsErrOf result InFault.ReadFault → Rose (S.faults source.old) (S.faults source.new) }
 {
@@ -55,8 +57,8 @@ pub fn read_all<S: Source>(alloc: Global, source: &mut S, limit: usize) -> Resul
     Err(InFault::TooLong)
 }
 
-#[tactic(auto, using(crate::proofs::Known::whole_steps))]
 // Reads a piece, of at most one byte more than `room`, and appends it.
+#[tactic(auto, using(crate::proofs::Known::whole_steps))]
 fn read_piece<S: Source>(
     source: &mut S,
     bytes: &mut Vec<u8>,
