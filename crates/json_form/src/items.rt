@@ -1,0 +1,45 @@
+//! The items of a list.
+ghost use Rattle.std.specs.Prelude.{◌≡◌, IfOk, Option, option_map};
+ghost use Rattle.serde_json.specs.Data.{Data};
+ghost use Rattle.serde_json.specs.View.{view, items_view};
+ghost use Rattle.json_form.specs.Items as Items;
+
+use fare_law::{List, Mem};
+use serde_json::Value;
+use std::alloc::Global;
+
+/// A type whose values have a form in JSON.
+pub trait FromJson: Drop {
+    ghost form: { Data → Option Self };
+
+    /// The value of this type, or `None` where the JSON value isn't of the form.
+    fn from_json(value: &Value) -> Option<Self>
+        ensures { result ≡ form (view value.now) };
+}
+
+/// What each item is read as, or `None` where one isn't of its form.
+#[tactic(auto, using(crate::proofs::ItemLemmas::item_steps))]
+pub fn each<T: FromJson>(alloc: Global, items: &[Value]) -> Result<Option<List<T>>, Mem>
+    ensures { IfOk result (λ found. found ≡ Items.each_item T.form (items_view items.now)) }
+{
+    let mut found = List::new(alloc);
+    for item in items {
+        let Some(one) = T::from_json(item) else {
+            return Ok(None);
+        };
+        found.push(one)?;
+    }
+    Ok(Some(found))
+}
+
+/// The item of a list that has no other.
+#[tactic(auto, using(crate::proofs::ItemLemmas::only_item_cases))]
+pub fn only_item<'v>(items: &'v [Value]) -> Option<&'v Value>
+    ensures { option_map (λ v. view v.now) result ≡ Items.only_item (items_view items.now) }
+{
+    if items.len() == 1 {
+        Some(&items[0])
+    } else {
+        None
+    }
+}
