@@ -1,26 +1,31 @@
 //! The items of a list.
-ghost use Rattle.std.specs.Prelude.{◌≡◌, IfOk, Option, option_map};
+ghost use Rattle.std.specs.Prelude.{◌≡◌, IfOk, IfSome, Option, option_map};
 ghost use Rattle.serde_json.specs.Data.{Data};
 ghost use Rattle.serde_json.specs.View.{view, items_view};
+ghost use Rattle.fare_law.specs.Lists.{Each};
 ghost use Rattle.json_form.specs.Items as Items;
 
 use fare_law::{List, Mem};
 use serde_json::Value;
 use std::alloc::Global;
 
-/// A type whose values have a form in JSON.
+/// A type whose values have a form in JSON, with what holds of each value that is read.
 pub trait FromJson: Drop {
     ghost form: { Data → Option Self };
 
+    ghost holds: { Self → Type 0 };
+
     /// The value of this type, or `None` where the JSON value isn't of the form.
     fn from_json(value: &Value) -> Option<Self>
-        ensures { result ≡ form (view value.now) };
+        ensures form { result ≡ form (view value.now) }
+        ensures holds { IfSome result holds };
 }
 
 /// What each item is read as, or `None` where one isn't of its form.
 #[tactic(auto, using(crate::proofs::ItemLemmas::item_steps))]
 pub fn each<T: FromJson>(alloc: Global, items: &[Value]) -> Result<Option<List<T>>, Mem>
-    ensures { IfOk result (λ found. found ≡ Items.each_item T.form (items_view items.now)) }
+    ensures items { IfOk result (λ found. found ≡ Items.each_item T.form (items_view items.now)) }
+    ensures holds { IfOk result (λ found. IfSome found (Each T.holds)) }
 {
     let mut found = List::new(alloc);
     for item in items {

@@ -1,7 +1,11 @@
 //! The members of an object, by their names.
-ghost use Rattle.std.specs.Prelude.{◌≡◌, option_map};
+ghost use Rattle.std.specs.Prelude.{◌≡◌, option_map, IfSome};
 ghost use Rattle.serde_json.specs.View.{view, items_view};
+ghost use Rattle.std.specs.Int.{IsInRange};
+ghost use Rattle.fare_law.specs.Order.{IsBasis, IsCarrier};
+ghost use Rattle.market_time.specs.Dates.{IsInCentury};
 ghost use Rattle.json_form.specs.Members as Members;
+ghost use Rattle.json_form.specs.Names.{IsClass, IsPlace};
 
 use crate::names::{basis_of, carrier_of, class_of, place_of};
 use fare_law::{Basis, Carrier, Class, Place};
@@ -55,7 +59,8 @@ pub fn whole_at(value: &Value, name: &str) -> Option<i128>
 
 /// A member that is a whole number from `low` to `high`.
 pub fn between_at(value: &Value, name: &str, low: u64, high: u64) -> Option<u64>
-    ensures { result ≡ Members.between_at name.now low high (view value.now) }
+    ensures value { result ≡ Members.between_at name.now low high (view value.now) }
+    ensures within { IfSome result (IsInRange low high) }
 {
     let number = value.get(name)?.as_u64()?;
     if low <= number && number <= high {
@@ -67,35 +72,40 @@ pub fn between_at(value: &Value, name: &str, low: u64, high: u64) -> Option<u64>
 
 /// A member that is a date from 2000 to 2099, as its day.
 pub fn date_at(value: &Value, name: &str) -> Option<i32>
-    ensures { result ≡ Members.date_at name.now (view value.now) }
+    ensures value { result ≡ Members.date_at name.now (view value.now) }
+    ensures form { IfSome result IsInCentury }
 {
     day_of(text_at(value, name)?.as_bytes()).ok()
 }
 
 /// A member that is a place.
 pub fn place_at(value: &Value, name: &str) -> Option<Place>
-    ensures { result ≡ Members.place_at name.now (view value.now) }
+    ensures value { result ≡ Members.place_at name.now (view value.now) }
+    ensures form { IfSome result IsPlace }
 {
     place_of(text_at(value, name)?.as_bytes())
 }
 
 /// A member that is a carrier.
 pub fn carrier_at(value: &Value, name: &str) -> Option<Carrier>
-    ensures { result ≡ Members.carrier_at name.now (view value.now) }
+    ensures value { result ≡ Members.carrier_at name.now (view value.now) }
+    ensures form { IfSome result IsCarrier }
 {
     carrier_of(text_at(value, name)?.as_bytes())
 }
 
 /// A member that is a fare basis.
 pub fn basis_at(value: &Value, name: &str) -> Option<Basis>
-    ensures { result ≡ Members.basis_at name.now (view value.now) }
+    ensures value { result ≡ Members.basis_at name.now (view value.now) }
+    ensures form { IfSome result IsBasis }
 {
     basis_of(text_at(value, name)?.as_bytes())
 }
 
 /// A member that is a booking class.
 pub fn class_at(value: &Value, name: &str) -> Option<Class>
-    ensures { result ≡ Members.class_at name.now (view value.now) }
+    ensures value { result ≡ Members.class_at name.now (view value.now) }
+    ensures form { IfSome result IsClass }
 {
     class_of(text_at(value, name)?.as_bytes())
 }
