@@ -3,10 +3,24 @@ use Rattle.std.specs.Prelude.{ℕ, ℤ, pos, Bool, is_some, if◌then◌else◌,
 use Rattle.serde_json.specs.Data.{Data}
 use Rattle.serde_json.specs.Find.{get}
 use Rattle.json_form.specs.Items.{each_item}
+use Rattle.fare_law.specs.Lists.{Each}
+use Rattle.market_time.specs.Dates.{IsInCentury}
+use Rattle.json_form.specs.Names.{IsPlace}
 use Rattle.json_form.specs.Members.{has_members, items_at, whole_at, date_at, place_at}
 use Rattle.request_text.specs.declared.asked.Asked.{Asked}
 use Rattle.request_text.specs.declared.asked.AskedSlice.{AskedSlice}
 use Rattle.request_text.specs.declared.asked.Terms.{Terms}
+
+-- the names and the day of a slice that is read
+pub record IsAskedSlice (s : AskedSlice) : Type 0 where
+  pub from : IsPlace s.from
+  pub to : IsPlace s.to
+  pub first : IsInCentury s.first
+
+-- the names and the days of what is read
+pub record IsAsked (a : Asked) : Type 0 where
+  pub sale : IsInCentury a.terms.sale
+  pub slices : Each IsAskedSlice a.slices
 
 -- one thing after another, as long as each is there
 infixl 10 ◌>>=◌

@@ -9,6 +9,7 @@ use Rattle.fare_law.specs.declared.requests.Slice.{Slice}
 use Rattle.fare_law.specs.declared.requests.Why.{Why}
 use Rattle.fare_law.specs.declared.requests.Why.TheVariants.{Slices, Party, Best, Window, SamePlace}
 use Rattle.market_time.specs.Dates.{IsInCentury}
+use Rattle.json_form.specs.Names.{IsPlace}
 use Rattle.request_text.specs.declared.asked.Asked.{Asked}
 use Rattle.request_text.specs.declared.asked.AskedSlice.{AskedSlice}
 
@@ -44,11 +45,15 @@ allowed a = if nat_le 1 (length a.slices) && nat_le (length a.slices) 6 then (do
   if list_any stays slices then Err SamePlace
     else Ok (record { sale = a.terms.sale; party = party; best = best; slices = slices })) else Err Slices
 
--- a slice within its limits
-pub record IsSlice (s : Slice) : Type 0 where
+-- a slice between places, on days of the century, with a window of 1 to 7 days
+pub record HasWindow (s : Slice) : Type 0 where
+  pub from : IsPlace s.from
+  pub to : IsPlace s.to
   pub first : IsInCentury s.first
   pub days : IsInRange 1 7 s.days
-  pub apart : s.from ≢ s.to
+
+abbrev pub Departs : Slice → Type 0
+Departs s = s.from ≢ s.to
 
 -- a request within its limits
 pub record IsRequest (q : Request) : Type 0 where
@@ -56,4 +61,5 @@ pub record IsRequest (q : Request) : Type 0 where
   pub party : IsInRange 1 9 q.party
   pub best : IsInRange 1 1000 q.best
   pub count : IsInRange 1 6 (length q.slices)
-  pub slices : Each IsSlice q.slices
+  pub windows : Each HasWindow q.slices
+  pub departs : Each Departs q.slices

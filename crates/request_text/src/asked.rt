@@ -1,6 +1,7 @@
 //! The form of a request: what its text asks, before its numbers are held to their limits.
-ghost use Rattle.std.specs.Prelude.{◌≡◌, IfOk, codes};
+ghost use Rattle.std.specs.Prelude.{◌≡◌, IfOk, IfSome, codes};
 ghost use Rattle.serde_json.specs.View.{view};
+ghost use Rattle.market_time.specs.Dates.{IsInCentury};
 ghost use Rattle.request_text.specs.Form as Form;
 
 use fare_law::{List, Mem, Place};
@@ -33,9 +34,11 @@ pub struct Asked {
 }
 
 impl FromJson for AskedSlice {
-    ghost use Rattle.request_text.specs.Form.{slice_form};
+    ghost use Rattle.request_text.specs.Form.{slice_form, IsAskedSlice};
 
     ghost form = { slice_form };
+
+    ghost holds = { IsAskedSlice };
 
     fn from_json(value: &Value) -> Option<AskedSlice> {
         if !has_members(value, 4) {
@@ -53,7 +56,8 @@ impl FromJson for AskedSlice {
 /// What a JSON value asks, or `None` where it isn't of the form of a request.
 #[tactic(auto, unfolding(crate::specs::Form::asked))]
 pub fn read_asked(alloc: Global, value: &Value) -> Result<Option<Asked>, Mem>
-    ensures { IfOk result (λ found. found ≡ Form.asked (view value.now)) }
+    ensures value { IfOk result (λ found. found ≡ Form.asked (view value.now)) }
+    ensures holds { IfOk result (λ found. IfSome found Form.IsAsked) }
 {
     let Some(terms) = read_terms(value) else {
         return Ok(None);
@@ -69,7 +73,8 @@ pub fn read_asked(alloc: Global, value: &Value) -> Result<Option<Asked>, Mem>
 
 // The terms of an object whose members are those of a request.
 fn read_terms(value: &Value) -> Option<Terms>
-    ensures { result ≡ Form.terms (view value.now) }
+    ensures value { result ≡ Form.terms (view value.now) }
+    ensures sale { IfSome result (λ terms. IsInCentury terms.sale) }
 {
     if !has_members(value, member_count(value)) {
         return None;

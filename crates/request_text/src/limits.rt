@@ -1,16 +1,20 @@
 //! The limits of a request.
-ghost use Rattle.std.specs.Prelude.{◌≡◌, ◌≤◌, ◌<◌, length, IfSome};
+ghost use Rattle.std.specs.Prelude.{◌≡◌, ◌≤◌, ◌<◌, length, IfOk, IfSome};
 ghost use Rattle.std.specs.Int.{IsInRange};
 ghost use Rattle.std.specs.List.{list_any};
+ghost use Rattle.fare_law.specs.Lists.{Each};
+ghost use Rattle.request_text.specs.Form.{IsAsked, IsAskedSlice};
 ghost use Rattle.request_text.specs.Limits as Limits;
 
 use crate::asked::{Asked, AskedSlice};
 use fare_law::{ArrayVec, Request, Slice, Why};
 
 /// The request that is asked for, or the first reason for which it is refused.
-#[tactic(auto, unfolding(crate::specs::Limits::allowed))]
+#[tactic(auto, unfolding(crate::specs::Limits::allowed), using(crate::proofs::WindowLemmas::all_depart))]
 pub fn allowed(asked: &Asked) -> Result<Request, Why>
-    ensures { result ≡ Limits.allowed asked.now }
+    requires { IsAsked asked.now }
+    ensures value { result ≡ Limits.allowed asked.now }
+    ensures limits { IfOk result Limits.IsRequest }
 {
     let slices = asked.slices.as_slice();
     if slices.is_empty() || slices.len() > 6 {
@@ -46,8 +50,11 @@ fn between(number: i128, low: u16, high: u16) -> Option<u16>
 // The slices, if each has a window of 1 to 7 days.
 #[tactic(auto, using(crate::proofs::WindowLemmas::window_steps))]
 fn windowed_each(slices: &[AskedSlice]) -> Option<ArrayVec<Slice, 6>>
-    requires { length slices.now ≤ 6 }
-    ensures { result ≡ Limits.each_windowed slices.now }
+    requires few { length slices.now ≤ 6 }
+    requires each { Each IsAskedSlice slices.now }
+    ensures value { result ≡ Limits.each_windowed slices.now }
+    ensures windows { IfSome result (Each Limits.HasWindow) }
+    ensures count { IfSome result (λ found. length found ≡ length slices.now) }
 {
     let mut found = ArrayVec::new();
     for slice in slices {
@@ -58,7 +65,9 @@ fn windowed_each(slices: &[AskedSlice]) -> Option<ArrayVec<Slice, 6>>
 
 // The slice, if its window has 1 to 7 days.
 fn windowed(slice: &AskedSlice) -> Option<Slice>
-    ensures { result ≡ Limits.windowed slice.now }
+    requires { IsAskedSlice slice.now }
+    ensures value { result ≡ Limits.windowed slice.now }
+    ensures window { IfSome result Limits.HasWindow }
 {
     let days = between(slice.days, 1, 7)?;
     Some(Slice {

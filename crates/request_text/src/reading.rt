@@ -1,5 +1,7 @@
 //! Reading a request.
-ghost use Rattle.std.specs.Prelude.{◌≡◌};
+ghost use Rattle.std.specs.Prelude.{◌≡◌, IfOk};
+ghost use Rattle.request_text.specs.Form.{IsAsked};
+ghost use Rattle.request_text.specs.Limits.{IsRequest};
 ghost use Rattle.request_text.specs.Reading.{request_of, Tells, judged};
 
 use crate::RequestFault;
@@ -17,6 +19,7 @@ use std::alloc::Global;
 /// or a slice ends where it begins, the first in this order.
 pub fn read_request(alloc: Global, bytes: &[u8]) -> Result<Request, RequestFault>
     ensures told { Tells result (request_of bytes.now) }
+    ensures limits { IfOk result IsRequest }
 {
     let value = read_value(alloc, bytes)?.ok_or(RequestFault::Syntax)?;
     let asked = read_asked(alloc, &value)?.ok_or(RequestFault::Shape)?;
@@ -25,7 +28,9 @@ pub fn read_request(alloc: Global, bytes: &[u8]) -> Result<Request, RequestFault
 
 // The request, or the reason for which it is refused, as a fault.
 fn judge(asked: &Asked) -> Result<Request, RequestFault>
-    ensures { result ≡ judged asked.now }
+    requires { IsAsked asked.now }
+    ensures value { result ≡ judged asked.now }
+    ensures limits { IfOk result IsRequest }
 {
     allowed(asked).map_err(RequestFault::BadRequest)
 }
