@@ -17,7 +17,6 @@ use std::alloc::Global;
 
 /// The row of a place: its code and its least connect time in minutes, 0 to 1440.
 pub fn place_row(alloc: Global, line: &Line<'_>) -> Result<PlaceRow, RowFault>
-    requires { 0 < length line.now.bytes.now }
     ensures { Gives result (Rows.place_row (shown line.now)) }
 {
     let row = columns(alloc, line.bytes, 2)?;
@@ -32,7 +31,6 @@ pub fn place_row(alloc: Global, line: &Line<'_>) -> Result<PlaceRow, RowFault>
 
 /// The row of a flight, in twelve columns.
 pub fn flight_row(alloc: Global, line: &Line<'_>) -> Result<FlightRow, RowFault>
-    requires { 0 < length line.now.bytes.now }
     ensures { Gives result (Rows.flight_row (shown line.now)) }
 {
     let row = columns(alloc, line.bytes, 12)?;
@@ -67,7 +65,6 @@ pub fn flight_row(alloc: Global, line: &Line<'_>) -> Result<FlightRow, RowFault>
 
 /// The row of a flight's seats, on one day or on all days.
 pub fn seat_row(alloc: Global, line: &Line<'_>) -> Result<SeatRow, RowFault>
-    requires { 0 < length line.now.bytes.now }
     ensures { Gives result (Rows.seat_row (shown line.now)) }
 {
     let row = columns(alloc, line.bytes, 5)?;
@@ -88,11 +85,11 @@ pub fn seat_row(alloc: Global, line: &Line<'_>) -> Result<SeatRow, RowFault>
 
 /// The fields of a line, where it is plain and has so many.
 fn columns(alloc: Global, line: &[u8], count: usize) -> Result<ByteRecord, RowFault>
-    requires { 0 < length line.now }
+    requires { 2 ≤ count }
     ensures fields { IfOk result (λ row. Rows.columns count line.now ≡ Ok (fields_of row)) }
     ensures fault { IfErr result (λ fault. Refuses fault (Rows.columns count line.now)) }
 {
-    if !is_plain(line) {
+    if line.is_empty() || !is_plain(line) {
         return Err(RowFault::BadColumn(0));
     }
     // A reader over a slice fails for want of memory alone.

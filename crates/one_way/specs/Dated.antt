@@ -1,5 +1,6 @@
 -- The one dated flight of a row whose first day is its last and has its weekday named.
-use Rattle.std.specs.Prelude.{◌≡◌, ◌<ℤ◌, ◌-◌, ◌+ℤ◌, IsBitSet}
+use Rattle.std.specs.Prelude.{◌≡◌, ◌==◌, ◌&&◌, Bool, not, ◌-◌, ◌^◌, ◌+ℤ◌, bit_and, IsBitSet}
+use Rattle.std.specs.Ordering.{int_eq}
 use Rattle.fare_law.specs.declared.flights.Flight.{Flight}
 use Rattle.fare_law.specs.declared.rows.FlightRow.{FlightRow}
 use Rattle.fare_law.specs.Days.{weekday}
@@ -22,3 +23,7 @@ dated row = record {
 pub record IsOneDay (row : FlightRow) : Type 0 where
   pub period : row.first ≡ row.last
   pub named : IsBitSet row.days (weekday row.first - 1)
+
+-- the test of that
+abbrev pub one_day : FlightRow → Bool
+one_day row = int_eq row.first row.last && not (bit_and row.days (2 ^ (weekday row.first - 1)) == 0)

@@ -1,9 +1,9 @@
 //! The dated flight of a row of one day.
-ghost use Rattle.std.specs.Prelude.{◌≡◌, ◌↔◌, ◌≤ℤ◌, ◌+ℤ◌, ◌-◌, pos, [], ◌∷◌, IsTrue, IsBitSet};
+ghost use Rattle.std.specs.Prelude.{◌≡◌, ◌↔◌, ◌≤ℤ◌, ◌+ℤ◌, ◌-◌, pos, [], ◌∷◌, IsTrue, IsBitSet, bit_and, not, ◌==◌, ◌^◌};
 ghost use Rattle.fare_law.specs.Days.{weekday as weekday_of};
 ghost use Rattle.fare_law.specs.declared.rows.FlightRow.{FlightRow as Row};
 ghost use Rattle.fare_law.specs.Flights.{AreFlights, instant as instant_of};
-ghost use Rattle.one_way.specs.Dated.{dated as dated_of, IsOneDay};
+ghost use Rattle.one_way.specs.Dated.{dated as dated_of, IsOneDay, one_day};
 
 use fare_law::{Flight, FlightRow};
 use market_time::{instant, weekday};
@@ -44,14 +44,16 @@ fn arrival(row: &FlightRow) -> i64
 /// Whether the row stands for one flight: its period is one day, whose weekday is named.
 pub fn is_one_day(row: &FlightRow) -> bool
     requires { pos 0 ≤ℤ row.now.first }
-    ensures { IsTrue result ↔ IsOneDay row.now }
+    ensures days { IsTrue result ↔ IsOneDay row.now }
+    ensures test { result ≡ one_day row.now }
 {
     row.first == row.last && names_weekday(row.days, row.first)
 }
 
 fn names_weekday(days: u8, day: i32) -> bool
     requires { pos 0 ≤ℤ day }
-    ensures { IsTrue result ↔ IsBitSet days (weekday_of day - 1) }
+    ensures named { IsTrue result ↔ IsBitSet days (weekday_of day - 1) }
+    ensures test { result ≡ not (bit_and days (2 ^ (weekday_of day - 1)) == 0) }
 {
     days & (1 << (weekday(day) - 1)) != 0
 }
