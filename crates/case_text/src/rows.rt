@@ -1,6 +1,7 @@
 //! The rows of the tables of places, flights and seats.
 ghost use Rattle.std.specs.Prelude.{◌≡◌, ◌<◌, ◌≤◌, length, Ok, IfOk, IfErr};
 ghost use Rattle.csv.specs.Records.{fields_of};
+ghost use Rattle.market_time.specs.Dates.{IsInCentury};
 ghost use Rattle.case_text.specs.Rows as Rows;
 ghost use Rattle.case_text.specs.Gives.{Gives, Refuses};
 ghost use Rattle.case_text.specs.Lines.{shown};
@@ -31,7 +32,8 @@ pub fn place_row(alloc: Global, line: &Line<'_>) -> Result<PlaceRow, RowFault>
 
 /// The row of a flight, in twelve columns.
 pub fn flight_row(alloc: Global, line: &Line<'_>) -> Result<FlightRow, RowFault>
-    ensures { Gives result (Rows.flight_row (shown line.now)) }
+    ensures row { Gives result (Rows.flight_row (shown line.now)) }
+    ensures days { IfOk result (λ row. IsInCentury row.first × IsInCentury row.last) }
 {
     let row = columns(alloc, line.bytes, 12)?;
     let carrier = in_column(1, carrier_of(field(&row, 1)))?;

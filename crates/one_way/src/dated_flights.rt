@@ -3,6 +3,7 @@ ghost use Rattle.std.specs.Prelude.{◌≡◌, ◌↔◌, ◌≤ℤ◌, ◌+ℤ�
 ghost use Rattle.fare_law.specs.Days.{weekday as weekday_of};
 ghost use Rattle.fare_law.specs.declared.rows.FlightRow.{FlightRow as Row};
 ghost use Rattle.fare_law.specs.Flights.{AreFlights, instant as instant_of};
+ghost use Rattle.market_time.specs.Dates.{IsInCentury};
 ghost use Rattle.one_way.specs.Dated.{dated as dated_of, IsOneDay, one_day};
 
 use fare_law::{Flight, FlightRow};
@@ -10,8 +11,7 @@ use market_time::{instant, weekday};
 
 /// The flight of the row on its first day, which lies from 10957 to 47481.
 pub fn dated(row: &FlightRow) -> Flight
-    requires low { pos 10957 ≤ℤ row.now.first }
-    requires high { row.now.first ≤ℤ pos 47481 }
+    requires { IsInCentury row.now.first }
     ensures { result ≡ dated_of row.now }
 {
     Flight {
@@ -33,8 +33,7 @@ fn departure(row: &FlightRow) -> i64
 }
 
 fn arrival(row: &FlightRow) -> i64
-    requires low { pos 10957 ≤ℤ row.now.first }
-    requires high { row.now.first ≤ℤ pos 47481 }
+    requires { IsInCentury row.now.first }
     ensures { result ≡ instant_of (row.now.first +ℤ row.now.shift) row.now.arr row.now.arr_offset }
 {
     let day = row.first + row.shift as i32;

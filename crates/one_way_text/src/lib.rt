@@ -1,6 +1,9 @@
-//! The text of the smallest cases: what a case of one flight and one fare spells, and its answer's text.
+//! The text of the smallest cases: what a case of one flight and one fare spells.
+//! The layer above relies on the clause of `read_case`: exactly the case that the bytes spell, if any.
 #![tactic(auto)]
 
+mod checks;
+mod reader;
 mod sections;
 
-pub use sections::{CaseSections, case_sections};
+pub use reader::read_case;
