@@ -92,7 +92,7 @@ sections_spell s = do
   fare ← fare_of s.filings
   request ← asked_of s.requests
   if flies places row && sells_alone fare && asks_once places request.slices then
-    Some (record { places = places; flight = dated row; seats = seats; fare = fare; request = request }) else None
+      Some (record { places = places; flight = dated row; seats = seats; fare = fare; request = request }) else None
 
 -- the case that bytes spell
 abbrev pub case_of : List ℕ → Option OneWayCase

@@ -1,5 +1,6 @@
 //! What a smallest case has to have besides its form.
-ghost use Rattle.std.specs.Prelude.{◌≡◌, ◌≤◌, length, int_lt};
+ghost use Rattle.std.specs.Prelude.{◌≡◌, ◌≢◌, ◌≤◌, false, length, int_lt, IsTrue};
+ghost use Rattle.fare_law.specs.declared.fares.FareKind.TheVariants.{R};
 ghost use Rattle.market_time.specs.Dates.{IsInCentury};
 ghost use Rattle.one_way.specs.Dated.{dated as dated_of};
 ghost use Rattle.one_way_text.specs.Case as Case;
@@ -31,13 +32,16 @@ fn arrives_later(row: &FlightRow) -> bool
 /// Whether the fare may stand in a one way, is on the rule with no category, and is filed from one
 /// place to another.
 pub fn sells_alone(fare: &Fare) -> bool
-    ensures { result ≡ Case.sells_alone fare.now }
+    ensures test { result ≡ Case.sells_alone fare.now }
+    ensures rule { IsTrue result → fare.now.rule ≡ 0 }
+    ensures kind { IsTrue result → fare.now.kind ≢ R }
 {
     !is_halved(fare.kind) && fare.rule == 0 && fare.key.from != fare.key.to
 }
 
 fn is_halved(kind: FareKind) -> bool
-    ensures { result ≡ Case.is_halved kind }
+    ensures test { result ≡ Case.is_halved kind }
+    ensures kind { result ≡ false → kind ≢ R }
 {
     match kind {
         FareKind::O => false,
@@ -48,7 +52,8 @@ fn is_halved(kind: FareKind) -> bool
 
 /// Whether there is one slice, between known places.
 pub fn asks_once(places: &[PlaceRow], slices: &[Slice]) -> bool
-    ensures { result ≡ Case.asks_once places.now slices.now }
+    ensures test { result ≡ Case.asks_once places.now slices.now }
+    ensures one { IsTrue result → length slices.now ≡ 1 }
 {
     match slices {
         [slice] => knows(places, slice.from) && knows(places, slice.to),

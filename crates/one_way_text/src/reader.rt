@@ -4,6 +4,8 @@ ghost use Rattle.std.specs.Result.{result_ok};
 ghost use Rattle.case_text.specs.Lines.{shown};
 ghost use Rattle.case_text.specs.Rows as Rows;
 ghost use Rattle.market_time.specs.Dates.{IsInCentury};
+ghost use Rattle.request_text.specs.Limits.{IsRequest};
+ghost use Rattle.one_way.specs.OneWay.{IsOneWay};
 ghost use Rattle.one_way_text.specs.Case as Case;
 ghost use Rattle.one_way_text.specs.Shown.{sections_shown};
 
@@ -19,7 +21,9 @@ use std::alloc::Global;
 /// The case that the bytes spell, or None where they spell none of one flight, one fare and one slice.
 pub fn read_case(alloc: Global, bytes: &[u8]) -> Result<Option<OneWayCase>, Mem>
     requires { length bytes.now + 1 < 2 ^ 32 }
-    ensures { IfOk result (λ found. found ≡ Case.case_of bytes.now) }
+    ensures case { IfOk result (λ found. found ≡ Case.case_of bytes.now) }
+    ensures form { IfOk result (λ found. IfSome found IsOneWay) }
+    ensures day { IfOk result (λ found. IfSome found (λ c. IsInCentury c.flight.day)) }
 {
     let lines = case_lines(alloc, bytes)?;
     match case_sections(lines.as_slice()) {
@@ -29,7 +33,9 @@ pub fn read_case(alloc: Global, bytes: &[u8]) -> Result<Option<OneWayCase>, Mem>
 }
 
 fn sections_case(alloc: Global, sections: &CaseSections<'_>) -> Result<Option<OneWayCase>, Mem>
-    ensures { IfOk result (λ found. found ≡ Case.sections_spell (sections_shown sections.now)) }
+    ensures case { IfOk result (λ found. found ≡ Case.sections_spell (sections_shown sections.now)) }
+    ensures form { IfOk result (λ found. IfSome found IsOneWay) }
+    ensures day { IfOk result (λ found. IfSome found (λ c. IsInCentury c.flight.day)) }
 {
     let Some(places) = places_of(alloc, sections.places)? else {
         return Ok(None);
@@ -153,7 +159,8 @@ fn fare_of(alloc: Global, lines: &[Line<'_>]) -> Result<Option<Fare>, Mem>
 }
 
 fn asked_of(alloc: Global, lines: &[Line<'_>]) -> Result<Option<Request>, Mem>
-    ensures { IfOk result (λ found. found ≡ Case.asked_of (map shown lines.now)) }
+    ensures request { IfOk result (λ found. found ≡ Case.asked_of (map shown lines.now)) }
+    ensures limits { IfOk result (λ found. IfSome found IsRequest) }
 {
     let Some(line) = only_line(lines) else {
         return Ok(None);
