@@ -5,7 +5,8 @@ use Rattle.fare_law.specs.declared.tickets.Piece.{Piece}
 use Rattle.fare_law.specs.declared.requests.Request.{Request}
 use Rattle.fare_law.specs.declared.requests.Slice.{Slice}
 use Rattle.fare_law.specs.Book.{Book, live_fare, live_rule}
-use Rattle.fare_law.specs.Lists.{OnFirst, OnLast}
+use Rattle.fare_law.specs.Lists.{Each, OnFirst, OnLast}
+use Rattle.fare_law.specs.Order.{HasKeys, IsCarrier, IsBasis}
 use Rattle.fare_law.specs.Parts.{Numbers, Filed, StandsFor, price_of}
 use Rattle.fare_law.specs.declared.moves.Move.{Move}
 use Rattle.open_unit.specs.declared.units.OpenUnit.{OpenUnit}
@@ -16,6 +17,7 @@ use Rattle.open_unit.specs.OpenUnits.{gone_on}
 use Rattle.flight_paths.specs.Positions.{Ascending, Flies, LeadsTo, before_slice}
 use Rattle.residual_keys.specs.Residuals.{State, begins, part_with, UnitStep, Moves, Run, no_part, LeadsFrom}
 use Rattle.residual_keys.specs.NothingLost.{SameCompletions}
+use Rattle.residual_keys.specs.OneNext.{HasKey}
 use Rattle.residual_keys.proofs.Runs.{flies_numbers}
 use Rattle.residual_keys.proofs.NothingLost.{run_ticket, ticket_run}
 
@@ -149,3 +151,25 @@ same_completions b q asc ms ms' rest x (at, root, h) (at', root', h') (t, law, e
     let o = leads_run b q (record { at = at'; units = []; part = no_part }) x ms' rest h' (run_leads b q (record { at = at; units = []; part = no_part }) x ms rest h k) in
     let u = run_ticket b q asc (ms' ++ rest) o.0 (at', root', o.1) in
     (u.0, u.1, u.2)
+
+pub leads_to_one : (b : Book) (q : Request) (r x y : State) (ms : List Move) → LeadsFrom b q r ms x → LeadsFrom b q r ms y → x ≡ y
+leads_to_one b q r x y [] h k = h ∙ sym k
+leads_to_one b q r x y (m ∷ ms) (fs, p, at, us, mv, h) (gs, p', at', us', mv', k) =
+    let o = moves_one b q r m fs gs p p' (Some at) (Some at') us us' mv mv' in
+    let a : at ≡ at' = some_same at at' o.2 in
+    let s : (let x : State = record { at = at'; units = us'; part = part_with r.part (begins m.role) p' } in x) ≡ record { at = at; units = us; part = part_with r.part (begins m.role) p }
+    = λ i. record { at = sym a i; units = sym o.3 i; part = part_with r.part (begins m.role) (sym o.1 i) } in
+    leads_to_one b q (record { at = at; units = us; part = part_with r.part (begins m.role) p }) x y ms h (subst (λ z. LeadsFrom b q z ms y) s k)
+  where
+    some_same : (x y : Position) → Some x ≡ Some y → x ≡ y
+    some_same x y e = cc
+
+move_has_key : (b : Book) (q : Request) → HasKeys b → (x : State) (m : Move) (fs : List Flight) (p : Piece) (next : Option Position) (us : List OpenUnit) → Moves b q x m fs p next us → HasKey m
+move_has_key b q keys x m fs p next us mv = let k = keys p.fare.key p.fare mv.stands.fare in (subst IsCarrier (sym mv.carrier) k.0, subst IsBasis (sym mv.basis) k.1)
+
+-- the live fares' keys are the moves'
+pub run_has_keys : (b : Book) (q : Request) → HasKeys b → (x : State) (ms : List Move) (price : ℕ) → Run b q x ms price → Each HasKey ms
+run_has_keys b q keys x [] price run = absurd run
+run_has_keys b q keys x (m ∷ []) price (fs, p, mv, e) = (move_has_key b q keys x m fs p None [] mv, tt)
+run_has_keys b q keys x (m ∷ n ∷ ms) price (fs, p, at, us, rest, mv, run, e) =
+    (move_has_key b q keys x m fs p (Some at) us mv, run_has_keys b q keys (record { at = at; units = us; part = part_with x.part (begins m.role) p }) (n ∷ ms) rest run)

@@ -5,16 +5,12 @@ use Rattle.fare_law.specs.declared.tickets.Ticket.{Ticket}
 use Rattle.fare_law.specs.Book.{Book}
 use Rattle.fare_law.specs.Lawful.{Lawful}
 use Rattle.fare_law.specs.Lists.{Each, EachPair, Matched, IsIn}
-use Rattle.fare_law.specs.Order.{Costs, Before, Cheaper, Best, code}
+use Rattle.fare_law.specs.Order.{Before, Cheaper, Best, code}
 use Rattle.flight_paths.specs.Positions.{Ascending}
 use Rattle.fare_law.specs.Moves.{moves_of, run_code}
-use Rattle.residual_keys.specs.Searches.{Drawn, IsDrawn, DrawnBefore, BestRuns}
+use Rattle.residual_keys.specs.Searches.{Drawn, IsDrawn, DrawnBefore, BestRuns, TicketOf}
 use Rattle.residual_keys.proofs.NothingLost.{run_ticket, ticket_run, codes}
 use Rattle.residual_keys.proofs.OneTicket.{ticket_one}
-
--- the ticket of a drawn run
-abbrev pub TicketOf : Book → Request → Drawn → Ticket → Type 0
-TicketOf b q d t = Lawful t b q × (moves_of t ≡ d.moves) × Costs t b q d.price
 
 -- each drawn run has its ticket
 pub tickets_of : (b : Book) (q : Request) → Ascending b.timetable.flights → (ds : List Drawn) → Each (IsDrawn b q) ds → (ts : List Ticket) × Matched (TicketOf b q) ds ts
@@ -75,3 +71,7 @@ runs_best b q ds ts best m = record {
       let r = best.rest e run.1 (λ i. out (drawn_in b q e u (law, refl, run.2) ds ts m i)) in
       (below b q e u (law, refl, run.2) ds ts m r.0, lengths b q ds ts m ∙ r.1);
 }
+
+-- The k least runs have their tickets, and these are the best.
+pub best_tickets : (b : Book) (q : Request) → Ascending b.timetable.flights → (ds : List Drawn) → BestRuns b q q.best ds → (ts : List Ticket) × Matched (TicketOf b q) ds ts × Best b q ts
+best_tickets b q asc ds best = let r = tickets_of b q asc ds best.each in (r.0, r.1, runs_best b q ds r.0 best r.1)

@@ -1,3 +1,4 @@
 pub mod Residuals
 pub mod NothingLost
 pub mod Searches
+pub mod OneNext

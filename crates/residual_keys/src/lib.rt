@@ -1,6 +1,8 @@
 //! Residuals of a search, their moves, and what runs of moves are to the lawful tickets.
 #![tactic(auto)]
 
+mod laws;
 mod parts;
 
+pub use laws::{best_runs, nothing_lost, one_next};
 pub use parts::TicketPart;

@@ -1,0 +1,40 @@
+//! The theorems on residuals, moves and runs, for the crates above: a function calls the law it
+//! stands on, and has its clauses.
+ghost use Rattle.fare_law.specs.declared.requests.Request.{Request};
+ghost use Rattle.fare_law.specs.declared.tickets.Ticket.{Ticket};
+ghost use Rattle.fare_law.specs.Book.{Book};
+ghost use Rattle.fare_law.specs.Lists.{Matched};
+ghost use Rattle.fare_law.specs.Moves.{moves_of, run_code};
+ghost use Rattle.fare_law.specs.Order.{Best, HasKeys, code};
+ghost use Rattle.flight_paths.specs.Positions.{Ascending};
+ghost use Rattle.residual_keys.specs.NothingLost.{OneTicket, RunsAreTickets, SameCompletions, TicketsAreRuns};
+ghost use Rattle.residual_keys.specs.OneNext.{MoveLeavesOne, MovesLeadToOne, RunGoesOn, RunHasKeys};
+ghost use Rattle.residual_keys.specs.Searches.{BestRuns, Drawn, TicketOf};
+ghost use Rattle.std.specs.Prelude.{List, ◌≡◌};
+
+/// Nothing is lost: where the timetable's flights stand in the order of their departures, a list of
+/// moves is a run from the root exactly where it is the moves of a lawful ticket, and then of one,
+/// with the run's price; the code of its moves is the ticket's code. Where two lists of moves lead
+/// to one residual, what completes the one completes the other.
+pub fn nothing_lost()
+    ensures runs { (b : Book) (q : Request) → Ascending b.timetable.flights → RunsAreTickets b q }
+    ensures tickets { (b : Book) (q : Request) → TicketsAreRuns b q }
+    ensures codes { (t : Ticket) → code t ≡ run_code (moves_of t) }
+    ensures one { (b : Book) (q : Request) → OneTicket b q }
+    ensures same { (b : Book) (q : Request) → Ascending b.timetable.flights → SameCompletions b q }
+{}
+
+/// A move leaves one residual, so a list of moves leads to one, and a run that begins with the list
+/// goes on from there. Where the live fares' keys are well formed, so are those of a run's moves.
+pub fn one_next()
+    ensures one { (b : Book) (q : Request) → MoveLeavesOne b q }
+    ensures leads { (b : Book) (q : Request) → MovesLeadToOne b q }
+    ensures further { (b : Book) (q : Request) → RunGoesOn b q }
+    ensures keys { (b : Book) (q : Request) → HasKeys b → RunHasKeys b q }
+{}
+
+/// The least runs from the root, as tickets, are the best tickets.
+pub fn best_runs()
+    ensures best { (b : Book) (q : Request) (ds : List Drawn) (ts : List Ticket) → BestRuns b q q.best ds → Matched (TicketOf b q) ds ts → Best b q ts }
+    ensures tickets { (b : Book) (q : Request) → Ascending b.timetable.flights → (ds : List Drawn) → BestRuns b q q.best ds → (ts : List Ticket) × Matched (TicketOf b q) ds ts × Best b q ts }
+{}
