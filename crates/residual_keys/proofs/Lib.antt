@@ -11,3 +11,4 @@ pub mod OneNext
 pub mod OneTicket
 pub mod RunsBest
 pub mod CaseA
+pub mod Ordered

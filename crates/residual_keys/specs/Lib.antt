@@ -2,3 +2,4 @@ pub mod Residuals
 pub mod NothingLost
 pub mod Searches
 pub mod OneNext
+pub mod ResidualOrder

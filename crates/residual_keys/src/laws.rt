@@ -9,6 +9,7 @@ ghost use Rattle.fare_law.specs.Order.{Best, HasKeys, code};
 ghost use Rattle.flight_paths.specs.Positions.{Ascending};
 ghost use Rattle.residual_keys.specs.NothingLost.{OneTicket, RunsAreTickets, SameCompletions, TicketsAreRuns};
 ghost use Rattle.residual_keys.specs.OneNext.{MoveLeavesOne, MovesLeadToOne, RunGoesOn, RunHasKeys};
+ghost use Rattle.residual_keys.specs.ResidualOrder.{IsStrictOrder, StateBefore};
 ghost use Rattle.residual_keys.specs.Searches.{BestRuns, Drawn, TicketOf};
 ghost use Rattle.std.specs.Prelude.{List, ◌≡◌};
 
@@ -37,4 +38,9 @@ pub fn one_next()
 pub fn best_runs()
     ensures best { (b : Book) (q : Request) (ds : List Drawn) (ts : List Ticket) → BestRuns b q q.best ds → Matched (TicketOf b q) ds ts → Best b q ts }
     ensures tickets { (b : Book) (q : Request) → Ascending b.timetable.flights → (ds : List Drawn) → BestRuns b q q.best ds → (ts : List Ticket) × Matched (TicketOf b q) ds ts × Best b q ts }
+{}
+
+/// The order in which the rows of a certificate stand is strict and total.
+pub fn residual_order()
+    ensures { IsStrictOrder StateBefore }
 {}

@@ -4,5 +4,5 @@
 mod laws;
 mod parts;
 
-pub use laws::{best_runs, nothing_lost, one_next};
+pub use laws::{best_runs, nothing_lost, one_next, residual_order};
 pub use parts::TicketPart;
