@@ -12,3 +12,5 @@ pub mod OneTicket
 pub mod RunsBest
 pub mod CaseA
 pub mod Ordered
+pub mod LeastOne
+pub mod OneBest

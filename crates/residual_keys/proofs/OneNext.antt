@@ -17,7 +17,7 @@ use Rattle.open_unit.specs.OpenUnits.{gone_on}
 use Rattle.flight_paths.specs.Positions.{Ascending, Flies, LeadsTo, before_slice}
 use Rattle.residual_keys.specs.Residuals.{State, begins, part_with, UnitStep, Moves, Run, no_part, LeadsFrom}
 use Rattle.residual_keys.specs.NothingLost.{SameCompletions}
-use Rattle.residual_keys.specs.OneNext.{HasKey}
+use Rattle.ticket_order.specs.Coding.{Coded}
 use Rattle.residual_keys.proofs.Runs.{flies_numbers}
 use Rattle.residual_keys.proofs.NothingLost.{run_ticket, ticket_run}
 
@@ -164,11 +164,11 @@ leads_to_one b q r x y (m ∷ ms) (fs, p, at, us, mv, h) (gs, p', at', us', mv',
     some_same : (x y : Position) → Some x ≡ Some y → x ≡ y
     some_same x y e = cc
 
-move_has_key : (b : Book) (q : Request) → HasKeys b → (x : State) (m : Move) (fs : List Flight) (p : Piece) (next : Option Position) (us : List OpenUnit) → Moves b q x m fs p next us → HasKey m
+move_has_key : (b : Book) (q : Request) → HasKeys b → (x : State) (m : Move) (fs : List Flight) (p : Piece) (next : Option Position) (us : List OpenUnit) → Moves b q x m fs p next us → Coded m
 move_has_key b q keys x m fs p next us mv = let k = keys p.fare.key p.fare mv.stands.fare in (subst IsCarrier (sym mv.carrier) k.0, subst IsBasis (sym mv.basis) k.1)
 
 -- the live fares' keys are the moves'
-pub run_has_keys : (b : Book) (q : Request) → HasKeys b → (x : State) (ms : List Move) (price : ℕ) → Run b q x ms price → Each HasKey ms
+pub run_has_keys : (b : Book) (q : Request) → HasKeys b → (x : State) (ms : List Move) (price : ℕ) → Run b q x ms price → Each Coded ms
 run_has_keys b q keys x [] price run = absurd run
 run_has_keys b q keys x (m ∷ []) price (fs, p, mv, e) = (move_has_key b q keys x m fs p None [] mv, tt)
 run_has_keys b q keys x (m ∷ n ∷ ms) price (fs, p, at, us, rest, mv, run, e) =

@@ -4,16 +4,10 @@ use Rattle.std.specs.Ordering.{MatchOrdering}
 use Rattle.std.proofs.lemmas.Int.{ints}
 use Rattle.std.proofs.lemmas.Cmp.{int_ranked}
 use Rattle.std.proofs.lemmas.Bool.{cases_order}
-use Rattle.fare_law.specs.declared.names.Carrier.{Carrier}
-use Rattle.fare_law.specs.declared.names.Place.{Place}
-use Rattle.flight_paths.specs.declared.positions.Position.{Position}
 use Rattle.open_unit.specs.declared.marks.CarrierMark.{CarrierMark}
 use Rattle.open_unit.specs.declared.marks.CarrierMark.TheVariants.{NotYet, One, Mixed}
 use Rattle.open_unit.specs.declared.marks.RuleMark.{RuleMark}
 use Rattle.open_unit.specs.declared.marks.RuleMark.TheVariants.{One as OneRule, Mixed as MixedRules}
-use Rattle.open_unit.specs.declared.units.OpenUnit.{OpenUnit}
-use Rattle.residual_keys.specs.declared.parts.TicketPart.{TicketPart}
-use Rattle.residual_keys.specs.Residuals.{State}
 use Rattle.residual_keys.specs.ResidualOrder.{FieldBefore, OptionBefore, ListBefore, NumberBefore, DayBefore, PlaceBefore, CarrierBefore, CarriersBefore, RulesBefore, PositionBefore, UnitBefore, PartBefore, StateBefore, IsStrictOrder}
 
 -- a strict order on some fields, total up to these

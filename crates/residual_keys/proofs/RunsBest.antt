@@ -23,7 +23,7 @@ tickets_of b q asc (d ∷ ds) h =
 code_is : (b : Book) (q : Request) (d : Drawn) (t : Ticket) → TicketOf b q d t → run_code d.moves ≡ code t
 code_is b q d t h = ap run_code (sym h.1) ∙ sym (codes [] t.components)
 
-cheaper : (b : Book) (q : Request) (d e : Drawn) (t u : Ticket) → TicketOf b q d t → TicketOf b q e u → DrawnBefore d e → Cheaper b q t u
+pub cheaper : (b : Book) (q : Request) (d e : Drawn) (t u : Ticket) → TicketOf b q d t → TicketOf b q e u → DrawnBefore d e → Cheaper b q t u
 cheaper b q d e t u h k w = (d.price, e.price, h.2, k.2, subst (λ z. Before d.price z e.price (code u)) (code_is b q d t h) (subst (λ z. Before d.price (run_code d.moves) e.price z) (code_is b q e u k) w))
 
 pairs : (b : Book) (q : Request) (ds : List Drawn) (ts : List Ticket) → Matched (TicketOf b q) ds ts → EachPair DrawnBefore ds → EachPair (Cheaper b q) ts

@@ -6,9 +6,9 @@ use Rattle.fare_law.specs.declared.requests.Request.{Request}
 use Rattle.fare_law.specs.declared.tickets.Piece.{Piece}
 use Rattle.fare_law.specs.Book.{Book}
 use Rattle.fare_law.specs.Lists.{Each}
-use Rattle.fare_law.specs.Order.{IsCarrier, IsBasis}
 use Rattle.flight_paths.specs.declared.positions.Position.{Position}
 use Rattle.open_unit.specs.declared.units.OpenUnit.{OpenUnit}
+use Rattle.ticket_order.specs.Coding.{Coded}
 use Rattle.residual_keys.specs.Residuals.{State, Moves, Run, LeadsFrom}
 
 -- What a move takes and leaves is one: its flights, what they are to its fare, and the position and the open units after it.
@@ -26,10 +26,6 @@ abbrev pub RunGoesOn : Book → Request → Type 0
 RunGoesOn b q =
     (r x : State) (ms rest : List Move) → LeadsFrom b q r ms x → (price : ℕ) × Run b q r (ms ++ rest) price → (further : ℕ) × Run b q x rest further
 
--- the move's carrier is of two characters, its basis of one to eight
-abbrev pub HasKey : Move → Type 0
-HasKey m = IsCarrier m.carrier × IsBasis m.basis
-
 -- Each move of a run has a carrier and a basis that are well formed.
 abbrev pub RunHasKeys : Book → Request → Type 0
-RunHasKeys b q = (x : State) (ms : List Move) (price : ℕ) → Run b q x ms price → Each HasKey ms
+RunHasKeys b q = (x : State) (ms : List Move) (price : ℕ) → Run b q x ms price → Each Coded ms

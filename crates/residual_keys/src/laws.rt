@@ -3,15 +3,18 @@
 ghost use Rattle.fare_law.specs.declared.requests.Request.{Request};
 ghost use Rattle.fare_law.specs.declared.tickets.Ticket.{Ticket};
 ghost use Rattle.fare_law.specs.Book.{Book};
+ghost use Rattle.fare_law.specs.Lawful.{Lawful};
 ghost use Rattle.fare_law.specs.Lists.{Matched};
 ghost use Rattle.fare_law.specs.Moves.{moves_of, run_code};
-ghost use Rattle.fare_law.specs.Order.{Best, HasKeys, code};
+ghost use Rattle.fare_law.specs.Order.{Best, Cheaper, HasKeys, code};
 ghost use Rattle.flight_paths.specs.Positions.{Ascending};
 ghost use Rattle.residual_keys.specs.NothingLost.{OneTicket, RunsAreTickets, SameCompletions, TicketsAreRuns};
 ghost use Rattle.residual_keys.specs.OneNext.{MoveLeavesOne, MovesLeadToOne, RunGoesOn, RunHasKeys};
 ghost use Rattle.residual_keys.specs.ResidualOrder.{IsStrictOrder, StateBefore};
 ghost use Rattle.residual_keys.specs.Searches.{BestRuns, Drawn, TicketOf};
-ghost use Rattle.std.specs.Prelude.{List, ◌≡◌};
+ghost use Rattle.std.specs.Prelude.{List, ◌≡◌, ◌⊎◌};
+
+use ticket_order::{codes_tell, order_laws};
 
 /// Nothing is lost: where the timetable's flights stand in the order of their departures, a list of
 /// moves is a run from the root exactly where it is the moves of a lawful ticket, and then of one,
@@ -44,3 +47,16 @@ pub fn best_runs()
 pub fn residual_order()
     ensures { IsStrictOrder StateBefore }
 {}
+
+/// The order of tickets by price and code is strict, and total on the lawful tickets of a book whose
+/// live fares' keys are well formed. So there is one list of the best tickets, and one of the least runs.
+pub fn one_best()
+    ensures never { (b : Book) (q : Request) (t : Ticket) → Cheaper b q t t → ⊥ }
+    ensures further { (b : Book) (q : Request) (t u v : Ticket) → Cheaper b q t u → Cheaper b q u v → Cheaper b q t v }
+    ensures total { (b : Book) (q : Request) → HasKeys b → (t u : Ticket) → Lawful t b q → Lawful u b q → Cheaper b q t u ⊎ ((t ≡ u) ⊎ Cheaper b q u t) }
+    ensures runs { (b : Book) (q : Request) → HasKeys b → (ds es : List Drawn) → BestRuns b q q.best ds → BestRuns b q q.best es → ds ≡ es }
+    ensures tickets { (b : Book) (q : Request) → HasKeys b → (ts us : List Ticket) → Best b q ts → Best b q us → ts ≡ us }
+{
+    codes_tell();
+    order_laws();
+}
