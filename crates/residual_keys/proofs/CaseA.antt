@@ -1,5 +1,5 @@
 -- A worked case: one flight, one fare, one lawful ticket.
-use Rattle.std.proofs.Common.{◌≡◌, ◌≢◌, ℕ, pos, ◌≤◌, false, List, [], ◌∷◌, Some, None, refl, ap, inr, arith, get_or}
+use Rattle.std.proofs.Common.{◌≡◌, ◌≢◌, ℕ, pos, ◌≤◌, false, List, [], ◌∷◌, Some, None, refl, ap, arith, get_or}
 use Rattle.std.proofs.lemmas.Int.{ints}
 use Rattle.std.proofs.lemmas.List.Elements.{All-from_recursion}
 use Rattle.fare_law.specs.declared.filings.Action.TheVariants.{PutFare}
@@ -16,7 +16,7 @@ use Rattle.fare_law.specs.declared.rules.UnitKind.TheVariants.{OneWay}
 use Rattle.fare_law.specs.Book.{Book, live_fare, live_rule, seats, connect, free_rule}
 use Rattle.fare_law.specs.Lawful.{Part, Lawful, Numbered, AtMostTwoStraddle}
 use Rattle.fare_law.specs.Order.{code}
-use Rattle.unit_labels.proofs.LabelLaw.{labelled_lawful}
+use Rattle.unit_labels.specs.Labels.{LabelLaws, Alone}
 
 lon : Place
 lon = record { 0 = 76 ∷ 79 ∷ 78 ∷ [] }
@@ -80,13 +80,13 @@ part : Part
 unfolding flight piece
 part = record { flights = flight ∷ []; piece = piece; unit = 1 }
 
-labels : Numbered 0 (1 ∷ []) × AtMostTwoStraddle (1 ∷ [])
-labels = labelled_lawful (1 ∷ []) (inr (refl, omega arith, tt))
+labels : LabelLaws → Numbered 0 (1 ∷ []) × AtMostTwoStraddle (1 ∷ [])
+labels laws = ((laws.runs (Alone ∷ []) (1 ∷ [])).0 (refl, refl)).0
 
 -- The ticket of the case is lawful, so it is a run from the root.
-case_lawful : Lawful ticket book request
+case_lawful : LabelLaws → Lawful ticket book request
 unfolding book request ticket part piece flight fare key live_fare live_rule connect qx lon nyc
-case_lawful = (
+case_lawful laws = (
   part ∷ [],
   (
     record {
@@ -116,10 +116,10 @@ case_lawful = (
       },
       tt,
     );
-    numbered = labels.0;
+    numbered = (labels laws).0;
     units = ((OneWay, (refl, refl), (record { stands = tt; season = tt; advance = tt; travel = tt; by = tt; min_stay = λ h. tt; max_stay = λ h. tt; kind_allowed = tt; partners = tt }, tt)), tt);
     end_on_end = (tt, tt);
-    straddling = labels.1;
+    straddling = (labels laws).1;
   },
   λ e. cc,
 )

@@ -1,3 +1,4 @@
+pub mod Known
 pub mod FareFacts
 pub mod Marks
 pub mod OneUnit
