@@ -1,5 +1,5 @@
 -- Where a journey stands, and the flights that lead on.
-use Rattle.std.specs.Prelude.{◌≡◌, ◌≢◌, ◌⊎◌, ℕ, zero, suc, ℤ, Bool, true, false, ◌&&◌, ◌==◌, pos, ◌≤◌, ◌<◌, ◌+ℤ◌, ◌≤ℤ◌, int_le, int_lt, List, [], ◌∷◌, slice_get, IfSome, Option, Some, None, cond}
+use Rattle.std.specs.Prelude.{◌≡◌, ◌≢◌, ◌⊎◌, ℕ, zero, suc, ℤ, Bool, true, false, ◌&&◌, ◌==◌, pos, ◌≤◌, ◌<◌, ◌+ℤ◌, ◌≤ℤ◌, int_le, int_lt, List, [], ◌∷◌, length, ◌↔◌, slice_get, IfSome, IsSome, Option, Some, None, cond}
 use Rattle.fare_law.specs.declared.flights.Flight.{Flight}
 use Rattle.fare_law.specs.declared.names.Place.{Place}
 use Rattle.fare_law.specs.declared.requests.Slice.{Slice}
@@ -101,3 +101,11 @@ Flies b slices None (n ∷ ns) (f ∷ fs) end = ⊥
 Flies b slices (Some at) (n ∷ ns) (f ∷ fs) end =
     (s : Slice) × (slice_get slices at.slice ≡ Some s) × Takes b s at n f
     × (next : Option Position) × LeadsTo b slices s at f next × Flies b slices next ns fs end
+
+-- The position is one of this request: its slice is the request's, at most two flights are taken, a place was called at first exactly where two are, and its range is one of the timetable.
+pub record Fits (b : Book) (slices : List Slice) (at : Position) : Type 0 where
+  pub slice : at.slice < length slices
+  pub leg : at.leg ≤ 2
+  pub via : IsSome at.via ↔ (at.leg ≡ 2)
+  pub range : at.lo ≤ at.hi
+  pub known : at.hi ≤ length b.timetable.flights

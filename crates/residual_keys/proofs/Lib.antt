@@ -15,3 +15,4 @@ pub mod CaseA
 pub mod Ordered
 pub mod LeastOne
 pub mod OneBest
+pub mod Short

@@ -3,3 +3,4 @@ pub mod NothingLost
 pub mod Searches
 pub mod OneNext
 pub mod ResidualOrder
+pub mod Short

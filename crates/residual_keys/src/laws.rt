@@ -1,5 +1,6 @@
 //! The theorems on residuals, moves and runs, for the crates above: a function calls the law it
 //! stands on, and has its clauses.
+ghost use Rattle.fare_law.specs.declared.moves.Move.{Move};
 ghost use Rattle.fare_law.specs.declared.requests.Request.{Request};
 ghost use Rattle.fare_law.specs.declared.tickets.Ticket.{Ticket};
 ghost use Rattle.fare_law.specs.Book.{Book};
@@ -11,9 +12,11 @@ ghost use Rattle.flight_paths.specs.Positions.{Ascending};
 ghost use Rattle.open_unit.specs.OpenUnits.{unit_steps};
 ghost use Rattle.residual_keys.specs.NothingLost.{OneTicket, RunsAreTickets, SameCompletions, TicketsAreRuns};
 ghost use Rattle.residual_keys.specs.OneNext.{MoveLeavesOne, MovesLeadToOne, RunGoesOn, RunHasKeys};
+ghost use Rattle.residual_keys.specs.Residuals.{RunFromRoot};
 ghost use Rattle.residual_keys.specs.ResidualOrder.{IsStrictOrder, StateBefore};
 ghost use Rattle.residual_keys.specs.Searches.{BestRuns, Drawn, TicketOf};
-ghost use Rattle.std.specs.Prelude.{List, ◌≡◌, ◌⊎◌};
+ghost use Rattle.residual_keys.specs.Short.{FliesFew, MoveGoesOn, ReachedFits, RootRunIsShort, RunIsShort};
+ghost use Rattle.std.specs.Prelude.{List, length, ℕ, ◌≡◌, ◌≤◌, ◌⊎◌};
 
 use fare_law::Piece;
 use open_unit::OpenUnit;
@@ -79,3 +82,15 @@ pub fn one_best()
     codes_tell();
     order_laws();
 }
+
+/// Runs are short: from slice s and leg m of n slices lead at most 3 (n - s) - m flights, so a run from
+/// the root has at most three moves a slice, which is 18 for a request of six slices. Each move raises
+/// the slice or the leg, and what moves from the root lead to is a position of the request.
+pub fn runs_are_short()
+    ensures flights { (b : Book) (q : Request) → FliesFew b q }
+    ensures raised { (b : Book) (q : Request) → MoveGoesOn b q }
+    ensures runs { (b : Book) (q : Request) → RunIsShort b q }
+    ensures root { (b : Book) (q : Request) → RootRunIsShort b q }
+    ensures six { (b : Book) (q : Request) (ms : List Move) (price : ℕ) → length q.slices ≤ 6 → RunFromRoot b q ms price → length ms ≤ 18 }
+    ensures fits { (b : Book) (q : Request) → ReachedFits b q }
+{}

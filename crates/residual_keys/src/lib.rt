@@ -4,5 +4,5 @@
 mod laws;
 mod parts;
 
-pub use laws::{best_runs, nothing_lost, one_best, one_next, residual_order};
+pub use laws::{best_runs, nothing_lost, one_best, one_next, residual_order, runs_are_short};
 pub use parts::TicketPart;
