@@ -6,6 +6,7 @@ pub mod Ranges
 pub mod Journeys
 pub mod TicketParts
 pub mod Wholes
+pub mod Fitting
 pub mod Runs
 pub mod NothingLost
 pub mod OneNext

@@ -32,6 +32,7 @@ use Rattle.residual_keys.proofs.TicketParts.{PartRun, is_new, news}
 use Rattle.residual_keys.proofs.Wholes.{labels, pieces, flights, same_count, Machines, machines_lawful, lawful_machines}
 use Rattle.unit_labels.specs.Labels.{LawfulLabels, LabelRun, part_of, parts_of, parts_between, slot_of, labels_so_far, Part as Mark, Alone as StaysAlone, Opens as Opening, GoesOn as GoingOn, Closes as Closing}
 use Rattle.unit_labels.specs.UnitRuns.{UnitRun, EachAccepted}
+use Rattle.residual_keys.proofs.Fitting.{root_fits}
 use Rattle.residual_keys.proofs.Known.{Known}
 
 -- the live fare of a key has that key
@@ -398,7 +399,7 @@ pub ticket_run : Known → (b : Book) (q : Request) (t : Ticket) → Lawful t b 
 unfolding cost
 ticket_run known b q t (ps, m, law, some) =
     let s = ticket_sides known b q t ps m law some in
-    (total (items ps), (s.at, s.root, sides_run b q (record { at = s.at; units = []; part = no_part }) (moves_of t) (items ps) s.sides), (ps, m, items_cost ps))
+    (total (items ps), (s.at, s.root, sides_run b q (record { at = s.at; units = []; part = no_part }) (moves_of t) (items ps) (root_fits b q s.at s.root) s.sides), (ps, m, items_cost ps))
 
 -- Its code is that of its moves.
 role_codes : (before : List ℕ) (l : ℕ) (after : List ℕ) → role_number before l after ≡ role_code (role_of before l after)

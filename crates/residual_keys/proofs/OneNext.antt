@@ -101,12 +101,12 @@ units_one Closes s us x y p h k = h.3 ∙ sym k.3
 pub moves_one : (b : Book) (q : Request) (r : State) (m : Move) (fs gs : List Flight) (p p' : Piece) (next next' : Option Position) (us us' : List OpenUnit)
     → Moves b q r m fs p next us → Moves b q r m gs p' next' us' → (fs ≡ gs) × (p ≡ p') × (next ≡ next') × (us ≡ us')
 moves_one b q r m fs gs p p' next next' us us' h k =
-    let ef = numbers_one b m.flights fs gs (flies_numbers b q.slices (Some r.at) next m.flights fs h.path) (flies_numbers b q.slices (Some r.at) next' m.flights gs k.path) in
+    let ef = numbers_one b m.flights fs gs (flies_numbers b q.slices (Some r.at) next m.flights fs h.path.flies) (flies_numbers b q.slices (Some r.at) next' m.flights gs k.path.flies) in
     let ep = piece_one b q.sale fs p p' (closing m.role) h.stands (subst (λ z. StandsFor b q.sale p'.fare.key z p') (sym ef) k.stands)
     (direction m.role m.slot r.units us p h.units) (direction m.role m.slot r.units us' p' k.units) (sym h.carrier ∙ k.carrier) (sym h.basis ∙ k.basis) in (
       ef,
       ep,
-      flies_one b q.slices (Some r.at) m.flights fs next next' h.path (subst (λ z. Flies b q.slices (Some r.at) m.flights z next') (sym ef) k.path),
+      flies_one b q.slices (Some r.at) m.flights fs next next' h.path.flies (subst (λ z. Flies b q.slices (Some r.at) m.flights z next') (sym ef) k.path.flies),
       units_one m.role m.slot r.units us us' p h.units (subst (λ z. UnitStep m.role m.slot r.units z us') (sym ep) k.units),
     )
 

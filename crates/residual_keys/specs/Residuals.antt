@@ -17,7 +17,7 @@ use Rattle.fare_law.specs.declared.moves.Role.{Role}
 use Rattle.fare_law.specs.declared.moves.Role.TheVariants.{Alone, Opens, GoesOn, Closes}
 use Rattle.residual_keys.specs.declared.parts.TicketPart.{TicketPart}
 use Rattle.open_unit.specs.OpenUnits.{carrier_with, OneCarrierMark, MayAlone, MayOpen, opened, MayGoOn, gone_on, MayClose}
-use Rattle.flight_paths.specs.Positions.{Flies, before_slice}
+use Rattle.flight_paths.specs.Positions.{IsPath, before_slice}
 
 -- what the rest of a search depends on
 pub record State : Type 0 where
@@ -60,8 +60,7 @@ UnitStep Closes slot us p us' = (u : OpenUnit) × (slice_get us slot ≡ Some u)
 
 -- A move of a state: its flights, what they are to the fare, and what it leaves: a position or the end, the open units and the ticket part.
 pub record Moves (b : Book) (q : Request) (r : State) (m : Move) (fs : List Flight) (p : Piece) (next : Option Position) (us : List OpenUnit) : Type 0 where
-  pub some : m.flights ≢ []
-  pub path : Flies b q.slices (Some r.at) m.flights fs next
+  pub path : IsPath b q.slices r.at m.flights fs next
   pub stands : StandsFor b q.sale p.fare.key fs p
   pub carrier : m.carrier ≡ p.fare.key.carrier
   pub basis : m.basis ≡ p.fare.key.basis

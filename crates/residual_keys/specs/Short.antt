@@ -16,9 +16,9 @@ abbrev pub flights_before : Request → Option Position → ℕ
 flights_before q None = 3 * length q.slices
 flights_before q (Some at) = 3 * at.slice + at.leg
 
--- From slice s and leg m of n slices, with m at most 2, lead at most 3 (n - s) - m flights.
+-- From slice s and leg m of n slices lead at most 3 (n - s) - m flights.
 abbrev pub FliesFew : Book → Request → Type 0
-FliesFew b q = (at : Position) (ns : List ℕ) (fs : List Flight) (end : Option Position) → at.leg ≤ 2 → Flies b q.slices (Some at) ns fs end → length ns + flights_before q (Some at) ≤ flights_before q end
+FliesFew b q = (at : Position) (ns : List ℕ) (fs : List Flight) (end : Option Position) → Flies b q.slices (Some at) ns fs end → length ns + flights_before q (Some at) ≤ flights_before q end
 
 -- the one position is in an earlier slice, or in the same slice with fewer flights taken
 abbrev pub Earlier : Position → Position → Type 0
@@ -26,12 +26,12 @@ Earlier a c = (a.slice < c.slice) ⊎ ((a.slice ≡ c.slice) × (a.leg < c.leg))
 
 -- Each move raises the slice or the leg.
 abbrev pub MoveGoesOn : Book → Request → Type 0
-MoveGoesOn b q = (x : State) (m : Move) (fs : List Flight) (p : Piece) (at : Position) (us : List OpenUnit) → x.at.leg ≤ 2 → Moves b q x m fs p (Some at) us → Earlier x.at at × (at.leg ≤ 2)
+MoveGoesOn b q = (x : State) (m : Move) (fs : List Flight) (p : Piece) (at : Position) (us : List OpenUnit) → Moves b q x m fs p (Some at) us → Earlier x.at at × (at.leg ≤ 2)
 
 -- A run has at most three flights a slice, and no more moves than flights.
 abbrev pub RunIsShort : Book → Request → Type 0
 RunIsShort b q =
-    (x : State) (ms : List Move) (price : ℕ) → x.at.leg ≤ 2 → Run b q x ms price
+    (x : State) (ms : List Move) (price : ℕ) → Run b q x ms price
     → (length ms ≤ length (flat_map (λ m. m.flights) ms)) × (length (flat_map (λ m. m.flights) ms) + flights_before q (Some x.at) ≤ 3 * length q.slices)
 
 -- A run from the root has at most three moves a slice.

@@ -1,6 +1,7 @@
 -- The theorems of their own file.
 use Rattle.std.proofs.Common.{arith}
-use Rattle.residual_keys.proofs.Short.{flies_few, move_goes_on, run_short, root_run_short, reached_fits}
+use Rattle.residual_keys.proofs.Short.{flies_few, move_goes_on, run_short, root_run_short}
+use Rattle.residual_keys.proofs.Fitting.{reached_fits}
 use Rattle.residual_keys.proofs.laws.runs_are_short.Goals as goal
 
 pub returns-clause-flights : goal.returns-clause-flights
