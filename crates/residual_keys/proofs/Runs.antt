@@ -1,5 +1,5 @@
 -- Runs, and the machines that each look at one side of them.
-use Rattle.std.proofs.Common.{◌≡◌, ◌≢◌, ℕ, ◌+◌, List, [], ◌∷◌, ◌++◌, map, set, remove, flat_map, sum_by, Option, Some, None, sym, refl, ap, ◌∙◌, subst, arith}
+use Rattle.std.proofs.Common.{◌≡◌, ◌≢◌, ℕ, ◌+◌, List, [], ◌∷◌, ◌++◌, map, set, remove, flat_map, sum_by, Option, Some, None, IfNone, sym, refl, ap, ◌∙◌, subst, arith}
 use Rattle.std.proofs.lemmas.List.Sums.{sum_by-cons}
 use Rattle.fare_law.specs.declared.flights.Flight.{Flight}
 use Rattle.fare_law.specs.declared.tickets.Piece.{Piece}
@@ -147,8 +147,8 @@ run_sides b q r (m ∷ n ∷ ms) price (fs, p, at, us, rest, mv, run, e) =
     )
 
 move_of_item : (b : Book) (q : Request) (r : State) (m : Move) (x : Item) (next : Option Position) (us : List OpenUnit) → Fits b q.slices r.at → ItemOf b q m x → Flies b q.slices (Some r.at) m.flights x.flights next → UnitStep m.role m.slot r.units x.piece us
-    → PartAllows (part_with r.part (begins m.role) x.piece) → Moves b q r m x.flights x.piece next us
-move_of_item b q r m x next us ok i f u a = record { path = is_path b q.slices r.at m.flights x.flights next ok i.some i.lawful.shape f; stands = i.stands; carrier = i.carrier; basis = i.basis; lawful = i.lawful; units = u; part = a }
+    → PartAllows (part_with r.part (begins m.role) x.piece) → IfNone next (us ≡ []) → Moves b q r m x.flights x.piece next us
+move_of_item b q r m x next us ok i f u a d = record { path = is_path b q.slices r.at m.flights x.flights next ok i.some i.lawful.shape f; stands = i.stands; carrier = i.carrier; basis = i.basis; lawful = i.lawful; units = u; part = a; done = d }
 
 -- And the sides together.
 pub sides_run : (b : Book) (q : Request) (r : State) (ms : List Move) (xs : List Item) → Fits b q.slices r.at → Sides b q r.at r.units r.part ms xs → Run b q r ms (total xs)
@@ -164,7 +164,7 @@ sides_run b q r (m ∷ []) (x ∷ []) ok s =
       x.flights,
       x.piece,
       move_of_item b q r m x None [] ok s.items.0 (subst (λ y. Flies b q.slices (Some r.at) m.flights x.flights y) (sym f.2) f.1)
-          (subst (λ y. UnitStep m.role m.slot r.units x.piece y) u.2 u.1) s.part.0,
+          (subst (λ y. UnitStep m.role m.slot r.units x.piece y) u.2 u.1) s.part.0 refl,
       total_more x [] ∙ plus_zero (price_of x.flights x.piece),
     )
   where
@@ -182,7 +182,7 @@ sides_run b q r (m ∷ n ∷ ms) (x ∷ y ∷ xs) ok s =
       a.0,
       u.0,
       total (y ∷ xs),
-      move_of_item b q r m x (Some a.0) u.0 ok s.items.0 path u.1 s.part.0,
+      move_of_item b q r m x (Some a.0) u.0 ok s.items.0 path u.1 s.part.0 tt,
       sides_run b q (record { at = a.0; units = u.0; part = part_with r.part (begins m.role) x.piece }) (n ∷ ms) (y ∷ xs) (flies_fits b q.slices (Some r.at) m.flights x.flights (Some a.0) ok path)
           (record { items = s.items.1; flies = subst (λ z. Flies b q.slices z (flat_map (λ k. k.flights) (n ∷ ms)) (flat_map (λ k. k.flights) (y ∷ xs)) None) a.1 f.2; units = u.2; part = s.part.1 }),
       total_more x (y ∷ xs),

@@ -1,5 +1,5 @@
 -- Residuals, moves and runs.
-use Rattle.std.specs.Prelude.{◌≡◌, ◌≢◌, ℕ, Bool, true, false, ◌==◌, nat_le, ◌+◌, ◌%◌, ◌≤◌, ◌<◌, List, [], ◌∷◌, ◌++◌, length, set, remove, slice_get, Option, Some, None, cond}
+use Rattle.std.specs.Prelude.{◌≡◌, ◌≢◌, ℕ, Bool, true, false, ◌==◌, nat_le, ◌+◌, ◌%◌, ◌≤◌, ◌<◌, List, [], ◌∷◌, ◌++◌, length, set, remove, slice_get, Option, Some, None, IfNone, cond}
 use Rattle.fare_law.specs.declared.rules.CombineRule.{CombineRule}
 use Rattle.fare_law.specs.declared.rules.EndOnEnd.{EndOnEnd}
 use Rattle.fare_law.specs.declared.rules.EndOnEnd.TheVariants.{Free, SameCarrier, Never}
@@ -58,7 +58,7 @@ UnitStep Opens slot us p us' = (slot ≡ 0) × MayOpen p × (length us < 2) × (
 UnitStep GoesOn slot us p us' = (u : OpenUnit) × (slice_get us slot ≡ Some u) × MayGoOn u p × (us' ≡ set us slot (gone_on u p))
 UnitStep Closes slot us p us' = (u : OpenUnit) × (slice_get us slot ≡ Some u) × ((kind : UnitKind) × MayClose u p kind) × (us' ≡ remove us slot)
 
--- A move of a state: its flights, what they are to the fare, and what it leaves: a position or the end, the open units and the ticket part.
+-- A move of a state: its flights, what they are to the fare, and what it leaves: a position and the open units, or the end of the journey, where no unit is open.
 pub record Moves (b : Book) (q : Request) (r : State) (m : Move) (fs : List Flight) (p : Piece) (next : Option Position) (us : List OpenUnit) : Type 0 where
   pub path : IsPath b q.slices r.at m.flights fs next
   pub stands : StandsFor b q.sale p.fare.key fs p
@@ -67,6 +67,7 @@ pub record Moves (b : Book) (q : Request) (r : State) (m : Move) (fs : List Flig
   pub lawful : ComponentLawful b q.party fs p
   pub units : UnitStep m.role m.slot r.units p us
   pub part : PartAllows (part_with r.part (begins m.role) p)
+  pub done : IfNone next (us ≡ [])
 
 -- A run: each is a move of what the one before left, and the last alone ends the journey, with no unit open.
 abbrev pub Run : Book → Request → State → List Move → ℕ → Type 0
