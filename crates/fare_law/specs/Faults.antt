@@ -9,7 +9,7 @@ use Rattle.fare_law.specs.declared.fares.Fare.{Fare}
 use Rattle.fare_law.specs.declared.fares.FareKey.{FareKey}
 use Rattle.fare_law.specs.declared.fares.FareKind.TheVariants.{R}
 use Rattle.fare_law.specs.declared.filings.Filing.{Filing}
-use Rattle.fare_law.specs.Book.{Book, live_fare, live_rule, live_seats}
+use Rattle.fare_law.specs.Book.{Book, Timetable, live_fare, live_rule, live_seats}
 use Rattle.fare_law.specs.Lists.{Each, AllDifferent}
 
 -- a book has at least n live things of a kind: n keys that are all different, each live
@@ -54,3 +54,9 @@ Fault b filing at why =
     ⊎ ((length b.entries < 1000000) × ((before : List Action) × (action : Action) × (after : List Action)
     × (filing.actions ≡ before ++ action ∷ after) × (at ≡ suc (length before)) × FaultOf (filed b before) action why
     × ((front : List Action) (earlier : Action) (rest : List Action) → before ≡ front ++ earlier ∷ rest → (other : BookWhy) → Why (filed b front) earlier other → ⊥)))
+
+-- A legal history: no entry has a fault after the entries before it.
+abbrev pub Legal : Timetable → List Filing → Type 0
+Legal timetable history =
+    (before : List Filing) (filing : Filing) (after : List Filing) → history ≡ before ++ filing ∷ after
+    → (at : ℕ) (why : BookWhy) → Fault (record { timetable = timetable; entries = before }) filing at why → ⊥

@@ -1,3 +1,4 @@
+pub mod Equality
 pub mod Lists
 pub mod Days
 pub mod Book
@@ -9,3 +10,4 @@ pub mod Order
 pub mod Flights
 pub mod Faults
 pub mod Moves
+pub mod Sheets

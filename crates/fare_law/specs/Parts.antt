@@ -1,5 +1,5 @@
 -- One component: what it stands for in the book, and the rules that look at it alone.
-use Rattle.std.specs.Prelude.{◌≡◌, ℕ, ℤ, Bool, true, pos, ◌+◌, ◌*◌, ◌/◌, ◌≤◌, ◌+ℤ◌, List, [], ◌∷◌, length, sum_by, All, Any, Contains, IfSome, MatchOption, Option, Some, None, MatchBool, cond, int_lt, int_le, nat_le, ◌&&◌}
+use Rattle.std.specs.Prelude.{◌≡◌, ℕ, ℤ, Bool, true, pos, ◌+◌, ◌*◌, ◌/◌, ◌≤◌, ◌+ℤ◌, List, [], ◌∷◌, length, sum_by, All, Any, Contains, IfSome, MatchOption, Option, Some, None, option_map, unwrap_or, MatchBool, cond, int_lt, int_le, nat_le, ◌&&◌}
 use Rattle.fare_law.specs.declared.names.Carrier.{Carrier}
 use Rattle.fare_law.specs.declared.fares.FareKey.{FareKey}
 use Rattle.fare_law.specs.declared.fares.FareKind.{FareKind}
@@ -8,7 +8,6 @@ use Rattle.fare_law.specs.declared.flights.Flight.{Flight}
 use Rattle.fare_law.specs.declared.rules.FlightRange.{FlightRange}
 use Rattle.fare_law.specs.declared.tickets.Piece.{Piece}
 use Rattle.fare_law.specs.declared.rules.Rule.{Rule}
-use Rattle.fare_law.specs.declared.rules.StopRule.{StopRule}
 use Rattle.fare_law.specs.declared.rules.Surcharge.{Surcharge}
 use Rattle.fare_law.specs.Book.{Book, flight_at, live_fare, live_rule, seats, same_carrier}
 use Rattle.fare_law.specs.Days.{weekday}
@@ -93,11 +92,7 @@ share R amount = amount / 2
 share S amount = amount
 
 abbrev pub stopover_charge : Rule → List Flight → ℕ
-stopover_charge r fs = MatchCharge r.cat8
-  where
-    MatchCharge : Option StopRule → ℕ
-    MatchCharge None = 0
-    MatchCharge (Some c) = c.charge * stopovers fs
+stopover_charge r fs = unwrap_or (option_map (λ c. c.charge * stopovers fs) r.cat8) 0
 
 abbrev pub fits : Surcharge → Flight → Bool
 fits s f = same_carrier s.carrier f.carrier && nat_le s.low f.number && nat_le f.number s.high && int_le s.first f.day && int_le f.day s.last

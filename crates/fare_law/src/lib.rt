@@ -9,12 +9,14 @@ mod filings;
 mod flights;
 mod gate;
 mod list;
+mod market;
 mod mem;
 mod moves;
 mod names;
 mod requests;
 mod rows;
 mod rules;
+mod sheets;
 mod tickets;
 
 pub use array::ArrayVec;
@@ -23,13 +25,17 @@ pub use filings::{Action, BookWhy, Filing, Refused, SeatKey};
 pub use flights::Flight;
 pub use gate::{Gate, NoGate};
 pub use list::List;
+pub use market::{MarketSheet, OfferKey};
 pub use mem::Mem;
 pub use moves::{Code, Move, Role};
-pub use names::{Basis, Carrier, Class, Place};
+pub use names::{
+    Basis, Carrier, Class, Place, bases_tell_equal, carriers_tell_equal, places_tell_equal,
+};
 pub use requests::{Request, Slice, Why};
 pub use rows::{FlightRow, PlaceRow, SeatRow, TextLine};
 pub use rules::{
     CombineRule, DayRange, DayTime, EndOnEnd, FlightRange, FlightRule, MinStay, Partners, Rule,
     StopRule, Surcharge, TransferRule, TravelRule, UnitKind,
 };
+pub use sheets::{Leg, SheetRow};
 pub use tickets::{Component, Piece, Priced, Ticket};

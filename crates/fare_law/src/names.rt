@@ -1,5 +1,6 @@
 //! Names of the trade: places, carriers, fare bases and booking classes.
-ghost use Rattle.std.specs.Prelude.{◌≡◌};
+ghost use Rattle.std.specs.Prelude.{◌≡◌, ◌↔◌, IsTrue};
+ghost use Rattle.fare_law.specs.Equality.{TellsEqual};
 
 use crate::ArrayVec;
 
@@ -18,6 +19,24 @@ pub struct Basis(pub ArrayVec<u8, 8>);
 /// A booking class: 0 for A to 25 for Z.
 pub type Class = u8;
 
+impl Place {
+    /// Whether it is the same place.
+    pub fn is(self, other: Place) -> bool
+        ensures { IsTrue result ↔ (self ≡ other) }
+    {
+        self == other
+    }
+}
+
+impl Carrier {
+    /// Whether it is the same carrier.
+    pub fn is(self, other: Carrier) -> bool
+        ensures { IsTrue result ↔ (self ≡ other) }
+    {
+        self == other
+    }
+}
+
 impl Basis {
     /// The same basis.
     pub fn copied(&self) -> Basis
@@ -26,3 +45,18 @@ impl Basis {
         Basis(self.0.copied())
     }
 }
+
+/// `==` tells whether two places are equal.
+pub fn places_tell_equal()
+    ensures { TellsEqual ⟦<Place as PartialEq>⟧.eq }
+{}
+
+/// `==` tells whether two carriers are equal.
+pub fn carriers_tell_equal()
+    ensures { TellsEqual ⟦<Carrier as PartialEq>⟧.eq }
+{}
+
+/// `==` tells whether two bases are equal.
+pub fn bases_tell_equal()
+    ensures { TellsEqual ⟦<Basis as PartialEq>⟧.eq }
+{}

@@ -1,0 +1,39 @@
+-- Sheets: the live fares of one market, with what their rules say of the time of departure.
+use Rattle.std.specs.Prelude.{◌≡◌, ◌⊎◌, ◌≤◌, ℤ, pos, List, length, Option, Some, None}
+use Rattle.fare_law.specs.declared.names.Place.{Place}
+use Rattle.fare_law.specs.declared.rules.DayTime.{DayTime}
+use Rattle.fare_law.specs.declared.sheets.SheetRow.{SheetRow}
+use Rattle.fare_law.specs.Lists.{Each, EachPair}
+use Rattle.fare_law.specs.Order.{Less}
+
+-- the fares that are filed from one place to another
+pub record Sheet : Type 0 where
+  pub from : Place
+  pub to : Place
+  pub rows : List SheetRow
+
+abbrev pub from_minute : Option DayTime → ℤ
+from_minute None = pos 0
+from_minute (Some c) = pos c.from
+
+abbrev pub to_minute : Option DayTime → ℤ
+to_minute None = pos 1439
+to_minute (Some c) = pos c.to
+
+-- the first minute of the day at which category 2 lets a component depart
+abbrev pub first_minute : SheetRow → ℤ
+first_minute row = from_minute row.rule.cat2
+
+-- the last minute of the day at which category 2 lets a component depart
+abbrev pub last_minute : SheetRow → ℤ
+last_minute row = to_minute row.rule.cat2
+
+-- by carrier, then by basis
+abbrev pub RowBefore : SheetRow → SheetRow → Type 0
+RowBefore r s = Less r.fare.key.carrier.0 s.fare.key.carrier.0 ⊎ ((r.fare.key.carrier ≡ s.fare.key.carrier) × Less r.fare.key.basis.0 s.fare.key.basis.0)
+
+-- rows that make a sheet: at most 20,000, of this market, ascending
+pub record IsSheet (from to : Place) (rows : List SheetRow) : Type 0 where
+  pub few : length rows ≤ 20000
+  pub market : Each (λ row. (row.fare.key.from ≡ from) × (row.fare.key.to ≡ to)) rows
+  pub ascending : EachPair RowBefore rows

@@ -1,0 +1,100 @@
+//! The sheet of a market.
+ghost use Rattle.std.specs.Prelude.{◌≡◌, map, IfOk};
+ghost use Rattle.fare_law.specs.Sheets.{Sheet, first_minute, last_minute, IsSheet};
+
+use crate::{ArrayVec, Leg, List, Mem, Place, SheetRow};
+use std::alloc::Global;
+use std::marker::Model;
+use std::sync::Arc;
+
+/// The live fares of one market, ascending by carrier and basis, with columns for their times of
+/// departure. Contracts see the market and the rows; the columns follow from the rows.
+#[derive(Debug, Drop)]
+pub struct MarketSheet {
+    pub from: Place,
+    pub to: Place,
+    pub rows: List<SheetRow>,
+    /// The first minute at which each row's category 2 lets a component depart, or 0.
+    pub opens: List<i32>,
+    /// The last minute, or 1439.
+    pub closes: List<i32>,
+}
+
+impl Model for MarketSheet {
+    ghost use Rattle.std.specs.Prelude.{◌≡◌, map};
+    ghost use Rattle.fare_law.specs.Sheets.{Sheet, first_minute, last_minute};
+
+    ghost Value = { Sheet };
+
+    ghost view = { λ s. record { from = s.from; to = s.to; rows = s.rows } };
+
+    ghost invariant = { λ s. (s.opens ≡ map first_minute s.rows) × (s.closes ≡ map last_minute s.rows) };
+}
+
+impl MarketSheet {
+    /// The sheet of these rows, at most 20,000 of this market, ascending by carrier and basis.
+    pub fn of(
+        alloc: Global,
+        from: Place,
+        to: Place,
+        rows: List<SheetRow>,
+    ) -> Result<MarketSheet, Mem>
+        requires { IsSheet from to rows }
+        ensures { IfOk result (λ s. s ≡ record { from = from; to = to; rows = rows }) }
+    {
+        let opens = opening_minutes(alloc, rows.as_slice())?;
+        let closes = closing_minutes(alloc, rows.as_slice())?;
+        Ok(MarketSheet {
+            from,
+            to,
+            rows,
+            opens,
+            closes,
+        })
+    }
+}
+
+fn opening_minutes(alloc: Global, rows: &[SheetRow]) -> Result<List<i32>, Mem>
+    ensures { IfOk result (λ minutes. minutes ≡ map first_minute rows.now) }
+{
+    let mut minutes = List::new(alloc);
+    for row in rows {
+        minutes.push(opening_minute(row))?;
+    }
+    Ok(minutes)
+}
+
+fn closing_minutes(alloc: Global, rows: &[SheetRow]) -> Result<List<i32>, Mem>
+    ensures { IfOk result (λ minutes. minutes ≡ map last_minute rows.now) }
+{
+    let mut minutes = List::new(alloc);
+    for row in rows {
+        minutes.push(closing_minute(row))?;
+    }
+    Ok(minutes)
+}
+
+fn opening_minute(row: &SheetRow) -> i32
+    ensures { result ≡ first_minute row.now }
+{
+    match &row.rule.cat2 {
+        Some(times) => times.from as i32,
+        None => 0,
+    }
+}
+
+fn closing_minute(row: &SheetRow) -> i32
+    ensures { result ≡ last_minute row.now }
+{
+    match &row.rule.cat2 {
+        Some(times) => times.to as i32,
+        None => 1439,
+    }
+}
+
+/// What offers are asked by: the legs of a component, and the sheet of a market.
+#[derive(Debug, Drop)]
+pub struct OfferKey {
+    pub legs: ArrayVec<Leg, 4>,
+    pub sheet: Arc<MarketSheet>,
+}

@@ -1,0 +1,17 @@
+//! What a sheet has for each fare, and what an offer is asked by.
+use crate::{Fare, Flight, Rule};
+
+/// A live fare with its rule.
+#[derive(PartialEq, Eq, Debug, Drop)]
+pub struct SheetRow {
+    pub fare: Fare,
+    pub rule: Rule,
+}
+
+/// A flight of a component, with the classes that have seats for the party.
+#[derive(Clone, Copy, PartialEq, Eq, Debug)]
+pub struct Leg {
+    pub flight: Flight,
+    /// Bit c is set where class c has seats for the whole party.
+    pub classes: u32,
+}

@@ -1,0 +1,3 @@
+pub mod FlightSeats
+pub mod OnlyTicket
+pub mod Converse

@@ -1,0 +1,9 @@
+//! Search where one dated flight and one fare are all there is: the answer is that one ticket, or none.
+//! The layer above relies on the clause of `cheapest`: the answer is the list of best tickets.
+#![tactic(auto)]
+
+mod cases;
+mod finder;
+
+pub use cases::OneWayCase;
+pub use finder::cheapest;
