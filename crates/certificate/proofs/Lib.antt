@@ -1,2 +1,3 @@
-pub mod YesIsBest
-pub mod SearchChecks
+pub mod Known
+pub mod ListFacts
+pub mod OneFirst
