@@ -1,3 +1,6 @@
 pub mod Known
 pub mod ListFacts
 pub mod OneFirst
+pub mod Decided
+pub mod Tickets
+pub mod YesIsBest
