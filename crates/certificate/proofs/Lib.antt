@@ -4,3 +4,5 @@ pub mod OneFirst
 pub mod Decided
 pub mod Tickets
 pub mod YesIsBest
+pub mod SearchRows
+pub mod MeetsChecks

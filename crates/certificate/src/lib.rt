@@ -3,6 +3,8 @@
 //! answers are the best tickets. The layer above reads certificates, checks them and makes them.
 #![tactic(auto)]
 
+mod laws;
 mod parts;
 
+pub use laws::{one_failure, search_meets_checks, yes_is_best};
 pub use parts::CertAnswer;

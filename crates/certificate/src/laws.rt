@@ -1,0 +1,42 @@
+//! What a certificate is worth, as laws for the crates above: a function calls the law it stands on.
+ghost use Rattle.certificate.specs.CertOf.{SearchMeetsChecks, YesIsBest};
+ghost use Rattle.certificate.specs.Certificates.{Certificate};
+ghost use Rattle.certificate.specs.Checks.{OneFailure};
+ghost use Rattle.fare_law.specs.declared.requests.Request.{Request};
+ghost use Rattle.fare_law.specs.Book.{Book};
+
+use residual_keys::{nothing_lost, one_best, one_next, runs_are_short};
+use ticket_order::{codes_tell, order_laws};
+
+/// Of the checks of a certificate one is the first that fails, at one place, and none where they hold.
+pub fn one_failure()
+    ensures { (c : Certificate) (b : Book) (q : Request) → OneFailure c b q }
+{}
+
+/// Yes implies best: where the checks hold of a certificate, its answers are the best tickets of the
+/// book and the request, in their order and at their prices. Nothing is asked of the book, and of the
+/// request only what the checks themselves ask: it has a first slice, since the root is a row.
+pub fn yes_is_best()
+    ensures { (c : Certificate) (b : Book) (q : Request) → YesIsBest c b q }
+{
+    nothing_lost();
+    one_next();
+    one_best();
+    runs_are_short();
+    codes_tell();
+    order_laws();
+}
+
+/// The certificate of a search meets the checks, where the timetable's flights stand in the order of
+/// their departures, the live fares' keys are well formed, and the request has a first slice and asks
+/// for at least one ticket.
+pub fn search_meets_checks()
+    ensures { (c : Certificate) (b : Book) (q : Request) → SearchMeetsChecks c b q }
+{
+    nothing_lost();
+    one_next();
+    one_best();
+    runs_are_short();
+    codes_tell();
+    order_laws();
+}
