@@ -3,6 +3,8 @@
 
 mod laws;
 mod parts;
+mod residual;
 
 pub use laws::{best_runs, nothing_lost, one_best, one_next, residual_order, runs_are_short};
 pub use parts::TicketPart;
+pub use residual::Residual;
