@@ -14,8 +14,8 @@ pub returns : goal.returns
 returns c =
     let i = c.t1-1.inside in
     let j = c.t2-1.inside in
-    let s = slots i.unit1 i.unit2 c.t1-1.invariant.0 in
-    let t = slots j.unit1 j.unit2 c.t2-1.invariant.0 in
+    let s = slots i.unit1 i.unit2 c.t1-1.invariant.turn in
+    let t = slots j.unit1 j.unit2 c.t2-1.invariant.turn in
     let first = ap₂ (option_partial_cmp unit.partial_cmp-value.it) s.0 t.0 in
     let second = ap₂ (option_partial_cmp unit.partial_cmp-value.it) s.1 t.1 in
     subst (λ x. c.or_partial_cmp-3.result ≡ residual.partial_cmp-value.it x c.args.other.now) c.t1-1.view_is
