@@ -4,3 +4,4 @@ pub mod Searches
 pub mod OneNext
 pub mod ResidualOrder
 pub mod Short
+pub mod Kept

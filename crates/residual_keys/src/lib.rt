@@ -1,8 +1,11 @@
 //! Residuals of a search, their moves, and what runs of moves are to the lawful tickets.
 #![tactic(auto)]
 
+mod kept;
 mod laws;
 mod parts;
+mod residual;
 
 pub use laws::{best_runs, nothing_lost, one_best, one_next, residual_order, runs_are_short};
 pub use parts::TicketPart;
+pub use residual::{Chosen, Next, Residual};
