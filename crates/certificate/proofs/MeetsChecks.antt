@@ -4,7 +4,7 @@ use Rattle.certificate.specs.declared.parts.CertAnswer.{CertAnswer}
 use Rattle.certificate.specs.AnswerCheck.{AnswerIs, AnswerBelow, AnswersHold}
 use Rattle.certificate.specs.BoundCheck.{state_after}
 use Rattle.certificate.specs.CertOf.{CertOf, SearchMeetsChecks}
-use Rattle.certificate.specs.Certificates.{Certificate}
+use Rattle.certificate.specs.declared.parts.Certificate.{Certificate}
 use Rattle.certificate.specs.DepartureCheck.{CountsFor, Departs, DeparturesHold, LeadsFor}
 use Rattle.certificate.proofs.Known.{Known}
 use Rattle.certificate.proofs.ListFacts.{each_in, each_from, each_front, each_last, is_in, length_middle, matched_back, matched_left, matched_length, matched_pairs, matched_right, matched_turn, pair_last}

@@ -2,7 +2,8 @@
 use Rattle.std.proofs.Common.{◌≡◌, ◌⊎◌, ℕ, zero, suc, ◌<◌, List, [], ◌∷◌, ◌++◌, length, sym, refl, ap, ap₂, ◌∙◌, subst, inl, inr, arith}
 use Rattle.certificate.specs.AnswerCheck.{AnswerRight}
 use Rattle.certificate.specs.BoundCheck.{BoundRight}
-use Rattle.certificate.specs.Certificates.{Certificate, CertRow}
+use Rattle.certificate.specs.declared.parts.Certificate.{Certificate}
+use Rattle.certificate.specs.declared.parts.CertRow.{CertRow}
 use Rattle.certificate.specs.Checks.{Checks, FirstFailure, OneFailure}
 use Rattle.certificate.specs.DepartureCheck.{DeparturesFail, DeparturesHold}
 use Rattle.certificate.specs.InOrder.{AllRight, FirstWrong}

@@ -2,7 +2,8 @@
 use Rattle.std.proofs.Common.{◌≡◌, ℕ, ◌+◌, ◌≤◌, List, [], ◌∷◌, ◌++◌, map, slice_get, Option, Some, None, sym, refl, ap, subst}
 use Rattle.certificate.specs.BoundCheck.{state_after, BoundWithin, BoundsHold, EndsHold, StepsHold}
 use Rattle.certificate.specs.CertOf.{CertOf}
-use Rattle.certificate.specs.Certificates.{Certificate, CertRow}
+use Rattle.certificate.specs.declared.parts.Certificate.{Certificate}
+use Rattle.certificate.specs.declared.parts.CertRow.{CertRow}
 use Rattle.certificate.specs.RowCheck.{IsRoot, RootIsRow, RowsHold}
 use Rattle.certificate.proofs.Known.{Known}
 use Rattle.certificate.proofs.ListFacts.{each_in, in_map, is_in, map_in, map_pairs, pair_last}

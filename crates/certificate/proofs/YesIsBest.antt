@@ -4,7 +4,8 @@ use Rattle.certificate.specs.declared.parts.CertAnswer.{CertAnswer}
 use Rattle.certificate.specs.AnswerCheck.{AnswerIs, AnswerBelow, AnswerRight}
 use Rattle.certificate.specs.BoundCheck.{state_after, BoundRight, EndsHold, StepsHold}
 use Rattle.certificate.specs.CertOf.{YesIsBest}
-use Rattle.certificate.specs.Certificates.{Certificate, CertRow}
+use Rattle.certificate.specs.declared.parts.Certificate.{Certificate}
+use Rattle.certificate.specs.declared.parts.CertRow.{CertRow}
 use Rattle.certificate.specs.Checks.{Checks}
 use Rattle.certificate.specs.DepartureCheck.{DeparturesHold, IsFront, LeadsFor, NoneTakes}
 use Rattle.certificate.specs.RowCheck.{IsRoot, RootIsRow}

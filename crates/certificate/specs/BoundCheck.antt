@@ -1,6 +1,6 @@
 -- The bound check: what a move leads to is a row, and no bound is above what a move's price and the next bound allow.
 use Rattle.std.specs.Prelude.{◌≡◌, ℕ, ◌+◌, ◌≤◌, List, [], Some, None}
-use Rattle.certificate.specs.Certificates.{CertRow}
+use Rattle.certificate.specs.declared.parts.CertRow.{CertRow}
 use Rattle.certificate.specs.InOrder.{AllRight, FirstWrong}
 use Rattle.fare_law.specs.declared.flights.Flight.{Flight}
 use Rattle.fare_law.specs.declared.moves.Move.{Move}

@@ -1,7 +1,7 @@
 -- The certificate of a search, and what a certificate is worth.
 use Rattle.std.specs.Prelude.{◌≡◌, ◌≤◌, List, length, map, Some, slice_get}
 use Rattle.certificate.specs.AnswerCheck.{AnswerIs}
-use Rattle.certificate.specs.Certificates.{Certificate}
+use Rattle.certificate.specs.declared.parts.Certificate.{Certificate}
 use Rattle.certificate.specs.Checks.{Checks}
 use Rattle.fare_law.specs.declared.requests.Request.{Request}
 use Rattle.fare_law.specs.declared.requests.Slice.{Slice}

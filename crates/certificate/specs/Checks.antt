@@ -2,7 +2,7 @@
 use Rattle.std.specs.Prelude.{◌≡◌, ◌⊎◌, ℕ}
 use Rattle.certificate.specs.AnswerCheck.{AnswersHold, AnswersFail}
 use Rattle.certificate.specs.BoundCheck.{BoundsHold, BoundsFail}
-use Rattle.certificate.specs.Certificates.{Certificate}
+use Rattle.certificate.specs.declared.parts.Certificate.{Certificate}
 use Rattle.certificate.specs.DepartureCheck.{DeparturesHold, DeparturesFail}
 use Rattle.certificate.specs.RequestCheck.{IsOf, IsOfAnother}
 use Rattle.certificate.specs.RowCheck.{RowsHold, RowsFail}

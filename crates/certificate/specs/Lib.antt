@@ -1,5 +1,4 @@
 pub mod InOrder
-pub mod Certificates
 pub mod RowCheck
 pub mod BoundCheck
 pub mod AnswerCheck

@@ -1,6 +1,6 @@
 -- The request check: the certificate is of the version and the request that are checked.
 use Rattle.std.specs.Prelude.{◌≡◌, ◌≢◌, ◌⊎◌, ℕ, length}
-use Rattle.certificate.specs.Certificates.{Certificate}
+use Rattle.certificate.specs.declared.parts.Certificate.{Certificate}
 use Rattle.fare_law.specs.declared.requests.Request.{Request}
 use Rattle.fare_law.specs.Book.{Book}
 

@@ -1,6 +1,6 @@
 -- The row check: the rows ascend, fit the request, and have the root among them.
 use Rattle.std.specs.Prelude.{◌≡◌, ◌⊎◌, ℕ, List, [], slice_get, Some, None}
-use Rattle.certificate.specs.Certificates.{CertRow}
+use Rattle.certificate.specs.declared.parts.CertRow.{CertRow}
 use Rattle.certificate.specs.InOrder.{AllRight, FirstWrong, IfLast}
 use Rattle.fare_law.specs.declared.requests.Request.{Request}
 use Rattle.fare_law.specs.Book.{Book}

@@ -1,6 +1,6 @@
 //! What a certificate is worth, as laws for the crates above: a function calls the law it stands on.
 ghost use Rattle.certificate.specs.CertOf.{SearchMeetsChecks, YesIsBest};
-ghost use Rattle.certificate.specs.Certificates.{Certificate};
+ghost use Rattle.certificate.specs.declared.parts.Certificate.{Certificate};
 ghost use Rattle.certificate.specs.Checks.{OneFailure};
 ghost use Rattle.fare_law.specs.declared.requests.Request.{Request};
 ghost use Rattle.fare_law.specs.Book.{Book};

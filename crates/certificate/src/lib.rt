@@ -7,4 +7,4 @@ mod laws;
 mod parts;
 
 pub use laws::{one_failure, search_meets_checks, yes_is_best};
-pub use parts::CertAnswer;
+pub use parts::{CertAnswer, CertRow, Certificate};
