@@ -6,10 +6,11 @@ use Rattle.fare_law.specs.declared.tickets.Ticket.{Ticket}
 use Rattle.fare_law.specs.Book.{Book}
 use Rattle.fare_law.specs.Lists.{Each, IsPrefix}
 use Rattle.fare_law.specs.Moves.{moves_of, run_code}
-use Rattle.fare_law.specs.Order.{Before, Cheaper, HasKeys, Less, code}
+use Rattle.fare_law.specs.Order.{Before, Best, Cheaper, HasKeys, Less, code}
 use Rattle.flight_paths.specs.Positions.{Ascending}
 use Rattle.residual_keys.specs.NothingLost.{OneTicket, RunsAreTickets, TicketsAreRuns}
 use Rattle.residual_keys.specs.OneNext.{MoveLeavesOne, RunGoesOn, RunHasKeys}
+use Rattle.residual_keys.specs.ResidualOrder.{IsStrictOrder, StateBefore}
 use Rattle.residual_keys.specs.Short.{ReachedFits}
 use Rattle.ticket_order.specs.Coding.{Coded}
 
@@ -22,6 +23,8 @@ pub record Known : Type 0 where
   pub goes_on : (b : Book) (q : Request) → RunGoesOn b q
   pub keys : (b : Book) (q : Request) → HasKeys b → RunHasKeys b q
   pub fits : (b : Book) (q : Request) → ReachedFits b q
+  pub one_best : (b : Book) (q : Request) → HasKeys b → (ts us : List Ticket) → Best b q ts → Best b q us → ts ≡ us
+  pub order : IsStrictOrder StateBefore
   pub never : (b : Book) (q : Request) (t : Ticket) → Cheaper b q t t → ⊥
   pub front : (xs ys : List Move) (more : List ℕ) → Each Coded xs → Each Coded ys → run_code ys ≡ run_code xs ++ more → IsPrefix xs ys
   pub joined : (xs ys : List Move) → run_code (xs ++ ys) ≡ run_code xs ++ run_code ys

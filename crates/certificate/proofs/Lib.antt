@@ -6,3 +6,4 @@ pub mod Tickets
 pub mod YesIsBest
 pub mod SearchRows
 pub mod MeetsChecks
+pub mod OneCertificate

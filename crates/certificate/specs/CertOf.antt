@@ -31,3 +31,7 @@ YesIsBest c b q = Checks c b q → (tickets : List Ticket) × Best b q tickets �
 abbrev pub SearchMeetsChecks : Certificate → Book → Request → Type 0
 SearchMeetsChecks c b q =
     Ascending b.timetable.flights → HasKeys b → 1 ≤ q.best → (first : Slice) → slice_get q.slices 0 ≡ Some first → CertOf b q c → Checks c b q
+
+-- The certificate of a search is one.
+abbrev pub OneCertificate : Book → Request → Type 0
+OneCertificate b q = HasKeys b → (c d : Certificate) → CertOf b q c → CertOf b q d → c ≡ d

@@ -1,11 +1,11 @@
 //! What a certificate is worth, as laws for the crates above: a function calls the law it stands on.
-ghost use Rattle.certificate.specs.CertOf.{SearchMeetsChecks, YesIsBest};
+ghost use Rattle.certificate.specs.CertOf.{OneCertificate, SearchMeetsChecks, YesIsBest};
 ghost use Rattle.certificate.specs.declared.parts.Certificate.{Certificate};
 ghost use Rattle.certificate.specs.Checks.{OneFailure};
 ghost use Rattle.fare_law.specs.declared.requests.Request.{Request};
 ghost use Rattle.fare_law.specs.Book.{Book};
 
-use residual_keys::{nothing_lost, one_best, one_next, runs_are_short};
+use residual_keys::{nothing_lost, one_best, one_next, residual_order, runs_are_short};
 use ticket_order::{codes_tell, order_laws};
 
 /// Of the checks of a certificate one is the first that fails, at one place, and none where they hold.
@@ -22,6 +22,7 @@ pub fn yes_is_best()
     nothing_lost();
     one_next();
     one_best();
+    residual_order();
     runs_are_short();
     codes_tell();
     order_laws();
@@ -36,6 +37,20 @@ pub fn search_meets_checks()
     nothing_lost();
     one_next();
     one_best();
+    residual_order();
+    runs_are_short();
+    codes_tell();
+    order_laws();
+}
+
+/// A book and a request have one certificate of a search, where the live fares' keys are well formed.
+pub fn one_certificate()
+    ensures { (b : Book) (q : Request) → OneCertificate b q }
+{
+    nothing_lost();
+    one_next();
+    one_best();
+    residual_order();
     runs_are_short();
     codes_tell();
     order_laws();

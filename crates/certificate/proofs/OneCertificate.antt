@@ -1,0 +1,107 @@
+-- The certificate of a search is one.
+use Rattle.std.proofs.Common.{◌≡◌, ℕ, ◌≤◌, arith, List, [], ◌∷◌, map, Option, Some, None, sym, refl, ap, ap₂, ◌∙◌, subst, inl, inr}
+use Rattle.certificate.specs.declared.parts.CertAnswer.{CertAnswer}
+use Rattle.certificate.specs.declared.parts.CertRow.{CertRow}
+use Rattle.certificate.specs.declared.parts.Certificate.{Certificate}
+use Rattle.certificate.specs.AnswerCheck.{AnswerIs}
+use Rattle.certificate.specs.CertOf.{CertOf, OneCertificate}
+use Rattle.certificate.proofs.Known.{Known}
+use Rattle.certificate.proofs.ListFacts.{each_in}
+use Rattle.certificate.proofs.OneFirst.{neither_less}
+use Rattle.certificate.proofs.Tickets.{costs_one}
+use Rattle.fare_law.specs.declared.requests.Request.{Request}
+use Rattle.fare_law.specs.declared.tickets.Ticket.{Ticket}
+use Rattle.fare_law.specs.Book.{Book}
+use Rattle.fare_law.specs.Lists.{Each, EachPair, IsIn, Matched}
+use Rattle.fare_law.specs.Order.{Best}
+use Rattle.residual_keys.specs.ResidualOrder.{IsStrictOrder, StateBefore}
+use Rattle.residual_keys.specs.Residuals.{State}
+use Rattle.residual_keys.specs.Searches.{Least}
+
+-- two ascending lists with the same elements are one
+module _ {X : Type 0} (Below : X → X → Type 0) (strict : IsStrictOrder Below) where
+  first_below : (x : X) (xs : List X) → EachPair Below (x ∷ xs) → Each (Below x) xs
+  first_below x [] h = tt
+  first_below x (y ∷ ys) h = (h.0, more y ys h.0 (first_below y ys h.1))
+    where
+      more : (y : X) (zs : List X) → Below x y → Each (Below y) zs → Each (Below x) zs
+      more y [] l k = tt
+      more y (z ∷ zs) l k = (strict.trans x y z l k.0, more y zs l k.1)
+
+  pairs_rest : (x : X) (xs : List X) → EachPair Below (x ∷ xs) → EachPair Below xs
+  pairs_rest x [] h = tt
+  pairs_rest x (y ∷ ys) h = h.1
+
+  firsts : (x y : X) (xs ys : List X) → Each (Below x) xs → Each (Below y) ys → IsIn x (y ∷ ys) → IsIn y (x ∷ xs) → x ≡ y
+  firsts x y xs ys h k (inl e) j = e
+  firsts x y xs ys h k (inr i) (inl e) = sym e
+  firsts x y xs ys h k (inr i) (inr j) = absurd (strict.never x (strict.trans x y x (each_in (Below x) xs h y j) (each_in (Below y) ys k x i)))
+
+  in_rest : (x y : X) (xs ys : List X) → x ≡ y → Each (Below x) xs → (z : X) → IsIn z xs → IsIn z (y ∷ ys) → IsIn z ys
+  in_rest x y xs ys e h z i (inl f) = absurd (strict.never x (subst (Below x) (f ∙ sym e) (each_in (Below x) xs h z i)))
+  in_rest x y xs ys e h z i (inr j) = j
+
+  ascending_one : (xs ys : List X) → EachPair Below xs → EachPair Below ys → ((z : X) → IsIn z xs → IsIn z ys) → ((z : X) → IsIn z ys → IsIn z xs) → xs ≡ ys
+  ascending_one [] [] h k to from = refl
+  ascending_one [] (y ∷ ys) h k to from = absurd (from y (inl refl))
+  ascending_one (x ∷ xs) [] h k to from = absurd (to x (inl refl))
+  ascending_one (x ∷ xs) (y ∷ ys) h k to from =
+      let below = first_below x xs h in
+      let above = first_below y ys k in
+      let e = firsts x y xs ys below above (to x (inl refl)) (from y (inl refl)) in
+      ap₂ (λ z zs. z ∷ zs) e
+      (ascending_one xs ys (pairs_rest x xs h) (pairs_rest y ys k) (λ z i. in_rest x y xs ys e below z i (to z (inr i))) (λ z i. in_rest y x ys xs (sym e) above z i (from z (inr i))))
+
+least_one : (b : Book) (q : Request) (x : State) (o p : Option ℕ) → Least b q x o → Least b q x p → o ≡ p
+least_one b q x None None h k = refl
+least_one b q x None (Some n) h k = absurd (h k.0.0 n k.0.1)
+least_one b q x (Some m) None h k = absurd (k h.0.0 m h.0.1)
+least_one b q x (Some m) (Some n) h k = ap Some (neither_less m n (λ l. absurd (omega (arith, l, k.1 h.0.0 m h.0.1))) (λ l. absurd (omega (arith, l, h.1 k.0.0 n k.0.1))))
+
+rows_one : (b : Book) (q : Request) (rows others : List CertRow) → map (λ row. row.residual) rows ≡ map (λ row. row.residual) others → Each (λ row. Least b q row.residual row.bound) rows → Each (λ row. Least b q row.residual row.bound) others → rows ≡ others
+rows_one b q [] [] e h k = refl
+rows_one b q [] (y ∷ ys) e h k = absurd (none_some e)
+  where
+    none_some : [] ≡ y.residual ∷ map (λ row. row.residual) ys → ⊥
+    none_some e = cc
+rows_one b q (x ∷ xs) [] e h k = absurd (some_none e)
+  where
+    some_none : x.residual ∷ map (λ row. row.residual) xs ≡ [] → ⊥
+    some_none e = cc
+rows_one b q (x ∷ xs) (y ∷ ys) e h k =
+    let r = first e in
+    let bounds = least_one b q y.residual x.bound y.bound (subst (λ z. Least b q z x.bound) r h.0) k.0 in
+    ap₂ (λ z zs. z ∷ zs) (λ i. let row : CertRow = record { residual = r i; bound = bounds i } in row) (rows_one b q xs ys (rest e) h.1 k.1)
+  where
+    first : x.residual ∷ map (λ row. row.residual) xs ≡ y.residual ∷ map (λ row. row.residual) ys → x.residual ≡ y.residual
+    first e = cc
+
+    rest : x.residual ∷ map (λ row. row.residual) xs ≡ y.residual ∷ map (λ row. row.residual) ys → map (λ row. row.residual) xs ≡ map (λ row. row.residual) ys
+    rest e = cc
+
+module _ (known : Known) (b : Book) (q : Request) where
+  answer_one : (a c : CertAnswer) (t : Ticket) → AnswerIs b q a t → AnswerIs b q c t → a ≡ c
+  answer_one a c t h k =
+      let price = costs_one known b q t a.price c.price h.2 k.2 in
+      let moves = sym h.1 ∙ k.1 in
+      λ i. record { price = price i; moves = moves i }
+
+  answers_one : (xs ys : List CertAnswer) (ts : List Ticket) → Matched (AnswerIs b q) xs ts → Matched (AnswerIs b q) ys ts → xs ≡ ys
+  answers_one [] [] [] h k = refl
+  answers_one [] [] (t ∷ ts) h k = absurd h
+  answers_one [] (y ∷ ys) [] h k = absurd k
+  answers_one [] (y ∷ ys) (t ∷ ts) h k = absurd h
+  answers_one (x ∷ xs) ys [] h k = absurd h
+  answers_one (x ∷ xs) [] (t ∷ ts) h k = absurd k
+  answers_one (x ∷ xs) (y ∷ ys) (t ∷ ts) h k = ap₂ (λ z zs. z ∷ zs) (answer_one x y t h.0 k.0) (answers_one xs ys ts h.1 k.1)
+
+  pub one_certificate : OneCertificate b q
+  one_certificate keys c d h k =
+      let tickets = known.one_best b q keys h.tickets k.tickets h.best k.best in
+      let answers = answers_one c.answers d.answers k.tickets (subst (Matched (AnswerIs b q) c.answers) tickets h.answers) k.answers in
+      let residuals = ascending_one StateBefore known.order (map (λ row. row.residual) c.rows) (map (λ row. row.residual) d.rows) h.need.in_order k.need.in_order
+      (λ x i. (k.need.are x).1 ((h.need.are x).0 i)) (λ x i. (h.need.are x).1 ((k.need.are x).0 i)) in
+      let rows = rows_one b q c.rows d.rows residuals h.bounds k.bounds in
+      let number = h.number ∙ sym k.number in
+      let request = h.request ∙ sym k.request in
+      λ i. record { number = number i; request = request i; answers = answers i; rows = rows i }
