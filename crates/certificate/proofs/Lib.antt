@@ -7,3 +7,5 @@ pub mod YesIsBest
 pub mod SearchRows
 pub mod MeetsChecks
 pub mod OneCertificate
+pub mod OneWayMoves
+pub mod OneWayChecks

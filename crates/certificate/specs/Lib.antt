@@ -6,3 +6,4 @@ pub mod DepartureCheck
 pub mod RequestCheck
 pub mod Checks
 pub mod CertOf
+pub mod OneWay

@@ -1,7 +1,8 @@
 //! What a certificate is worth, as laws for the crates above: a function calls the law it stands on.
 ghost use Rattle.certificate.specs.CertOf.{OneCertificate, SearchMeetsChecks, YesIsBest};
 ghost use Rattle.certificate.specs.declared.parts.Certificate.{Certificate};
-ghost use Rattle.certificate.specs.Checks.{OneFailure};
+ghost use Rattle.certificate.specs.Checks.{Checks, FirstFailure, OneFailure};
+ghost use Rattle.certificate.specs.OneWay.{one_way_book, one_way_certificate, one_way_request};
 ghost use Rattle.fare_law.specs.declared.requests.Request.{Request};
 ghost use Rattle.fare_law.specs.Book.{Book};
 
@@ -54,4 +55,13 @@ pub fn one_certificate()
     runs_are_short();
     codes_tell();
     order_laws();
+}
+
+/// A worked case of one flight and one fare: the certificate with the fare's amount as the bound of its
+/// one row meets the checks, and with one more than that the bound check fails at row 1.
+pub fn one_way_case()
+    ensures meets { Checks (one_way_certificate 20000) one_way_book one_way_request }
+    ensures refused { FirstFailure (one_way_certificate 20001) one_way_book one_way_request 2 1 }
+{
+    nothing_lost();
 }

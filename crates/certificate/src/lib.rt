@@ -6,5 +6,5 @@
 mod laws;
 mod parts;
 
-pub use laws::{one_certificate, one_failure, search_meets_checks, yes_is_best};
+pub use laws::{one_certificate, one_failure, one_way_case, search_meets_checks, yes_is_best};
 pub use parts::{CertAnswer, CertRow, Certificate};
