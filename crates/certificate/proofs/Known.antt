@@ -4,13 +4,14 @@ use Rattle.fare_law.specs.declared.moves.Move.{Move}
 use Rattle.fare_law.specs.declared.requests.Request.{Request}
 use Rattle.fare_law.specs.declared.tickets.Ticket.{Ticket}
 use Rattle.fare_law.specs.Book.{Book}
-use Rattle.fare_law.specs.Lists.{Each, IsPrefix}
+use Rattle.fare_law.specs.Lists.{Each, IsPrefix, Matched}
 use Rattle.fare_law.specs.Moves.{moves_of, run_code}
 use Rattle.fare_law.specs.Order.{Before, Best, Cheaper, HasKeys, Less, code}
 use Rattle.flight_paths.specs.Positions.{Ascending}
 use Rattle.residual_keys.specs.NothingLost.{OneTicket, RunsAreTickets, TicketsAreRuns}
 use Rattle.residual_keys.specs.OneNext.{MoveLeavesOne, RunGoesOn, RunHasKeys}
 use Rattle.residual_keys.specs.ResidualOrder.{IsStrictOrder, StateBefore}
+use Rattle.residual_keys.specs.Searches.{BestRuns, Drawn, TicketOf}
 use Rattle.residual_keys.specs.Short.{ReachedFits}
 use Rattle.ticket_order.specs.Coding.{Coded}
 
@@ -23,6 +24,7 @@ pub record Known : Type 0 where
   pub goes_on : (b : Book) (q : Request) → RunGoesOn b q
   pub keys : (b : Book) (q : Request) → HasKeys b → RunHasKeys b q
   pub fits : (b : Book) (q : Request) → ReachedFits b q
+  pub best_tickets : (b : Book) (q : Request) → Ascending b.timetable.flights → (ds : List Drawn) → BestRuns b q q.best ds → (ts : List Ticket) × Matched (TicketOf b q) ds ts × Best b q ts
   pub one_best : (b : Book) (q : Request) → HasKeys b → (ts us : List Ticket) → Best b q ts → Best b q us → ts ≡ us
   pub order : IsStrictOrder StateBefore
   pub never : (b : Book) (q : Request) (t : Ticket) → Cheaper b q t t → ⊥

@@ -9,3 +9,4 @@ pub mod MeetsChecks
 pub mod OneCertificate
 pub mod OneWayMoves
 pub mod OneWayChecks
+pub mod ByRuns

@@ -146,3 +146,22 @@ pub map_pairs : {X Y : Type 0} (f : X → Y) (R : Y → Y → Type 0) (xs : List
 map_pairs f R [] h = tt
 map_pairs f R (x ∷ []) h = tt
 map_pairs f R (x ∷ y ∷ ys) h = (h.0, map_pairs f R (y ∷ ys) h.1)
+
+pub pairs_map : {X Y : Type 0} (f : X → Y) (R : Y → Y → Type 0) (xs : List X) → EachPair (λ x y. R (f x) (f y)) xs → EachPair R (map f xs)
+pairs_map f R [] h = tt
+pairs_map f R (x ∷ []) h = tt
+pairs_map f R (x ∷ y ∷ ys) h = (h.0, pairs_map f R (y ∷ ys) h.1)
+
+pub each_map : {X Y : Type 0} (f : X → Y) (P : Y → Type 0) (xs : List X) → Each (λ x. P (f x)) xs → Each P (map f xs)
+each_map f P [] h = tt
+each_map f P (x ∷ xs) h = (h.0, each_map f P xs h.1)
+
+pub matched_map : {X Y Z : Type 0} (f : X → Y) (R : Y → Z → Type 0) (xs : List X) (zs : List Z) → Matched R (map f xs) zs → Matched (λ x z. R (f x) z) xs zs
+matched_map f R [] [] m = tt
+matched_map f R [] (z ∷ zs) m = absurd m
+matched_map f R (x ∷ xs) [] m = absurd m
+matched_map f R (x ∷ xs) (z ∷ zs) m = (m.0, matched_map f R xs zs m.1)
+
+pub length_map : {X Y : Type 0} (f : X → Y) (xs : List X) → length (map f xs) ≡ length xs
+length_map f [] = refl
+length_map f (x ∷ xs) = ap suc (length_map f xs)

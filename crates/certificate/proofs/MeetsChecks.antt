@@ -34,19 +34,24 @@ leads_price b q r x (m ∷ front) ms price further (fs, p, at, us, rest, mv, h, 
     sums e = omega arith
 
 module _ (known : Known) (b : Book) (q : Request) (c : Certificate) (of : CertOf b q c) where
+  pub answers_ascend : EachPair AnswerBelow c.answers
+  answers_ascend = matched_pairs (λ t a. AnswerIs b q a t) (Cheaper b q) AnswerBelow (λ t u a d. below known b q a d t u) of.tickets c.answers (matched_turn (AnswerIs b q) c.answers of.tickets of.answers) of.best.ascending
+
+  pub answers_few : length c.answers ≤ q.best
+  answers_few = omega (arith, of.best.few, matched_length (AnswerIs b q) c.answers of.tickets of.answers)
+
   answers_hold : AnswersHold b q c.answers
   answers_hold before a after split =
       let t = matched_right (AnswerIs b q) c.answers of.tickets of.answers a (is_in c.answers before a after split) in
       record {
-        few = omega (arith, of.best.few, matched_length (AnswerIs b q) c.answers of.tickets of.answers, ap length split, length_middle before a after);
+        few = omega (arith, answers_few, ap length split, length_middle before a after);
         lawful = (t.0, t.2);
-        greater = pair_last AnswerBelow c.answers before a after
-        (matched_pairs (λ t a. AnswerIs b q a t) (Cheaper b q) AnswerBelow (λ t u a d. below known b q a d t u) of.tickets c.answers (matched_turn (AnswerIs b q) c.answers of.tickets of.answers) of.best.ascending) split;
+        greater = pair_last AnswerBelow c.answers before a after answers_ascend split;
       }
 
   module _ (asc : Ascending b.timetable.flights) where
     -- a run that no answer has comes after all of as many answers as are asked for
-    comes_after : (ms : List Move) (price : ℕ) → RunFromRoot b q ms price → ((a : CertAnswer) → IsIn a c.answers → a.moves ≡ ms → ⊥)
+    pub comes_after : (ms : List Move) (price : ℕ) → RunFromRoot b q ms price → ((a : CertAnswer) → IsIn a c.answers → a.moves ≡ ms → ⊥)
         → Each (λ a. Before a.price (run_code a.moves) price (run_code ms)) c.answers × (length c.answers ≡ q.best)
     comes_after ms price run none =
         let t = known.runs b q asc ms price run in
@@ -59,7 +64,7 @@ module _ (known : Known) (b : Book) (q : Request) (c : Certificate) (of : CertOf
     counts_run : (x : State) (m : Move) (last : ℕ) → CountsFor b q c.rows x m last → (rest : List Move) × Run b q x (m ∷ rest) last
     counts_run x m last (inl (fs, p, mv, e)) = ([], (fs, p, mv, e))
     counts_run x m last (inr (fs, p, at, us, row, bound, mv, i, s, k, e)) =
-        let r = run_at b q row.residual row.bound bound (least known b q c of row i) k in
+        let r = run_at b q row.residual row.bound bound (least known b q c.rows of.rows row i) k in
         (r.0, subst (λ n. Run b q x (m ∷ r.0) n) (sym e) (run_more b q x m r.0 fs p at us bound mv (subst (λ z. Run b q z r.0 bound) s r.1)))
 
     answer_coded : HasKeys b → (a : CertAnswer) → IsIn a c.answers → Each Coded a.moves
@@ -97,9 +102,9 @@ module _ (known : Known) (b : Book) (q : Request) (c : Certificate) (of : CertOf
 
 pub search_meets_checks : Known → (c : Certificate) (b : Book) (q : Request) → SearchMeetsChecks c b q
 search_meets_checks known c b q asc keys one first e of = record {
-  rows = rows_hold known b q c of first e;
-  bounds = bounds_hold known b q c of;
+  rows = rows_hold known b q c.rows of.rows first e;
+  bounds = bounds_hold known b q c.rows of.rows;
   answers = answers_hold known b q c of;
   departures = departures_hold known b q c of asc keys one;
-  request = (of.number, of.request);
+  request = of.of;
 }

@@ -99,9 +99,9 @@ module _ (known : Known) (b : Book) (q : Request) where
   one_certificate keys c d h k =
       let tickets = known.one_best b q keys h.tickets k.tickets h.best k.best in
       let answers = answers_one c.answers d.answers k.tickets (subst (Matched (AnswerIs b q) c.answers) tickets h.answers) k.answers in
-      let residuals = ascending_one StateBefore known.order (map (λ row. row.residual) c.rows) (map (λ row. row.residual) d.rows) h.need.in_order k.need.in_order
-      (λ x i. (k.need.are x).1 ((h.need.are x).0 i)) (λ x i. (h.need.are x).1 ((k.need.are x).0 i)) in
-      let rows = rows_one b q c.rows d.rows residuals h.bounds k.bounds in
-      let number = h.number ∙ sym k.number in
-      let request = h.request ∙ sym k.request in
+      let residuals = ascending_one StateBefore known.order (map (λ row. row.residual) c.rows) (map (λ row. row.residual) d.rows) h.rows.need.in_order k.rows.need.in_order
+      (λ x i. (k.rows.need.are x).1 ((h.rows.need.are x).0 i)) (λ x i. (h.rows.need.are x).1 ((k.rows.need.are x).0 i)) in
+      let rows = rows_one b q c.rows d.rows residuals h.rows.bounds k.rows.bounds in
+      let number = h.of.0 ∙ sym k.of.0 in
+      let request = h.of.1 ∙ sym k.of.1 in
       λ i. record { number = number i; request = request i; answers = answers i; rows = rows i }

@@ -1,8 +1,7 @@
 -- The certificate of a search meets the row check and the bound check.
 use Rattle.std.proofs.Common.{◌≡◌, ℕ, ◌+◌, ◌≤◌, List, [], ◌∷◌, ◌++◌, map, slice_get, Option, Some, None, sym, refl, ap, subst}
 use Rattle.certificate.specs.BoundCheck.{state_after, BoundWithin, BoundsHold, EndsHold, StepsHold}
-use Rattle.certificate.specs.CertOf.{CertOf}
-use Rattle.certificate.specs.declared.parts.Certificate.{Certificate}
+use Rattle.certificate.specs.CertOf.{RowsAre}
 use Rattle.certificate.specs.declared.parts.CertRow.{CertRow}
 use Rattle.certificate.specs.RowCheck.{IsRoot, RootIsRow, RowsHold}
 use Rattle.certificate.proofs.Known.{Known}
@@ -50,36 +49,36 @@ run_at b q x (Some k) bound h e = let s : k ≡ bound = some_same e in subst (λ
     some_same : Some k ≡ Some bound → k ≡ bound
     some_same e = cc
 
-module _ (known : Known) (b : Book) (q : Request) (c : Certificate) (of : CertOf b q c) where
-  row_of : (x : State) → Reached b q x → (row : CertRow) × IsIn row c.rows × (row.residual ≡ x)
-  row_of x h = in_map (λ row. row.residual) c.rows x ((of.need.are x).1 h)
+module _ (known : Known) (b : Book) (q : Request) (rows : List CertRow) (of : RowsAre b q rows) where
+  row_of : (x : State) → Reached b q x → (row : CertRow) × IsIn row rows × (row.residual ≡ x)
+  row_of x h = in_map (λ row. row.residual) rows x ((of.need.are x).1 h)
 
-  reached : (row : CertRow) → IsIn row c.rows → Reached b q row.residual
-  reached row i = (of.need.are row.residual).0 (map_in (λ row. row.residual) c.rows row i)
+  reached : (row : CertRow) → IsIn row rows → Reached b q row.residual
+  reached row i = (of.need.are row.residual).0 (map_in (λ row. row.residual) rows row i)
 
-  pub least : (row : CertRow) → IsIn row c.rows → Least b q row.residual row.bound
-  least row i = each_in (λ row. Least b q row.residual row.bound) c.rows of.bounds row i
+  pub least : (row : CertRow) → IsIn row rows → Least b q row.residual row.bound
+  least row i = each_in (λ row. Least b q row.residual row.bound) rows of.bounds row i
 
-  pub rows_hold : (first : Slice) → slice_get q.slices 0 ≡ Some first → RowsHold b q c.rows
+  pub rows_hold : (first : Slice) → slice_get q.slices 0 ≡ Some first → RowsHold b q rows
   rows_hold first e = (
     λ before row after split. record {
-      greater = pair_last (λ x y. StateBefore x.residual y.residual) c.rows before row after (map_pairs (λ row. row.residual) StateBefore c.rows of.need.in_order) split;
-      fits = known.fits b q row.residual (reached row (is_in c.rows before row after split));
+      greater = pair_last (λ x y. StateBefore x.residual y.residual) rows before row after (map_pairs (λ row. row.residual) StateBefore rows of.need.in_order) split;
+      fits = known.fits b q row.residual (reached row (is_in rows before row after split));
     },
     root,
   )
     where
-      root : RootIsRow b q c.rows
+      root : RootIsRow b q rows
       root =
           let at = position_before b 0 first None in
           let is : before_slice b 0 (slice_get q.slices 0) None ≡ Some at = ap (λ o. before_slice b 0 o None) e in
           let r = row_of (record { at = at; units = []; part = no_part }) ([], (at, is, refl)) in
           (r.0, r.1, (at, is, r.2))
 
-  ends : (row : CertRow) → IsIn row c.rows → EndsHold b q row
+  ends : (row : CertRow) → IsIn row rows → EndsHold b q row
   ends row i m fs p mv = bound_at b q row (m ∷ []) (price_of fs p) (least row i) (fs, p, mv, refl)
 
-  steps : (row : CertRow) → IsIn row c.rows → StepsHold b q c.rows row
+  steps : (row : CertRow) → IsIn row rows → StepsHold b q rows row
   steps row i m fs p at us mv =
       let from = reached row i in
       let next = row_of (state_after row.residual m p at us) (from.0 ++ m ∷ [], (from.1.0, from.1.1, leads_more b q _ row.residual from.0 m fs p at us from.1.2 mv)) in (
@@ -91,5 +90,5 @@ module _ (known : Known) (b : Book) (q : Request) (c : Certificate) (of : CertOf
             bound_at b q row (m ∷ r.0) (price_of fs p + further) (least row i) (run_more b q row.residual m r.0 fs p at us further mv (subst (λ z. Run b q z r.0 further) next.2 r.1)),
       )
 
-  pub bounds_hold : BoundsHold b q c.rows
-  bounds_hold before row after split = let i = is_in c.rows before row after split in (ends row i, steps row i)
+  pub bounds_hold : BoundsHold b q rows
+  bounds_hold before row after split = let i = is_in rows before row after split in (ends row i, steps row i)

@@ -1,12 +1,12 @@
 //! What a certificate is worth, as laws for the crates above: a function calls the law it stands on.
-ghost use Rattle.certificate.specs.CertOf.{OneCertificate, SearchMeetsChecks, YesIsBest};
+ghost use Rattle.certificate.specs.CertOf.{OneCertificate, SameByRuns, SearchMeetsChecks, YesIsBest};
 ghost use Rattle.certificate.specs.declared.parts.Certificate.{Certificate};
 ghost use Rattle.certificate.specs.Checks.{Checks, FirstFailure, OneFailure};
 ghost use Rattle.certificate.specs.OneWay.{one_way_book, one_way_certificate, one_way_request};
 ghost use Rattle.fare_law.specs.declared.requests.Request.{Request};
 ghost use Rattle.fare_law.specs.Book.{Book};
 
-use residual_keys::{nothing_lost, one_best, one_next, residual_order, runs_are_short};
+use residual_keys::{best_runs, nothing_lost, one_best, one_next, residual_order, runs_are_short};
 use ticket_order::{codes_tell, order_laws};
 
 /// Of the checks of a certificate one is the first that fails, at one place, and none where they hold.
@@ -22,6 +22,7 @@ pub fn yes_is_best()
 {
     nothing_lost();
     one_next();
+    best_runs();
     one_best();
     residual_order();
     runs_are_short();
@@ -37,6 +38,7 @@ pub fn search_meets_checks()
 {
     nothing_lost();
     one_next();
+    best_runs();
     one_best();
     residual_order();
     runs_are_short();
@@ -50,6 +52,22 @@ pub fn one_certificate()
 {
     nothing_lost();
     one_next();
+    best_runs();
+    one_best();
+    residual_order();
+    runs_are_short();
+    codes_tell();
+    order_laws();
+}
+
+/// A certificate is that of a search by best tickets exactly where it is by the least runs from the
+/// root, where the timetable's flights stand in the order of their departures.
+pub fn same_by_runs()
+    ensures { (c : Certificate) (b : Book) (q : Request) → SameByRuns c b q }
+{
+    nothing_lost();
+    one_next();
+    best_runs();
     one_best();
     residual_order();
     runs_are_short();

@@ -6,5 +6,7 @@
 mod laws;
 mod parts;
 
-pub use laws::{one_certificate, one_failure, one_way_case, search_meets_checks, yes_is_best};
+pub use laws::{
+    one_certificate, one_failure, one_way_case, same_by_runs, search_meets_checks, yes_is_best,
+};
 pub use parts::{CertAnswer, CertRow, Certificate};

@@ -12,6 +12,7 @@ returns c = search_meets_checks (record {
   goes_on = c.one_next.ensures.further;
   keys = c.one_next.ensures.keys;
   fits = c.runs_are_short.ensures.fits;
+  best_tickets = c.best_runs.ensures.tickets;
   one_best = c.one_best.ensures.tickets;
   order = c.residual_order.ensures;
   never = c.one_best.ensures.never;
