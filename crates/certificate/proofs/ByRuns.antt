@@ -1,15 +1,14 @@
 -- The certificate of a search is the same by best tickets and by least runs.
-use Rattle.std.proofs.Common.{◌≡◌, ℕ, ◌≤◌, List, length, map, Some, sym, refl, ap, ◌∙◌, subst}
+use Rattle.std.proofs.Common.{◌≡◌, ◌≤◌, map, sym, ◌∙◌, subst}
 use Rattle.certificate.specs.declared.parts.CertAnswer.{CertAnswer}
 use Rattle.certificate.specs.declared.parts.Certificate.{Certificate}
-use Rattle.certificate.specs.AnswerCheck.{AnswerBelow, AnswerIs, run_of}
+use Rattle.certificate.specs.AnswerCheck.{AnswerIs, run_of}
 use Rattle.certificate.specs.CertOf.{CertOf, CertOfRuns, SameByRuns}
 use Rattle.certificate.proofs.Known.{Known}
 use Rattle.certificate.proofs.ListFacts.{each_from, each_map, length_map, map_in, matched_map, matched_right, pairs_map}
 use Rattle.certificate.proofs.MeetsChecks.{answers_ascend, answers_few, comes_after}
 use Rattle.certificate.proofs.Tickets.{costs_one}
 use Rattle.fare_law.specs.declared.requests.Request.{Request}
-use Rattle.fare_law.specs.declared.tickets.Ticket.{Ticket}
 use Rattle.fare_law.specs.Book.{Book}
 use Rattle.fare_law.specs.Lists.{IsIn}
 use Rattle.fare_law.specs.Order.{Costs}

@@ -1,18 +1,17 @@
 -- The certificate of a search meets the checks.
-use Rattle.std.proofs.Common.{◌≡◌, ℕ, ◌+◌, ◌≤◌, List, [], ◌∷◌, ◌++◌, length, slice_get, Some, sym, refl, ap, ◌∙◌, subst, inl, inr, arith, append_assoc}
+use Rattle.std.proofs.Common.{◌≡◌, ℕ, ◌+◌, ◌≤◌, List, [], ◌∷◌, ◌++◌, length, sym, ap, ◌∙◌, subst, inl, inr, arith, append_assoc}
 use Rattle.certificate.specs.declared.parts.CertAnswer.{CertAnswer}
 use Rattle.certificate.specs.AnswerCheck.{AnswerIs, AnswerBelow, AnswersHold}
 use Rattle.certificate.specs.BoundCheck.{state_after}
 use Rattle.certificate.specs.CertOf.{CertOf, SearchMeetsChecks}
 use Rattle.certificate.specs.declared.parts.Certificate.{Certificate}
-use Rattle.certificate.specs.DepartureCheck.{CountsFor, Departs, DeparturesHold, LeadsFor}
+use Rattle.certificate.specs.DepartureCheck.{CountsFor, DeparturesHold, LeadsFor}
 use Rattle.certificate.proofs.Known.{Known}
 use Rattle.certificate.proofs.ListFacts.{each_in, each_from, each_front, each_last, is_in, length_middle, matched_back, matched_left, matched_length, matched_pairs, matched_right, matched_turn, pair_last}
 use Rattle.certificate.proofs.SearchRows.{bounds_hold, least, rows_hold, run_at, run_more}
 use Rattle.certificate.proofs.Tickets.{below}
 use Rattle.fare_law.specs.declared.moves.Move.{Move}
 use Rattle.fare_law.specs.declared.requests.Request.{Request}
-use Rattle.fare_law.specs.declared.tickets.Ticket.{Ticket}
 use Rattle.fare_law.specs.Book.{Book}
 use Rattle.fare_law.specs.Lists.{Each, EachPair, IsIn}
 use Rattle.fare_law.specs.Moves.{moves_of, run_code}

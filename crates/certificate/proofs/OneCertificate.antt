@@ -1,19 +1,18 @@
--- The certificate of a search is one.
-use Rattle.std.proofs.Common.{◌≡◌, ℕ, ◌≤◌, arith, List, [], ◌∷◌, map, Option, Some, None, sym, refl, ap, ap₂, ◌∙◌, subst, inl, inr}
+-- The certificate of a search is one, and certificates that meet the checks have one list of answers.
+use Rattle.std.proofs.Common.{◌≡◌, ℕ, arith, List, [], ◌∷◌, map, Option, Some, None, sym, refl, ap, ap₂, ◌∙◌, subst, inl, inr}
 use Rattle.certificate.specs.declared.parts.CertAnswer.{CertAnswer}
 use Rattle.certificate.specs.declared.parts.CertRow.{CertRow}
-use Rattle.certificate.specs.declared.parts.Certificate.{Certificate}
 use Rattle.certificate.specs.AnswerCheck.{AnswerIs}
-use Rattle.certificate.specs.CertOf.{CertOf, OneCertificate}
+use Rattle.certificate.specs.CertOf.{OneCertificate, SameAnswers}
 use Rattle.certificate.proofs.Known.{Known}
 use Rattle.certificate.proofs.ListFacts.{each_in}
 use Rattle.certificate.proofs.OneFirst.{neither_less}
 use Rattle.certificate.proofs.Tickets.{costs_one}
+use Rattle.certificate.proofs.YesIsBest.{yes_is_best}
 use Rattle.fare_law.specs.declared.requests.Request.{Request}
 use Rattle.fare_law.specs.declared.tickets.Ticket.{Ticket}
 use Rattle.fare_law.specs.Book.{Book}
 use Rattle.fare_law.specs.Lists.{Each, EachPair, IsIn, Matched}
-use Rattle.fare_law.specs.Order.{Best}
 use Rattle.residual_keys.specs.ResidualOrder.{IsStrictOrder, StateBefore}
 use Rattle.residual_keys.specs.Residuals.{State}
 use Rattle.residual_keys.specs.Searches.{Least}
@@ -94,6 +93,12 @@ module _ (known : Known) (b : Book) (q : Request) where
   answers_one (x ∷ xs) ys [] h k = absurd h
   answers_one (x ∷ xs) [] (t ∷ ts) h k = absurd k
   answers_one (x ∷ xs) (y ∷ ys) (t ∷ ts) h k = ap₂ (λ z zs. z ∷ zs) (answer_one x y t h.0 k.0) (answers_one xs ys ts h.1 k.1)
+
+  pub same_answers : SameAnswers b q
+  same_answers keys c d h k =
+      let t = yes_is_best known c b q h in
+      let u = yes_is_best known d b q k in
+      answers_one c.answers d.answers u.0 (subst (Matched (AnswerIs b q) c.answers) (known.one_best b q keys t.0 u.0 t.1 u.1) t.2) u.2
 
   pub one_certificate : OneCertificate b q
   one_certificate keys c d h k =

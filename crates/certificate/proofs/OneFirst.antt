@@ -1,10 +1,10 @@
 -- There is one first failure, and none where the checks hold.
-use Rattle.std.proofs.Common.{◌≡◌, ◌⊎◌, ℕ, zero, suc, ◌<◌, List, [], ◌∷◌, ◌++◌, length, sym, refl, ap, ap₂, ◌∙◌, subst, inl, inr, arith}
+use Rattle.std.proofs.Common.{◌≡◌, ◌⊎◌, ℕ, zero, suc, ◌<◌, List, [], ◌∷◌, ◌++◌, length, sym, refl, ap, ap₂, ◌∙◌, inl, inr, arith}
 use Rattle.certificate.specs.AnswerCheck.{AnswerRight}
 use Rattle.certificate.specs.BoundCheck.{BoundRight}
 use Rattle.certificate.specs.declared.parts.Certificate.{Certificate}
 use Rattle.certificate.specs.declared.parts.CertRow.{CertRow}
-use Rattle.certificate.specs.Checks.{Checks, FirstFailure, OneFailure}
+use Rattle.certificate.specs.Checks.{OneFailure}
 use Rattle.certificate.specs.DepartureCheck.{DeparturesFail, DeparturesHold}
 use Rattle.certificate.specs.InOrder.{AllRight, FirstWrong}
 use Rattle.certificate.specs.RequestCheck.{IsOf, IsOfAnother}

@@ -1,10 +1,9 @@
--- The worked case: with the least price as its bound the certificate meets the checks, and with one more the bound check fails.
-use Rattle.std.proofs.Common.{◌≡◌, ℕ, suc, ◌≤◌, true, false, List, [], ◌∷◌, ◌++◌, length, Option, Some, None, slice_get, sym, refl, ap, ◌∙◌, subst, inl, inr, arith}
-use Rattle.certificate.specs.declared.parts.CertRow.{CertRow}
+-- The worked case: with a bound up to the least price the certificate meets the checks, and with a greater one the bound check fails.
+use Rattle.std.proofs.Common.{◌≡◌, ℕ, ◌≤◌, ◌<◌, true, false, List, [], ◌∷◌, ◌++◌, length, Some, None, slice_get, sym, refl, ap, ◌∙◌, subst, inl, inr, arith}
 use Rattle.certificate.specs.AnswerCheck.{AnswerRight, AnswersHold}
 use Rattle.certificate.specs.BoundCheck.{BoundRight, BoundWithin, BoundsHold}
 use Rattle.certificate.specs.Checks.{Checks, FirstFailure}
-use Rattle.certificate.specs.DepartureCheck.{CountsFor, Departs, DeparturesHold, IsFront, LeadsFor}
+use Rattle.certificate.specs.DepartureCheck.{CountsFor, DeparturesHold, IsFront, LeadsFor}
 use Rattle.certificate.specs.InOrder.{AllRight}
 use Rattle.certificate.specs.OneWay.{flight, one_way_answer, one_way_book, one_way_certificate, one_way_move, one_way_request, one_way_root, one_way_row}
 use Rattle.certificate.specs.RowCheck.{IsRoot, RowRight, RowsHold}
@@ -48,28 +47,28 @@ rows_hold bound = (
   (one_way_row bound, inl refl, (one_way_root.at, starts, refl)),
 )
 
-bounds_hold : BoundsHold one_way_book one_way_request (one_way_row 20000 ∷ [])
-bounds_hold = one_right (BoundRight one_way_book one_way_request (one_way_row 20000 ∷ [])) (one_way_row 20000) (
-  λ m fs p mv. (20000, refl, omega (arith, (only_move m fs p None [] mv).2)),
+bounds_hold : (bound : ℕ) → bound ≤ 20000 → BoundsHold one_way_book one_way_request (one_way_row bound ∷ [])
+bounds_hold bound le = one_right (BoundRight one_way_book one_way_request (one_way_row bound ∷ [])) (one_way_row bound) (
+  λ m fs p mv. (bound, refl, omega (arith, le, (only_move m fs p None [] mv).2)),
   λ m fs p at us mv. absurd (some_none at (only_move m fs p (Some at) us mv).1),
 )
   where
     some_none : (at : Position) → Some at ≡ None → ⊥
     some_none at e = cc
 
-bounds_fail : BoundRight one_way_book one_way_request (one_way_row 20001 ∷ []) [] (one_way_row 20001) → ⊥
-bounds_fail h = too_much (h.0 one_way_move (flight ∷ []) one_way_piece root_move)
+bounds_fail : (bound : ℕ) → 20000 < bound → BoundRight one_way_book one_way_request (one_way_row bound ∷ []) [] (one_way_row bound) → ⊥
+bounds_fail bound lt h = too_much (h.0 one_way_move (flight ∷ []) one_way_piece root_move)
   where
-    too_much : BoundWithin (one_way_row 20001) 20000 → ⊥
-    too_much (bound, e, le) = let same : 20001 ≡ bound = cc in omega (arith, same, le)
+    too_much : BoundWithin (one_way_row bound) 20000 → ⊥
+    too_much (other, e, le) = let same : bound ≡ other = cc in omega (arith, same, le, lt)
 
 answers_hold : RunsAreTickets one_way_book one_way_request → AnswersHold one_way_book one_way_request (one_way_answer ∷ [])
 answers_hold runs =
     let t = runs (one_way_move ∷ []) 20000 (one_way_root.at, starts, (flight ∷ [], one_way_piece, root_move, refl)) in
     one_right (AnswerRight one_way_book one_way_request) one_way_answer (record { few = omega arith; lawful = (t.0, (t.1, t.2, t.3)); greater = tt })
 
-departures_hold : DeparturesHold one_way_book one_way_request (one_way_row 20000 ∷ []) (one_way_answer ∷ [])
-departures_hold front m price d = absurd (d.none_takes one_way_answer [] (inl refl) (sym (ap (λ z. z ++ m ∷ []) (no_front front d.is_front) ∙ ap (λ z. z ∷ []) (moves d.there (at_root front d.there d.price (no_front front d.is_front) d.leads) d.last d.counts))))
+departures_hold : (bound : ℕ) → DeparturesHold one_way_book one_way_request (one_way_row bound ∷ []) (one_way_answer ∷ [])
+departures_hold bound front m price d = absurd (d.none_takes one_way_answer [] (inl refl) (sym (ap (λ z. z ++ m ∷ []) (no_front front d.is_front) ∙ ap (λ z. z ∷ []) (moves d.there (at_root front d.there d.price (no_front front d.is_front) d.leads) d.last d.counts))))
   where
     no_front : (front : List Move) → IsFront (one_way_answer ∷ []) front → front ≡ []
     no_front front (inl e) = e
@@ -79,29 +78,32 @@ departures_hold front m price d = absurd (d.none_takes one_way_answer [] (inl re
     at_root : (front : List Move) (there : State) (price : ℕ) → front ≡ [] → LeadsFor one_way_book one_way_request d.root front there price → there ≡ one_way_root
     at_root front there price e h = (subst (λ z. LeadsFor one_way_book one_way_request d.root z there price) e h).0 ∙ root_one d.root d.is_root
 
-    moves : (there : State) → there ≡ one_way_root → (last : ℕ) → CountsFor one_way_book one_way_request (one_way_row 20000 ∷ []) there m last → m ≡ one_way_move
+    moves : (there : State) → there ≡ one_way_root → (last : ℕ) → CountsFor one_way_book one_way_request (one_way_row bound ∷ []) there m last → m ≡ one_way_move
     moves there e last (inl (fs, p, mv, f)) = (only_move m fs p None [] (subst (λ z. Moves one_way_book one_way_request z m fs p None []) e mv)).0
-    moves there e last (inr (fs, p, at, us, row, bound, mv, i, s, k, f)) = (only_move m fs p (Some at) us (subst (λ z. Moves one_way_book one_way_request z m fs p (Some at) us) e mv)).0
+    moves there e last (inr (fs, p, at, us, row, further, mv, i, s, k, f)) = (only_move m fs p (Some at) us (subst (λ z. Moves one_way_book one_way_request z m fs p (Some at) us) e mv)).0
 
-pub meets_checks : RunsAreTickets one_way_book one_way_request → Checks (one_way_certificate 20000) one_way_book one_way_request
-meets_checks runs = record {
-  rows = rows_hold 20000;
-  bounds = bounds_hold;
+pub meets_checks : RunsAreTickets one_way_book one_way_request → (bound : ℕ) → bound ≤ 20000 → Checks (one_way_certificate bound) one_way_book one_way_request
+meets_checks runs bound le = record {
+  rows = rows_hold bound;
+  bounds = bounds_hold bound le;
   answers = answers_hold runs;
-  departures = departures_hold;
+  departures = departures_hold bound;
   request = (refl, refl);
 }
 
-pub bound_fails : FirstFailure (one_way_certificate 20001) one_way_book one_way_request 2 1
-bound_fails = inr (
-  rows_hold 20001,
-  inl (refl, record {
-    before = [];
-    wrong = one_way_row 20001;
-    after = [];
-    whole = refl;
-    counted = refl;
-    earlier = λ before x after e. absurd (no_middle before x after e);
-    fails = bounds_fail;
-  }),
+pub bound_fails : (bound : ℕ) → 20000 < bound → FirstFailure (one_way_certificate bound) one_way_book one_way_request 2 1
+bound_fails bound lt = inr (
+  rows_hold bound,
+  inl (
+    refl,
+    record {
+      before = [];
+      wrong = one_way_row bound;
+      after = [];
+      whole = refl;
+      counted = refl;
+      earlier = λ before x after e. absurd (no_middle before x after e);
+      fails = bounds_fail bound lt;
+    },
+  ),
 )

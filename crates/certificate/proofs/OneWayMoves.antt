@@ -1,5 +1,5 @@
 -- The worked case of one flight and one fare: its root has one move, which ends the journey at the fare's amount.
-use Rattle.std.proofs.Common.{◌≡◌, ◌≢◌, ℕ, pos, ◌+◌, ◌≤◌, ◌<◌, Bool, true, false, List, [], ◌∷◌, length, Option, Some, None, cond, option_and_then, slice_get, IfNone, sym, refl, ap, ◌∙◌, subst, inl, inr, arith, get_or}
+use Rattle.std.proofs.Common.{◌≡◌, ◌≢◌, ℕ, pos, ◌+◌, ◌≤◌, Bool, true, false, List, [], ◌∷◌, Option, Some, None, cond, option_and_then, IfNone, sym, refl, ap, ◌∙◌, subst, inl, inr, arith, get_or}
 use Rattle.std.proofs.lemmas.Int.{ints}
 use Rattle.std.proofs.lemmas.List.Elements.{All-from_recursion}
 use Rattle.certificate.specs.OneWay.{lon, nyc, qx, flight, fare, one_way_book, one_way_slice, one_way_request, one_way_root, one_way_move}

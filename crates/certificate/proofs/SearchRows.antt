@@ -1,9 +1,9 @@
 -- The certificate of a search meets the row check and the bound check.
-use Rattle.std.proofs.Common.{◌≡◌, ℕ, ◌+◌, ◌≤◌, List, [], ◌∷◌, ◌++◌, map, slice_get, Option, Some, None, sym, refl, ap, subst}
+use Rattle.std.proofs.Common.{◌≡◌, ℕ, ◌+◌, ◌≤◌, List, [], ◌∷◌, ◌++◌, slice_get, Option, Some, None, refl, ap, subst}
 use Rattle.certificate.specs.BoundCheck.{state_after, BoundWithin, BoundsHold, EndsHold, StepsHold}
 use Rattle.certificate.specs.CertOf.{RowsAre}
 use Rattle.certificate.specs.declared.parts.CertRow.{CertRow}
-use Rattle.certificate.specs.RowCheck.{IsRoot, RootIsRow, RowsHold}
+use Rattle.certificate.specs.RowCheck.{RootIsRow, RowsHold}
 use Rattle.certificate.proofs.Known.{Known}
 use Rattle.certificate.proofs.ListFacts.{each_in, in_map, is_in, map_in, map_pairs, pair_last}
 use Rattle.fare_law.specs.declared.flights.Flight.{Flight}

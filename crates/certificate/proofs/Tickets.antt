@@ -1,5 +1,5 @@
 -- The answers' tickets: their prices and codes are the answers', and so is their order.
-use Rattle.std.proofs.Common.{◌≡◌, ℕ, zero, suc, ◌<◌, List, [], ◌∷◌, sym, refl, ap, ◌∙◌, subst, inl, inr, arith}
+use Rattle.std.proofs.Common.{◌≡◌, ℕ, sym, ap, ◌∙◌, subst, inl}
 use Rattle.certificate.specs.declared.parts.CertAnswer.{CertAnswer}
 use Rattle.certificate.specs.AnswerCheck.{AnswerIs, AnswerBelow}
 use Rattle.certificate.proofs.Known.{Known}
@@ -7,7 +7,7 @@ use Rattle.certificate.proofs.OneFirst.{neither_less}
 use Rattle.fare_law.specs.declared.requests.Request.{Request}
 use Rattle.fare_law.specs.declared.tickets.Ticket.{Ticket}
 use Rattle.fare_law.specs.Book.{Book}
-use Rattle.fare_law.specs.Moves.{moves_of, run_code}
+use Rattle.fare_law.specs.Moves.{run_code}
 use Rattle.fare_law.specs.Order.{Before, Cheaper, Costs, code}
 
 module _ (known : Known) (b : Book) (q : Request) where

@@ -6,8 +6,7 @@ use Rattle.certificate.specs.BoundCheck.{state_after, BoundRight, EndsHold, Step
 use Rattle.certificate.specs.CertOf.{YesIsBest}
 use Rattle.certificate.specs.declared.parts.Certificate.{Certificate}
 use Rattle.certificate.specs.declared.parts.CertRow.{CertRow}
-use Rattle.certificate.specs.Checks.{Checks}
-use Rattle.certificate.specs.DepartureCheck.{DeparturesHold, IsFront, LeadsFor, NoneTakes}
+use Rattle.certificate.specs.DepartureCheck.{DeparturesHold, IsFront, LeadsFor}
 use Rattle.certificate.specs.RowCheck.{IsRoot, RootIsRow}
 use Rattle.certificate.proofs.Decided.{taken_decided}
 use Rattle.certificate.proofs.Known.{Known}
@@ -22,7 +21,7 @@ use Rattle.fare_law.specs.Book.{Book}
 use Rattle.fare_law.specs.Lawful.{Lawful}
 use Rattle.fare_law.specs.Lists.{Each, EachPair, IsIn, Matched, OnLast}
 use Rattle.fare_law.specs.Moves.{moves_of, run_code}
-use Rattle.fare_law.specs.Order.{Before, Best, Cheaper, Costs, code}
+use Rattle.fare_law.specs.Order.{Before, Best, Cheaper, code}
 use Rattle.fare_law.specs.Parts.{price_of}
 use Rattle.flight_paths.specs.declared.positions.Position.{Position}
 use Rattle.flight_paths.specs.Positions.{before_slice}

@@ -41,6 +41,10 @@ SameByRuns c b q = Ascending b.timetable.flights → CertOf b q c ↔ CertOfRuns
 abbrev pub YesIsBest : Certificate → Book → Request → Type 0
 YesIsBest c b q = Checks c b q → (tickets : List Ticket) × Best b q tickets × Matched (AnswerIs b q) c.answers tickets
 
+-- Yes fixes the answers.
+abbrev pub SameAnswers : Book → Request → Type 0
+SameAnswers b q = HasKeys b → (c d : Certificate) → Checks c b q → Checks d b q → c.answers ≡ d.answers
+
 -- The certificate of a search meets the checks.
 abbrev pub SearchMeetsChecks : Certificate → Book → Request → Type 0
 SearchMeetsChecks c b q =

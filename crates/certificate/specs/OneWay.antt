@@ -4,7 +4,6 @@ use Rattle.certificate.specs.declared.parts.CertAnswer.{CertAnswer}
 use Rattle.certificate.specs.declared.parts.CertRow.{CertRow}
 use Rattle.certificate.specs.declared.parts.Certificate.{Certificate}
 use Rattle.fare_law.specs.declared.fares.Fare.{Fare}
-use Rattle.fare_law.specs.declared.fares.FareKey.{FareKey}
 use Rattle.fare_law.specs.declared.fares.FareKind.TheVariants.{O}
 use Rattle.fare_law.specs.declared.filings.Action.TheVariants.{PutFare}
 use Rattle.fare_law.specs.declared.flights.Flight.{Flight}

@@ -1,10 +1,11 @@
 //! What a certificate is worth, as laws for the crates above: a function calls the law it stands on.
-ghost use Rattle.certificate.specs.CertOf.{OneCertificate, SameByRuns, SearchMeetsChecks, YesIsBest};
+ghost use Rattle.certificate.specs.CertOf.{OneCertificate, SameAnswers, SameByRuns, SearchMeetsChecks, YesIsBest};
 ghost use Rattle.certificate.specs.declared.parts.Certificate.{Certificate};
 ghost use Rattle.certificate.specs.Checks.{Checks, FirstFailure, OneFailure};
 ghost use Rattle.certificate.specs.OneWay.{one_way_book, one_way_certificate, one_way_request};
 ghost use Rattle.fare_law.specs.declared.requests.Request.{Request};
 ghost use Rattle.fare_law.specs.Book.{Book};
+ghost use Rattle.std.specs.Prelude.{ℕ, ◌<◌, ◌≤◌};
 
 use residual_keys::{best_runs, nothing_lost, one_best, one_next, residual_order, runs_are_short};
 use ticket_order::{codes_tell, order_laws};
@@ -60,6 +61,21 @@ pub fn one_certificate()
     order_laws();
 }
 
+/// Yes fixes the answers: two certificates that meet the checks of one book and one request have the
+/// same answers, where the live fares' keys are well formed.
+pub fn same_answers()
+    ensures { (b : Book) (q : Request) → SameAnswers b q }
+{
+    nothing_lost();
+    one_next();
+    best_runs();
+    one_best();
+    residual_order();
+    runs_are_short();
+    codes_tell();
+    order_laws();
+}
+
 /// A certificate is that of a search by best tickets exactly where it is by the least runs from the
 /// root, where the timetable's flights stand in the order of their departures.
 pub fn same_by_runs()
@@ -75,11 +91,11 @@ pub fn same_by_runs()
     order_laws();
 }
 
-/// A worked case of one flight and one fare: the certificate with the fare's amount as the bound of its
-/// one row meets the checks, and with one more than that the bound check fails at row 1.
+/// A worked case of one flight and one fare of 20,000: the certificate meets the checks with each bound
+/// of its one row up to that amount, and with each greater one the bound check fails at row 1.
 pub fn one_way_case()
-    ensures meets { Checks (one_way_certificate 20000) one_way_book one_way_request }
-    ensures refused { FirstFailure (one_way_certificate 20001) one_way_book one_way_request 2 1 }
+    ensures meets { (bound : ℕ) → bound ≤ 20000 → Checks (one_way_certificate bound) one_way_book one_way_request }
+    ensures refused { (bound : ℕ) → 20000 < bound → FirstFailure (one_way_certificate bound) one_way_book one_way_request 2 1 }
 {
     nothing_lost();
 }

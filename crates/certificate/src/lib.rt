@@ -7,6 +7,7 @@ mod laws;
 mod parts;
 
 pub use laws::{
-    one_certificate, one_failure, one_way_case, same_by_runs, search_meets_checks, yes_is_best,
+    one_certificate, one_failure, one_way_case, same_answers, same_by_runs, search_meets_checks,
+    yes_is_best,
 };
 pub use parts::{CertAnswer, CertRow, Certificate};
