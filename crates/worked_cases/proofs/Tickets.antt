@@ -1,12 +1,11 @@
 -- A ticket of one flight a slice is lawful where each leg holds, the legs are far enough apart, and labels, units and end on end hold.
-use Rattle.std.proofs.Common.{◌≡◌, ◌≢◌, ℕ, ℤ, pos, ◌+◌, ◌≤◌, ◌+ℤ◌, ◌≤ℤ◌, ◌∷◌, List, [], map, flat_map, Option, Some, None, All, sym, refl, ap, subst, arith}
+use Rattle.std.proofs.Common.{◌≡◌, ◌≢◌, ℕ, ℤ, pos, ◌≤◌, ◌+ℤ◌, ◌≤ℤ◌, ◌∷◌, List, [], map, flat_map, Option, Some, None, sym, refl, subst, arith}
 use Rattle.std.proofs.lemmas.List.Elements.{All-from_recursion}
 use Rattle.fare_law.specs.declared.flights.Flight.{Flight}
 use Rattle.fare_law.specs.declared.requests.Request.{Request}
-use Rattle.fare_law.specs.declared.requests.Slice.{Slice}
 use Rattle.fare_law.specs.Book.{Book, connect, flight_at, live_fare, live_rule, seats}
 use Rattle.fare_law.specs.Journey.{FliesFrom, InWindow, LateEnough}
-use Rattle.fare_law.specs.Lawful.{Part, IsPart, PartsLawful, Lawful, Numbered, AtMostTwoStraddle, unit_of, EndOnEndHolds}
+use Rattle.fare_law.specs.Lawful.{Part, IsPart, Lawful, unit_of, EndOnEndHolds}
 use Rattle.fare_law.specs.Lists.{Each, EachPair, Matched}
 use Rattle.fare_law.specs.Parts.{Filed, Seated, ComponentLawful}
 use Rattle.fare_law.specs.Units.{UnitLawful}

@@ -1,17 +1,13 @@
 -- The one way, the round trip and the circle.
-use Rattle.std.proofs.Common.{◌≡◌, ◌≢◌, ℕ, ◌≤◌, ◌+◌, true, false, ◌∷◌, List, [], map, Some, None, sym, refl, ap, subst, arith, get_or, ◌∙◌, ◌==◌, cond, eq-eqb, ne_eqb}
+use Rattle.std.proofs.Common.{◌≡◌, ◌≢◌, true, false, ◌∷◌, [], map, Some, refl, ap, subst, arith, get_or, ◌∙◌, ◌==◌, cond, eq-eqb, ne_eqb}
 use Rattle.std.proofs.lemmas.Int.{ints}
-use Rattle.std.proofs.lemmas.List.Elements.{All-from_recursion}
-use Rattle.fare_law.specs.declared.fares.FareKind.TheVariants.{O, R, S}
-use Rattle.fare_law.specs.declared.rules.UnitKind.{UnitKind}
+use Rattle.fare_law.specs.declared.fares.FareKind.TheVariants.{R}
 use Rattle.fare_law.specs.declared.rules.UnitKind.TheVariants.{OneWay, RoundTrip, OpenJaw, Circle}
-use Rattle.fare_law.specs.declared.names.Place.{Place}
 use Rattle.fare_law.specs.Book.{free_rule, seats, connect, live_fare, live_rule}
 use Rattle.fare_law.specs.declared.fares.Fare.{Fare}
 use Rattle.fare_law.specs.declared.tickets.Piece.{Piece}
 use Rattle.fare_law.specs.Lawful.{Lawful, unit_of}
 use Rattle.fare_law.specs.Units.{MayStand, UnitLawful}
-use Rattle.fare_law.specs.Lists.{Each}
 use Rattle.fare_law.specs.Order.{Costs}
 use Rattle.unit_labels.specs.Labels.{LabelLaws, Alone, Opens, GoesOn, Closes}
 use Rattle.worked_cases.specs.Cases.{one_way_legs, one_way_book, one_way_request, round_legs, leg, out_flight, back_flight, one_way_fare, round_fare, no_stops, round_book, round_request, circle_legs, circle_book, circle_request}
@@ -216,11 +212,16 @@ pub circle_lawful : LabelLaws → Lawful (ticket_of circle_legs) circle_book cir
 circle_lawful laws =
     legs_lawful circle_book circle_request (leg 0 (flight_of 1 lon par 22341) (fare_of lon par 65 R 20000 1) no_stops false 1 lon par 22341)
     (leg 1 (flight_of 2 par rom 22348) (fare_of par rom 66 R 12000 1) no_stops false 1 par rom 22348 ∷ leg 2 (flight_of 3 rom nyc 22355) (fare_of rom nyc 67 R 30000 1) no_stops false 1 rom nyc 22355 ∷ leg 3 (flight_of 4 nyc lon 22362) (fare_of lon nyc 68 R 8000 1) no_stops true 1 nyc lon 22362 ∷ []) refl (circle_leg0, (circle_leg1, (circle_leg2, (circle_leg3, tt)))) circle_far
-    ((laws.runs (Opens ∷ GoesOn 0 ∷ GoesOn 0 ∷ Closes 0 ∷ []) (1 ∷ 1 ∷ 1 ∷ 1 ∷ [])).0 (refl, omega arith, (refl, (refl, (refl, refl))))).0
-    ((Circle, (omega arith, omega arith, (refl, (refl, (refl, refl))), (refl, (refl, (refl, tt))), refl), (record { stands = circle_kind; season = tt; advance = tt; travel = tt; by = tt; min_stay = λ h. tt; max_stay = λ h. tt; kind_allowed = tt; partners = tt }, (record { stands = circle_kind; season = tt; advance = tt; travel = tt; by = tt; min_stay = λ h. tt; max_stay = λ h. tt; kind_allowed = tt; partners = tt }, (record { stands = circle_kind; season = tt; advance = tt; travel = tt; by = tt; min_stay = λ h. tt; max_stay = λ h. tt; kind_allowed = tt; partners = tt }, (record { stands = circle_kind; season = tt; advance = tt; travel = tt; by = tt; min_stay = λ h. tt; max_stay = λ h. tt; kind_allowed = tt; partners = tt }, tt))))),
-    ((Circle, (omega arith, omega arith, (refl, (refl, (refl, refl))), (refl, (refl, (refl, tt))), refl), (record { stands = circle_kind; season = tt; advance = tt; travel = tt; by = tt; min_stay = λ h. tt; max_stay = λ h. tt; kind_allowed = tt; partners = tt }, (record { stands = circle_kind; season = tt; advance = tt; travel = tt; by = tt; min_stay = λ h. tt; max_stay = λ h. tt; kind_allowed = tt; partners = tt }, (record { stands = circle_kind; season = tt; advance = tt; travel = tt; by = tt; min_stay = λ h. tt; max_stay = λ h. tt; kind_allowed = tt; partners = tt }, (record { stands = circle_kind; season = tt; advance = tt; travel = tt; by = tt; min_stay = λ h. tt; max_stay = λ h. tt; kind_allowed = tt; partners = tt }, tt))))),
-    ((Circle, (omega arith, omega arith, (refl, (refl, (refl, refl))), (refl, (refl, (refl, tt))), refl), (record { stands = circle_kind; season = tt; advance = tt; travel = tt; by = tt; min_stay = λ h. tt; max_stay = λ h. tt; kind_allowed = tt; partners = tt }, (record { stands = circle_kind; season = tt; advance = tt; travel = tt; by = tt; min_stay = λ h. tt; max_stay = λ h. tt; kind_allowed = tt; partners = tt }, (record { stands = circle_kind; season = tt; advance = tt; travel = tt; by = tt; min_stay = λ h. tt; max_stay = λ h. tt; kind_allowed = tt; partners = tt }, (record { stands = circle_kind; season = tt; advance = tt; travel = tt; by = tt; min_stay = λ h. tt; max_stay = λ h. tt; kind_allowed = tt; partners = tt }, tt))))),
-    ((Circle, (omega arith, omega arith, (refl, (refl, (refl, refl))), (refl, (refl, (refl, tt))), refl), (record { stands = circle_kind; season = tt; advance = tt; travel = tt; by = tt; min_stay = λ h. tt; max_stay = λ h. tt; kind_allowed = tt; partners = tt }, (record { stands = circle_kind; season = tt; advance = tt; travel = tt; by = tt; min_stay = λ h. tt; max_stay = λ h. tt; kind_allowed = tt; partners = tt }, (record { stands = circle_kind; season = tt; advance = tt; travel = tt; by = tt; min_stay = λ h. tt; max_stay = λ h. tt; kind_allowed = tt; partners = tt }, (record { stands = circle_kind; season = tt; advance = tt; travel = tt; by = tt; min_stay = λ h. tt; max_stay = λ h. tt; kind_allowed = tt; partners = tt }, tt))))), tt))))
+    ((laws.runs (Opens ∷ GoesOn 0 ∷ GoesOn 0 ∷ Closes 0 ∷ []) (1 ∷ 1 ∷ 1 ∷ 1 ∷ [])).0 (refl, omega arith, (refl, (refl, (refl, refl))))).0 (
+      (Circle, (omega arith, omega arith, (refl, (refl, (refl, refl))), (refl, (refl, (refl, tt))), refl), (record { stands = circle_kind; season = tt; advance = tt; travel = tt; by = tt; min_stay = λ h. tt; max_stay = λ h. tt; kind_allowed = tt; partners = tt }, (record { stands = circle_kind; season = tt; advance = tt; travel = tt; by = tt; min_stay = λ h. tt; max_stay = λ h. tt; kind_allowed = tt; partners = tt }, (record { stands = circle_kind; season = tt; advance = tt; travel = tt; by = tt; min_stay = λ h. tt; max_stay = λ h. tt; kind_allowed = tt; partners = tt }, (record { stands = circle_kind; season = tt; advance = tt; travel = tt; by = tt; min_stay = λ h. tt; max_stay = λ h. tt; kind_allowed = tt; partners = tt }, tt))))),
+      (
+        (Circle, (omega arith, omega arith, (refl, (refl, (refl, refl))), (refl, (refl, (refl, tt))), refl), (record { stands = circle_kind; season = tt; advance = tt; travel = tt; by = tt; min_stay = λ h. tt; max_stay = λ h. tt; kind_allowed = tt; partners = tt }, (record { stands = circle_kind; season = tt; advance = tt; travel = tt; by = tt; min_stay = λ h. tt; max_stay = λ h. tt; kind_allowed = tt; partners = tt }, (record { stands = circle_kind; season = tt; advance = tt; travel = tt; by = tt; min_stay = λ h. tt; max_stay = λ h. tt; kind_allowed = tt; partners = tt }, (record { stands = circle_kind; season = tt; advance = tt; travel = tt; by = tt; min_stay = λ h. tt; max_stay = λ h. tt; kind_allowed = tt; partners = tt }, tt))))),
+        (
+          (Circle, (omega arith, omega arith, (refl, (refl, (refl, refl))), (refl, (refl, (refl, tt))), refl), (record { stands = circle_kind; season = tt; advance = tt; travel = tt; by = tt; min_stay = λ h. tt; max_stay = λ h. tt; kind_allowed = tt; partners = tt }, (record { stands = circle_kind; season = tt; advance = tt; travel = tt; by = tt; min_stay = λ h. tt; max_stay = λ h. tt; kind_allowed = tt; partners = tt }, (record { stands = circle_kind; season = tt; advance = tt; travel = tt; by = tt; min_stay = λ h. tt; max_stay = λ h. tt; kind_allowed = tt; partners = tt }, (record { stands = circle_kind; season = tt; advance = tt; travel = tt; by = tt; min_stay = λ h. tt; max_stay = λ h. tt; kind_allowed = tt; partners = tt }, tt))))),
+          ((Circle, (omega arith, omega arith, (refl, (refl, (refl, refl))), (refl, (refl, (refl, tt))), refl), (record { stands = circle_kind; season = tt; advance = tt; travel = tt; by = tt; min_stay = λ h. tt; max_stay = λ h. tt; kind_allowed = tt; partners = tt }, (record { stands = circle_kind; season = tt; advance = tt; travel = tt; by = tt; min_stay = λ h. tt; max_stay = λ h. tt; kind_allowed = tt; partners = tt }, (record { stands = circle_kind; season = tt; advance = tt; travel = tt; by = tt; min_stay = λ h. tt; max_stay = λ h. tt; kind_allowed = tt; partners = tt }, (record { stands = circle_kind; season = tt; advance = tt; travel = tt; by = tt; min_stay = λ h. tt; max_stay = λ h. tt; kind_allowed = tt; partners = tt }, tt))))), tt),
+        ),
+      ),
+    )
     (tt, (tt, (tt, (tt, tt))))
 
 pub circle_costs : Costs (ticket_of circle_legs) circle_book circle_request 35000
@@ -242,7 +243,7 @@ round_apart (p ∷ r ∷ [], m, law, some) =
     let mine : (p.unit == p.unit) ≡ true = eq-eqb p.unit p.unit refl in
     let other : (r.unit == p.unit) ≡ false = ne_eqb r.unit p.unit (λ e. omega (arith, e, m.0.unit, m.1.0.unit)) in
     let by_itself : unit_of p.unit (p ∷ r ∷ []) ≡ p.piece ∷ [] =
-        ap (λ c. map (λ part. part.piece) (cond c (p ∷ cond (r.unit == p.unit) (r ∷ []) []) (cond (r.unit == p.unit) (r ∷ []) []))) mine ∙ ap (λ c. map (λ part. part.piece) (p ∷ cond c (r ∷ []) [])) other in
+    ap (λ c. map (λ part. part.piece) (cond c (p ∷ cond (r.unit == p.unit) (r ∷ []) []) (cond (r.unit == p.unit) (r ∷ []) []))) mine ∙ ap (λ c. map (λ part. part.piece) (p ∷ cond c (r ∷ []) [])) other in
     alone p.piece (kind p.piece.fare m.0.stands.fare) (subst UnitLawful by_itself law.units.0)
   where
     kind : (f : Fare) → Some round_fare ≡ Some f → f.kind ≡ R

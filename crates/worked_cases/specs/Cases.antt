@@ -1,12 +1,14 @@
 -- The cases.
-use Rattle.std.specs.Prelude.{ℕ, Bool, true, false, List, [], ◌∷◌, Some, None}
+use Rattle.std.specs.Prelude.{ℕ, Bool, pos, ◌+◌, ◌*◌, true, false, List, [], ◌∷◌, Some, None}
 use Rattle.fare_law.specs.declared.fares.Fare.{Fare}
 use Rattle.fare_law.specs.declared.fares.FareKind.TheVariants.{O, R}
 use Rattle.fare_law.specs.declared.filings.Action.TheVariants.{PutFare, PutRule}
 use Rattle.fare_law.specs.declared.flights.Flight.{Flight}
+use Rattle.fare_law.specs.declared.names.Basis.{Basis}
 use Rattle.fare_law.specs.declared.names.Place.{Place}
 use Rattle.fare_law.specs.declared.requests.Request.{Request}
 use Rattle.fare_law.specs.declared.rules.Rule.{Rule}
+use Rattle.fare_law.specs.declared.tickets.Piece.{Piece}
 use Rattle.fare_law.specs.Book.{Book, free_rule}
 use Rattle.worked_cases.specs.Makers.{qx, lon, nyc, par, rom, flight_of, fare_of, slice_of, book_of, request_of, Leg, slices_of}
 
@@ -72,3 +74,36 @@ circle_book =
 
 abbrev pub circle_request : Request
 circle_request = request_of (slices_of circle_legs)
+
+-- Pieces of one flight each, and a rule with a charge for a stopover and a surcharge on flights 1 to 9.
+
+abbrev pub forward : Place → Place → Piece
+forward from to = record { begin = from; end = to; fare = fare_of from to 65 R 20000 0; rule = free_rule; reverse = false; first_day = pos 22341; last_day = pos 22341; sale = pos 22312 }
+
+-- filed from its end to its beginning
+abbrev pub backward : Place → Place → Piece
+backward from to = record { begin = from; end = to; fare = fare_of to from 65 R 20000 0; rule = free_rule; reverse = true; first_day = pos 22348; last_day = pos 22348; sale = pos 22312 }
+
+abbrev pub charges : Rule
+charges = record free_rule { cat8 = Some (record { max = 4; charge = 7000; places = None }); cat12 = Some (record { carrier = qx; low = 1; high = 9; first = pos 0; last = pos 99999; amount = 500 } ∷ []) }
+
+-- a fare of kind R at 20000 on this rule
+abbrev pub charged : Piece
+charged = record (forward lon rom) { rule = charges }
+
+-- a flight that departs so many minutes after the first one arrives
+abbrev pub after_minutes : ℕ → Flight
+after_minutes gap = record (flight_of 2 par rom 22342) { dep = pos (1440 * 22341 + 720 + gap) }
+
+abbrev pub first_flight : Flight
+first_flight = flight_of 1 lon par 22341
+
+-- a stay of three days with a Sunday
+abbrev pub with_sunday : Rule
+with_sunday = record free_rule { cat6 = Some (record { days = 3; sunday = true }) }
+
+abbrev pub r1 : Basis
+r1 = record { 0 = 82 ∷ 49 ∷ [] }
+
+abbrev pub y1 : Basis
+y1 = record { 0 = 89 ∷ 49 ∷ [] }

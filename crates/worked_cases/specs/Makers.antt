@@ -1,7 +1,6 @@
 -- Plain words for small books: flights from 10:00 to 12:00 UTC of carrier QX, fares in class Y, a ticket of one flight a slice.
-use Rattle.std.specs.Prelude.{ℕ, ℤ, Bool, pos, ◌+◌, ◌*◌, List, [], ◌∷◌, map, Some, None}
+use Rattle.std.specs.Prelude.{ℕ, Bool, pos, ◌+◌, ◌*◌, List, [], ◌∷◌, map, None}
 use Rattle.fare_law.specs.declared.fares.Fare.{Fare}
-use Rattle.fare_law.specs.declared.fares.FareKey.{FareKey}
 use Rattle.fare_law.specs.declared.fares.FareKind.{FareKind}
 use Rattle.fare_law.specs.declared.filings.Action.{Action}
 use Rattle.fare_law.specs.declared.flights.Flight.{Flight}

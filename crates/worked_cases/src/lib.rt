@@ -5,4 +5,4 @@
 
 mod worked;
 
-pub use worked::{circle, one_way, round_trip};
+pub use worked::{circle, days, labels, one_way, order, prices, round_trip, units};
