@@ -12,7 +12,6 @@ pub mod NothingLost
 pub mod OneNext
 pub mod OneTicket
 pub mod RunsBest
-pub mod CaseA
 pub mod Ordered
 pub mod LeastOne
 pub mod OneBest
