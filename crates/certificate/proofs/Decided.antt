@@ -62,7 +62,7 @@ moves_decided m n = elim (numbers_decided m.flights n.flights) [
   ]
 ]
 
-front_decided : (xs ys : List Move) → ((rest : List Move) × (ys ≡ xs ++ rest)) ⊎ ((rest : List Move) → ys ≡ xs ++ rest → ⊥)
+pub front_decided : (xs ys : List Move) → ((rest : List Move) × (ys ≡ xs ++ rest)) ⊎ ((rest : List Move) → ys ≡ xs ++ rest → ⊥)
 front_decided [] ys = inl (ys, refl)
 front_decided (x ∷ xs) [] = inr (λ rest e. cc)
 front_decided (x ∷ xs) (y ∷ ys) = elim (moves_decided y x) [

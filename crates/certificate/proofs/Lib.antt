@@ -2,6 +2,7 @@ pub mod Known
 pub mod ListFacts
 pub mod OneFirst
 pub mod Decided
+pub mod SomeFailure
 pub mod Tickets
 pub mod YesIsBest
 pub mod SearchRows

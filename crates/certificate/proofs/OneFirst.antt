@@ -4,7 +4,7 @@ use Rattle.certificate.specs.AnswerCheck.{AnswerRight}
 use Rattle.certificate.specs.BoundCheck.{BoundRight}
 use Rattle.certificate.specs.declared.parts.Certificate.{Certificate}
 use Rattle.certificate.specs.declared.parts.CertRow.{CertRow}
-use Rattle.certificate.specs.Checks.{OneFailure}
+use Rattle.certificate.specs.Checks.{Checks, FirstFailure, OneFailure}
 use Rattle.certificate.specs.DepartureCheck.{DeparturesFail, DeparturesHold}
 use Rattle.certificate.specs.InOrder.{AllRight, FirstWrong}
 use Rattle.certificate.specs.RequestCheck.{IsOf, IsOfAnother}
@@ -82,8 +82,8 @@ nor_else : {F R Hold : Type 0} → (F → ⊥) → (R → ⊥) → F ⊎ (Hold �
 nor_else here later (inl h) = here h
 nor_else here later (inr h) = later h.1
 
-pub one_failure : (c : Certificate) (b : Book) (q : Request) → OneFailure c b q
-one_failure c b q = record {
+pub one_failure : (c : Certificate) (b : Book) (q : Request) → ((Checks c b q → ⊥) → ((rule place : ℕ) → FirstFailure c b q rule place → ⊥) → ⊥) → OneFailure c b q
+one_failure c b q some = record {
   none = λ h rule place.
       nor_else (λ w. rows_never b q c.rows place h.rows w.1)
       (nor_else (λ w. wrong_never (BoundRight b q c.rows) c.rows place h.bounds w.1)
@@ -100,4 +100,5 @@ one_failure c b q = record {
       (or_else (λ h k. (h.0 ∙ sym k.0, departures_one b q c.rows c.answers place place' h.1 k.1))
       (λ h w. departures_never b q c.rows c.answers place h w.1) (λ h w. departures_never b q c.rows c.answers place' h w.1)
       (λ h k. (h.0 ∙ sym k.0, request_one c b q place place' h.1 k.1)))));
+  some = some;
 }

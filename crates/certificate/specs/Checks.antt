@@ -26,7 +26,8 @@ FirstFailure c b q rule place =
     ⊎ (AnswersHold b q c.answers × (((rule ≡ 4) × DeparturesFail b q c.rows c.answers place)
     ⊎ (DeparturesHold b q c.rows c.answers × ((rule ≡ 5) × IsOfAnother c b q place))))))))
 
--- A certificate has one first failure, and none where its checks hold.
+-- A certificate has one first failure, or none where its checks hold, and no certificate is left out: it can't be that the checks don't hold and none fails first.
 pub record OneFailure (c : Certificate) (b : Book) (q : Request) : Type 0 where
   pub none : Checks c b q → (rule place : ℕ) → FirstFailure c b q rule place → ⊥
   pub one : (rule place rule' place' : ℕ) → FirstFailure c b q rule place → FirstFailure c b q rule' place' → (rule ≡ rule') × (place ≡ place')
+  pub some : (Checks c b q → ⊥) → ((rule place : ℕ) → FirstFailure c b q rule place → ⊥) → ⊥

@@ -11,9 +11,12 @@ use residual_keys::{best_runs, nothing_lost, one_best, one_next, residual_order,
 use ticket_order::{codes_tell, order_laws};
 
 /// Of the checks of a certificate one is the first that fails, at one place, and none where they hold.
+/// No certificate is left out: it can't be that the checks don't hold and none is the first that fails.
 pub fn one_failure()
     ensures { (c : Certificate) (b : Book) (q : Request) → OneFailure c b q }
-{}
+{
+    order_laws();
+}
 
 /// Yes implies best: where the checks hold of a certificate, its answers are the best tickets of the
 /// book and the request, in their order and at their prices. Nothing is asked of the book, and of the
