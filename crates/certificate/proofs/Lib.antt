@@ -11,3 +11,4 @@ pub mod OneCertificate
 pub mod OneWayMoves
 pub mod OneWayChecks
 pub mod ByRuns
+pub mod OneWayFailures

@@ -15,7 +15,7 @@ use Rattle.flight_paths.specs.declared.positions.Position.{Position}
 use Rattle.flight_paths.specs.Positions.{before_slice}
 use Rattle.residual_keys.specs.Residuals.{Moves, State, no_part}
 
-no_middle : {X : Type 0} (before : List X) (x : X) (after : List X) → [] ≡ before ++ x ∷ after → ⊥
+pub no_middle : {X : Type 0} (before : List X) (x : X) (after : List X) → [] ≡ before ++ x ∷ after → ⊥
 no_middle before x after e = omega (arith, ap length e, length_middle before x after)
 
 -- a list of one has one middle
@@ -23,13 +23,13 @@ single : {X : Type 0} (x : X) (before : List X) (y : X) (after : List X) → x �
 single x [] y after e = (refl, let same : y ≡ x = cc in same)
 single x (z ∷ zs) y after e = absurd (no_middle zs y after (let rest : [] ≡ zs ++ y ∷ after = cc in rest))
 
-one_right : {X : Type 0} (Right : List X → X → Type 0) (x : X) → Right [] x → AllRight Right (x ∷ [])
+pub one_right : {X : Type 0} (Right : List X → X → Type 0) (x : X) → Right [] x → AllRight Right (x ∷ [])
 one_right Right x r before y after e = let s = single x before y after e in subst (λ z. Right z y) (sym s.0) (subst (Right []) (sym s.1) r)
 
-starts : before_slice one_way_book 0 (slice_get one_way_request.slices 0) None ≡ Some one_way_root.at
+pub starts : before_slice one_way_book 0 (slice_get one_way_request.slices 0) None ≡ Some one_way_root.at
 starts = refl
 
-root_one : (r : State) → IsRoot one_way_book one_way_request r → r ≡ one_way_root
+pub root_one : (r : State) → IsRoot one_way_book one_way_request r → r ≡ one_way_root
 root_one r h = h.2 ∙ ap (λ z. let x : State = record { at = z; units = []; part = no_part } in x) (same h.0 h.1)
   where
     same : (at : Position) → Some one_way_root.at ≡ Some at → at ≡ one_way_root.at
@@ -38,7 +38,7 @@ root_one r h = h.2 ∙ ap (λ z. let x : State = record { at = z; units = []; pa
 no_via : false ≡ true → ⊥
 no_via e = cc
 
-rows_hold : (bound : ℕ) → RowsHold one_way_book one_way_request (one_way_row bound ∷ [])
+pub rows_hold : (bound : ℕ) → RowsHold one_way_book one_way_request (one_way_row bound ∷ [])
 rows_hold bound = (
   one_right (RowRight one_way_book one_way_request) (one_way_row bound) (record {
     greater = tt;
@@ -47,7 +47,7 @@ rows_hold bound = (
   (one_way_row bound, inl refl, (one_way_root.at, starts, refl)),
 )
 
-bounds_hold : (bound : ℕ) → bound ≤ 20000 → BoundsHold one_way_book one_way_request (one_way_row bound ∷ [])
+pub bounds_hold : (bound : ℕ) → bound ≤ 20000 → BoundsHold one_way_book one_way_request (one_way_row bound ∷ [])
 bounds_hold bound le = one_right (BoundRight one_way_book one_way_request (one_way_row bound ∷ [])) (one_way_row bound) (
   λ m fs p mv. (bound, refl, omega (arith, le, (only_move m fs p None [] mv).2)),
   λ m fs p at us mv. absurd (some_none at (only_move m fs p (Some at) us mv).1),
@@ -62,12 +62,12 @@ bounds_fail bound lt h = too_much (h.0 one_way_move (flight ∷ []) one_way_piec
     too_much : BoundWithin (one_way_row bound) 20000 → ⊥
     too_much (other, e, le) = let same : bound ≡ other = cc in omega (arith, same, le, lt)
 
-answers_hold : RunsAreTickets one_way_book one_way_request → AnswersHold one_way_book one_way_request (one_way_answer ∷ [])
+pub answers_hold : RunsAreTickets one_way_book one_way_request → AnswersHold one_way_book one_way_request (one_way_answer ∷ [])
 answers_hold runs =
     let t = runs (one_way_move ∷ []) 20000 (one_way_root.at, starts, (flight ∷ [], one_way_piece, root_move, refl)) in
     one_right (AnswerRight one_way_book one_way_request) one_way_answer (record { few = omega arith; lawful = (t.0, (t.1, t.2, t.3)); greater = tt })
 
-departures_hold : (bound : ℕ) → DeparturesHold one_way_book one_way_request (one_way_row bound ∷ []) (one_way_answer ∷ [])
+pub departures_hold : (bound : ℕ) → DeparturesHold one_way_book one_way_request (one_way_row bound ∷ []) (one_way_answer ∷ [])
 departures_hold bound front m price d = absurd (d.none_takes one_way_answer [] (inl refl) (sym (ap (λ z. z ++ m ∷ []) (no_front front d.is_front) ∙ ap (λ z. z ∷ []) (moves d.there (at_root front d.there d.price (no_front front d.is_front) d.leads) d.last d.counts))))
   where
     no_front : (front : List Move) → IsFront (one_way_answer ∷ []) front → front ≡ []

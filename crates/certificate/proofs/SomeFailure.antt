@@ -1,5 +1,5 @@
 -- No certificate is left out: where none of the checks is the first that fails, they hold.
-use Rattle.std.proofs.Common.{◌≡◌, ◌⊎◌, ℕ, zero, suc, ◌≤◌, ◌<◌, List, [], ◌∷◌, ◌++◌, length, sym, refl, ap, ◌∙◌, subst, inl, inr, arith}
+use Rattle.std.proofs.Common.{◌≡◌, ◌⊎◌, ℕ, zero, suc, ◌<◌, List, [], ◌∷◌, ◌++◌, length, sym, refl, ap, ◌∙◌, subst, inl, inr, arith}
 use Rattle.std.proofs.lemmas.Bool.{cases_eq}
 use Rattle.certificate.specs.declared.parts.CertAnswer.{CertAnswer}
 use Rattle.certificate.specs.declared.parts.CertRow.{CertRow}
@@ -129,13 +129,13 @@ module _ (never : (p : ℕ) (w : List ℕ) → Before p w p w → ⊥) (trans : 
   pub some_failure : (c : Certificate) (b : Book) (q : Request) → (Checks c b q → ⊥) → ((rule place : ℕ) → FirstFailure c b q rule place → ⊥) → ⊥
   some_failure c b q fails none =
       rows_or (λ rows.
-          first_or_all (BoundRight b q c.rows) c.rows (λ bounds.
-              first_or_all (AnswerRight b q) c.answers (λ answers.
-                  let departures = departures_hold b q c.rows c.answers (λ place w. none 4 place (inr (rows, inr (bounds, inr (answers, inl (refl, w)))))) in
-                  request_or (λ is. fails (record { rows = rows; bounds = bounds; answers = answers; departures = departures; request = is }))
-                  (λ place w. none 5 place (inr (rows, inr (bounds, inr (answers, inr (departures, (refl, w))))))))
-              (λ place w. none 3 place (inr (rows, inr (bounds, inl (refl, w))))))
-          (λ place w. none 2 place (inr (rows, inl (refl, w)))))
+      first_or_all (BoundRight b q c.rows) c.rows (λ bounds.
+      first_or_all (AnswerRight b q) c.answers (λ answers.
+      let departures = departures_hold b q c.rows c.answers (λ place w. none 4 place (inr (rows, inr (bounds, inr (answers, inl (refl, w)))))) in
+      request_or (λ is. fails (record { rows = rows; bounds = bounds; answers = answers; departures = departures; request = is }))
+      (λ place w. none 5 place (inr (rows, inr (bounds, inr (answers, inr (departures, (refl, w))))))))
+      (λ place w. none 3 place (inr (rows, inr (bounds, inl (refl, w))))))
+      (λ place w. none 2 place (inr (rows, inl (refl, w)))))
       (λ place w. none 1 place (inl (refl, w)))
     where
       rows_or : (RowsHold b q c.rows → ⊥) → ((place : ℕ) → RowsFail b q c.rows place → ⊥) → ⊥

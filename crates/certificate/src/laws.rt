@@ -1,11 +1,9 @@
 //! What a certificate is worth, as laws for the crates above: a function calls the law it stands on.
 ghost use Rattle.certificate.specs.CertOf.{OneCertificate, SameAnswers, SameByRuns, SearchMeetsChecks, YesIsBest};
 ghost use Rattle.certificate.specs.declared.parts.Certificate.{Certificate};
-ghost use Rattle.certificate.specs.Checks.{Checks, FirstFailure, OneFailure};
-ghost use Rattle.certificate.specs.OneWay.{one_way_book, one_way_certificate, one_way_request};
+ghost use Rattle.certificate.specs.Checks.{OneFailure};
 ghost use Rattle.fare_law.specs.declared.requests.Request.{Request};
 ghost use Rattle.fare_law.specs.Book.{Book};
-ghost use Rattle.std.specs.Prelude.{ℕ, ◌<◌, ◌≤◌};
 
 use residual_keys::{best_runs, nothing_lost, one_best, one_next, residual_order, runs_are_short};
 use ticket_order::{codes_tell, order_laws};
@@ -92,13 +90,4 @@ pub fn same_by_runs()
     runs_are_short();
     codes_tell();
     order_laws();
-}
-
-/// A worked case of one flight and one fare of 20,000: the certificate meets the checks with each bound
-/// of its one row up to that amount, and with each greater one the bound check fails at row 1.
-pub fn one_way_case()
-    ensures meets { (bound : ℕ) → bound ≤ 20000 → Checks (one_way_certificate bound) one_way_book one_way_request }
-    ensures refused { (bound : ℕ) → 20000 < bound → FirstFailure (one_way_certificate bound) one_way_book one_way_request 2 1 }
-{
-    nothing_lost();
 }

@@ -5,9 +5,10 @@
 
 mod laws;
 mod parts;
+mod worked;
 
 pub use laws::{
-    one_certificate, one_failure, one_way_case, same_answers, same_by_runs, search_meets_checks,
-    yes_is_best,
+    one_certificate, one_failure, same_answers, same_by_runs, search_meets_checks, yes_is_best,
 };
 pub use parts::{CertAnswer, CertRow, Certificate};
+pub use worked::{one_way_fails, one_way_meets};
