@@ -3,6 +3,7 @@ use Rattle.std.specs.Prelude.{ℕ, pos, List, [], ◌∷◌, Some, None}
 use Rattle.certificate.specs.declared.parts.CertAnswer.{CertAnswer}
 use Rattle.certificate.specs.declared.parts.CertRow.{CertRow}
 use Rattle.certificate.specs.declared.parts.Certificate.{Certificate}
+use Rattle.certificate.specs.Checks.{FirstFailure}
 use Rattle.fare_law.specs.declared.fares.Fare.{Fare}
 use Rattle.fare_law.specs.declared.fares.FareKind.TheVariants.{O}
 use Rattle.fare_law.specs.declared.filings.Action.TheVariants.{PutFare}
@@ -73,3 +74,11 @@ one_way_row bound = record { residual = one_way_root; bound = Some bound }
 
 abbrev pub one_way_certificate : ℕ → Certificate
 one_way_certificate bound = record { number = 1; request = one_way_request; answers = one_way_answer ∷ []; rows = one_way_row bound ∷ [] }
+
+-- the certificate of a search
+abbrev pub one_way_right : Certificate
+one_way_right = one_way_certificate 20000
+
+-- this check is the first that fails of the certificate, at this place
+abbrev pub FailsAt : Certificate → ℕ → ℕ → Type 0
+FailsAt c rule place = FirstFailure c one_way_book one_way_request rule place
