@@ -1,5 +1,5 @@
 -- The certificate of a search is the same by best tickets and by least runs.
-use Rattle.std.proofs.Common.{◌≡◌, ◌≤◌, map, sym, ◌∙◌, subst}
+use Rattle.std.proofs.Common.{List, ◌≡◌, ◌≤◌, map, sym, ◌∙◌, subst}
 use Rattle.certificate.specs.declared.parts.CertAnswer.{CertAnswer}
 use Rattle.certificate.specs.declared.parts.Certificate.{Certificate}
 use Rattle.certificate.specs.AnswerCheck.{AnswerIs, run_of}
@@ -9,9 +9,10 @@ use Rattle.certificate.proofs.ListFacts.{each_from, each_map, length_map, map_in
 use Rattle.certificate.proofs.MeetsChecks.{answers_ascend, answers_few, comes_after}
 use Rattle.certificate.proofs.Tickets.{costs_one}
 use Rattle.fare_law.specs.declared.requests.Request.{Request}
+use Rattle.fare_law.specs.declared.tickets.Ticket.{Ticket}
 use Rattle.fare_law.specs.Book.{Book}
-use Rattle.fare_law.specs.Lists.{IsIn}
-use Rattle.fare_law.specs.Order.{Costs}
+use Rattle.fare_law.specs.Lists.{IsIn, Matched}
+use Rattle.fare_law.specs.Order.{Best, Costs}
 use Rattle.flight_paths.specs.Positions.{Ascending}
 use Rattle.residual_keys.specs.Residuals.{RunFromRoot}
 use Rattle.residual_keys.specs.Searches.{BestRuns, Drawn, DrawnBefore, IsDrawn, TicketOf}
@@ -43,13 +44,13 @@ module _ (known : Known) (b : Book) (q : Request) (asc : Ascending b.timetable.f
         (each_map run_of (λ y. DrawnBefore y d) c.answers k.0, length_map run_of c.answers ∙ k.1);
   }
 
-best_tickets : Known → (b : Book) (q : Request) → Ascending b.timetable.flights → (c : Certificate) → CertOfRuns b q c → CertOf b q c
-best_tickets known b q asc c of =
-    let t = known.best_tickets b q asc (map run_of c.answers) of.runs in
+pub from_runs : (b : Book) (q : Request) → ((ds : List Drawn) → BestRuns b q q.best ds → (ts : List Ticket) × Matched (TicketOf b q) ds ts × Best b q ts) → (c : Certificate) → CertOfRuns b q c → CertOf b q c
+from_runs b q tickets c of =
+    let t = tickets (map run_of c.answers) of.runs in
     record { of = of.of; tickets = t.0; best = t.2; answers = matched_map run_of (TicketOf b q) c.answers t.0 t.1; rows = of.rows }
 
 pub same_by_runs : Known → (c : Certificate) (b : Book) (q : Request) → SameByRuns c b q
 same_by_runs known c b q asc = (
   λ of. record { of = of.of; runs = best_runs known b q asc c of; rows = of.rows },
-  best_tickets known b q asc c,
+  from_runs b q (known.best_tickets b q asc) c,
 )

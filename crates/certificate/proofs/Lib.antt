@@ -12,3 +12,4 @@ pub mod OneWayMoves
 pub mod OneWayChecks
 pub mod ByRuns
 pub mod OneWayFailures
+pub mod OneWayOf

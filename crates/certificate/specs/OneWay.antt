@@ -75,7 +75,7 @@ one_way_row bound = record { residual = one_way_root; bound = Some bound }
 abbrev pub one_way_certificate : ℕ → Certificate
 one_way_certificate bound = record { number = 1; request = one_way_request; answers = one_way_answer ∷ []; rows = one_way_row bound ∷ [] }
 
--- the certificate of a search
+-- with the fare's amount as its bound
 abbrev pub one_way_right : Certificate
 one_way_right = one_way_certificate 20000
 

@@ -1,5 +1,6 @@
 //! A worked case of one flight and one fare: a certificate that meets the checks, and one for each
 //! check that fails it. A wrong sentence in a definition shows here.
+ghost use Rattle.certificate.specs.CertOf.{CertOf};
 ghost use Rattle.certificate.specs.Checks.{Checks};
 ghost use Rattle.certificate.specs.OneWay.{FailsAt, one_way_answer, one_way_book, one_way_certificate, one_way_request, one_way_right, one_way_row};
 ghost use Rattle.std.specs.Prelude.{ℕ, ◌<◌, ◌≢◌, ◌≤◌, [], ◌∷◌};
@@ -12,6 +13,14 @@ pub fn one_way_meets()
     ensures { (bound : ℕ) → bound ≤ 20000 → Checks (one_way_certificate bound) one_way_book one_way_request }
 {
     nothing_lost();
+}
+
+/// With the fare's amount as the bound it is the certificate of a search, with no smaller bound it is one.
+pub fn one_way_of()
+    ensures right { CertOf one_way_book one_way_request one_way_right }
+    ensures smaller { (bound : ℕ) → bound < 20000 → CertOf one_way_book one_way_request (one_way_certificate bound) → ⊥ }
+{
+    best_runs();
 }
 
 /// The case changed. The row check fails without the row and at the second of two equal rows; the bound
