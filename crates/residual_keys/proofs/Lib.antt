@@ -17,3 +17,4 @@ pub mod LeastOne
 pub mod OneBest
 pub mod Short
 pub mod Slots
+pub mod Compared
