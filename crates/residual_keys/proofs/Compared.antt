@@ -1,5 +1,5 @@
 -- The comparison of residuals tells which stands before the other, and which are one.
-use Rattle.std.proofs.Common.{◌≡◌, ◌⊎◌, ◌↔◌, ℕ, ℤ, ◌≤◌, List, [], ◌∷◌, length, slice_get, Option, Some, None, Ordering, Less, Equal, Greater, nat_cmp, int_cmp, sym, refl, ap, ap₂, ◌∙◌, subst, inl, inr, arith}
+use Rattle.std.proofs.Common.{◌≡◌, ◌↔◌, ℕ, ℤ, ◌≤◌, List, [], ◌∷◌, length, slice_get, Option, Some, None, Ordering, Less, Equal, Greater, nat_cmp, int_cmp, sym, refl, ap, ap₂, subst, inl, inr, arith}
 use Rattle.std.proofs.lemmas.Cmp.{ranked, int_ranked}
 use Rattle.std.specs.Cmp.Lexicographic.{slice_cmp}
 use Rattle.std.specs.Option.{option_cmp}
@@ -22,7 +22,7 @@ use Rattle.residual_keys.specs.contracts.parts.TicketPartOrd.TheImpl as part
 use Rattle.residual_keys.specs.contracts.residual.ResidualOrd.TheImpl as residual
 use Rattle.residual_keys.specs.declared.parts.TicketPart.{TicketPart}
 use Rattle.residual_keys.specs.Kept.{IsResidual}
-use Rattle.residual_keys.specs.ResidualOrder.{FieldBefore, OptionBefore, ListBefore, NumberBefore, DayBefore, PlaceBefore, CarrierBefore, CarriersBefore, RulesBefore, PositionBefore, UnitBefore, PartBefore, StateBefore, IsStrictOrder}
+use Rattle.residual_keys.specs.ResidualOrder.{FieldBefore, OptionBefore, ListBefore, NumberBefore, DayBefore, PlaceBefore, CarrierBefore, CarriersBefore, RulesBefore, PositionBefore, UnitBefore, PartBefore, StateBefore}
 use Rattle.residual_keys.specs.Residuals.{State}
 use Rattle.residual_keys.proofs.Ordered.{states}
 

@@ -18,3 +18,4 @@ pub mod OneBest
 pub mod Short
 pub mod Slots
 pub mod Compared
+pub mod Needed

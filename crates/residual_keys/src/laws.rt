@@ -15,7 +15,7 @@ ghost use Rattle.residual_keys.specs.NothingLost.{OneTicket, RunsAreTickets, Sam
 ghost use Rattle.residual_keys.specs.OneNext.{MoveLeavesOne, MovesLeadToOne, RunGoesOn, RunHasKeys};
 ghost use Rattle.residual_keys.specs.Residuals.{RunFromRoot, State};
 ghost use Rattle.residual_keys.specs.ResidualOrder.{IsStrictOrder, StateBefore};
-ghost use Rattle.residual_keys.specs.Searches.{BestRuns, Drawn, TicketOf};
+ghost use Rattle.residual_keys.specs.Searches.{AreNeeded, BestRuns, Drawn, TicketOf};
 ghost use Rattle.residual_keys.specs.Short.{FliesFew, MoveGoesOn, ReachedFits, RootRunIsShort, RunIsShort};
 ghost use Rattle.std.specs.declared.cmp.Ordering.TheVariants.{Equal, Less};
 ghost use Rattle.std.specs.Prelude.{List, length, ℕ, ◌≡◌, ◌≤◌, ◌↔◌, ◌⊎◌};
@@ -67,11 +67,12 @@ pub fn best_runs()
 }
 
 /// The order in which the rows of a certificate stand is strict and total, and the comparison of
-/// residuals tells it.
+/// residuals tells it. So there is one list of the residuals that a search needs.
 pub fn residual_order()
     ensures order { IsStrictOrder StateBefore }
     ensures before { (x y : State) → IsResidual x → IsResidual y → (⟦<Residual as Ord>⟧.cmp x y ≡ Less) ↔ StateBefore x y }
     ensures same { (x y : State) → IsResidual x → IsResidual y → (⟦<Residual as Ord>⟧.cmp x y ≡ Equal) ↔ (x ≡ y) }
+    ensures need { (b : Book) (q : Request) (xs ys : List State) → AreNeeded StateBefore b q xs → AreNeeded StateBefore b q ys → xs ≡ ys }
 {}
 
 /// The order of tickets by price and code is strict, and total on the lawful tickets of a book whose
