@@ -57,8 +57,20 @@ fn makes_residuals(rt: HostRuntime) {
         ("two units", Some(unit), Some(unit), asked(2, 3), true),
         ("the second alone", None, Some(unit), asked(1, 0), false),
         ("a late first day", Some(late), None, asked(1, 0), false),
-        ("four components", Some(unit), Some(long), asked(1, 0), false),
-        ("one rule, two carriers", Some(mixed), None, asked(1, 0), false),
+        (
+            "four components",
+            Some(unit),
+            Some(long),
+            asked(1, 0),
+            false,
+        ),
+        (
+            "one rule, two carriers",
+            Some(mixed),
+            None,
+            asked(1, 0),
+            false,
+        ),
         ("three units begun", None, None, asked(3, 0), false),
     ];
     for (name, unit1, unit2, part, made) in cases {

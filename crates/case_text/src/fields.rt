@@ -1,0 +1,34 @@
+//! The fields of a row.
+ghost use Rattle.std.specs.Prelude.{◌≡◌, ◌<◌, ◌↔◌, IsTrue, length, IfOk};
+ghost use Rattle.csv.specs.Records.{fields_of};
+ghost use Rattle.case_text.specs.Cut.{cut, IsPlainLine, IsPlain};
+
+use csv::{ByteRecord, Error, ReaderBuilder};
+use std::alloc::Global;
+
+/// The fields of a line of ASCII characters without quotes and line ends.
+pub fn line_fields(alloc: Global, line: &[u8]) -> Result<ByteRecord, Error>
+    requires plain { IsPlainLine line.now }
+    requires some { 0 < length line.now }
+    ensures { IfOk result (λ row. fields_of row ≡ cut line.now) }
+{
+    let mut reader = ReaderBuilder::new()
+        .has_headers(false)
+        .from_reader(alloc, line);
+    let mut row = ByteRecord::new(alloc);
+    let _found = reader.read_byte_record(&mut row)?;
+    Ok(row)
+}
+
+/// Whether the line is ASCII without quotes and line ends.
+pub fn is_plain(line: &[u8]) -> bool
+    ensures { IsTrue result ↔ IsPlainLine line.now }
+{
+    line.iter().all(|byte| is_plain_byte(*byte))
+}
+
+fn is_plain_byte(byte: u8) -> bool
+    ensures { IsTrue result ↔ IsPlain byte }
+{
+    byte < 128 && byte != b'"' && byte != b'\n' && byte != b'\r'
+}

@@ -1,0 +1,4 @@
+pub mod CenturyLemmas
+pub mod ClockLemmas
+pub mod DigitLemmas
+pub mod TextLemmas

@@ -1,0 +1,4 @@
+pub mod Clock
+pub mod Dates
+pub mod Digits
+pub mod Weekdays
