@@ -1,19 +1,17 @@
 -- What is reached fits the request, and what leads on from there is a path.
-use Rattle.std.proofs.Common.{◌≡◌, ℕ, zero, suc, ◌+◌, ◌*◌, ◌≤◌, ◌<◌, ◌↔◌, Bool, true, false, cond, ◌==◌, List, [], ◌∷◌, length, map, slice_get, Option, Some, None, IsSome, IfSome, is_some, ◌≢◌, sym, refl, ap, ◌∙◌, subst, inl, inr, arith, length-append, eq-eqb, ne_eqb, ℤ}
-use Rattle.std.proofs.lemmas.Bool.{cases_eq, cases_order, true≢false}
+use Rattle.std.proofs.Common.{◌≡◌, ℕ, zero, suc, ◌≤◌, ◌<◌, ◌↔◌, Bool, true, false, cond, ◌==◌, List, [], ◌∷◌, length, map, slice_get, Option, Some, None, IsSome, IfSome, is_some, ◌≢◌, sym, refl, ap, ◌∙◌, subst, inl, inr, arith, eq-eqb, ne_eqb, ℤ}
+use Rattle.std.proofs.lemmas.Bool.{cases_eq, true≢false}
 use Rattle.fare_law.specs.declared.flights.Flight.{Flight}
 use Rattle.fare_law.specs.declared.moves.Move.{Move}
 use Rattle.fare_law.specs.declared.names.Place.{Place}
 use Rattle.fare_law.specs.declared.requests.Request.{Request}
 use Rattle.fare_law.specs.declared.requests.Slice.{Slice}
-use Rattle.fare_law.specs.declared.tickets.Piece.{Piece}
 use Rattle.fare_law.specs.Book.{Book}
-use Rattle.fare_law.specs.Lists.{Each, AllDifferent}
+use Rattle.fare_law.specs.Lists.{Each}
 use Rattle.fare_law.specs.Parts.{Shape}
 use Rattle.flight_paths.specs.declared.positions.Position.{Position}
 use Rattle.flight_paths.specs.Positions.{via_after, position_inside, Fits, KeepsOff, IsPath, via_places, Flies, LeadsTo, before_slice, start_of_range, end_of_range, before_first, is_zero, fits_before, fits_inside}
-use Rattle.open_unit.specs.declared.units.OpenUnit.{OpenUnit}
-use Rattle.residual_keys.specs.Residuals.{State, Moves, Run, RunFromRoot, LeadsFrom, begins, part_with, no_part}
+use Rattle.residual_keys.specs.Residuals.{State, LeadsFrom, begins, part_with, no_part}
 use Rattle.residual_keys.specs.Searches.{Reached}
 
 -- a range lies in the timetable

@@ -17,3 +17,5 @@ pub mod LeastOne
 pub mod OneBest
 pub mod Short
 pub mod Slots
+pub mod Compared
+pub mod Needed

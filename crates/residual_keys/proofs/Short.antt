@@ -1,17 +1,16 @@
 -- Runs are short.
-use Rattle.std.proofs.Common.{◌≡◌, ℕ, zero, suc, ◌+◌, ◌*◌, ◌≤◌, ◌<◌, ◌↔◌, Bool, true, false, cond, ◌==◌, List, [], ◌∷◌, length, flat_map, slice_get, Option, Some, None, IsSome, sym, refl, ap, subst, inl, inr, arith, length-append, eq-eqb, ne_eqb, ℤ}
-use Rattle.std.proofs.lemmas.Bool.{cases_eq, cases_order, true≢false}
+use Rattle.std.proofs.Common.{◌≡◌, ℕ, suc, ◌+◌, ◌*◌, ◌≤◌, List, [], ◌∷◌, length, flat_map, slice_get, Option, Some, None, sym, refl, subst, inl, inr, arith, length-append}
+use Rattle.std.proofs.lemmas.Bool.{cases_order}
 use Rattle.fare_law.specs.declared.flights.Flight.{Flight}
 use Rattle.fare_law.specs.declared.moves.Move.{Move}
-use Rattle.fare_law.specs.declared.names.Place.{Place}
 use Rattle.fare_law.specs.declared.requests.Request.{Request}
 use Rattle.fare_law.specs.declared.requests.Slice.{Slice}
 use Rattle.fare_law.specs.declared.tickets.Piece.{Piece}
 use Rattle.fare_law.specs.Book.{Book}
 use Rattle.flight_paths.specs.declared.positions.Position.{Position}
-use Rattle.flight_paths.specs.Positions.{IsPath, Flies, LeadsTo, before_slice, start_of_range, end_of_range, before_first, is_zero, fits_before, fits_inside}
+use Rattle.flight_paths.specs.Positions.{IsPath, Flies, LeadsTo, before_slice}
 use Rattle.open_unit.specs.declared.units.OpenUnit.{OpenUnit}
-use Rattle.residual_keys.specs.Residuals.{State, Moves, Run, RunFromRoot, LeadsFrom, begins, part_with, no_part}
+use Rattle.residual_keys.specs.Residuals.{State, Moves, Run, RunFromRoot, begins, part_with, no_part}
 use Rattle.residual_keys.proofs.Fitting.{get_within}
 use Rattle.residual_keys.specs.Short.{flights_before, Earlier}
 

@@ -1,5 +1,5 @@
 -- What the type of residuals keeps.
-use Rattle.std.specs.Prelude.{◌≡◌, ◌≢◌, ℕ, ℤ, pos, ◌≤◌, ◌≤ℤ◌, List, [], ◌∷◌, length, Option, Some, None, IfSome}
+use Rattle.std.specs.Prelude.{◌≡◌, ◌≢◌, ℤ, pos, ◌≤◌, ◌≤ℤ◌, List, [], ◌∷◌, length, Option, Some, None, IfSome}
 use Rattle.fare_law.specs.Lists.{Each}
 use Rattle.open_unit.specs.declared.marks.CarrierMark.{CarrierMark}
 use Rattle.open_unit.specs.declared.marks.CarrierMark.TheVariants.{NotYet, Mixed}

@@ -10,14 +10,17 @@ ghost use Rattle.fare_law.specs.Moves.{moves_of, run_code};
 ghost use Rattle.fare_law.specs.Order.{Best, Cheaper, HasKeys, code};
 ghost use Rattle.flight_paths.specs.Positions.{Ascending};
 ghost use Rattle.open_unit.specs.OpenUnits.{unit_steps};
+ghost use Rattle.residual_keys.specs.Kept.{IsResidual};
 ghost use Rattle.residual_keys.specs.NothingLost.{OneTicket, RunsAreTickets, SameCompletions, TicketsAreRuns};
 ghost use Rattle.residual_keys.specs.OneNext.{MoveLeavesOne, MovesLeadToOne, RunGoesOn, RunHasKeys};
-ghost use Rattle.residual_keys.specs.Residuals.{RunFromRoot};
+ghost use Rattle.residual_keys.specs.Residuals.{RunFromRoot, State};
 ghost use Rattle.residual_keys.specs.ResidualOrder.{IsStrictOrder, StateBefore};
-ghost use Rattle.residual_keys.specs.Searches.{BestRuns, Drawn, TicketOf};
+ghost use Rattle.residual_keys.specs.Searches.{AreNeeded, BestRuns, Drawn, TicketOf};
 ghost use Rattle.residual_keys.specs.Short.{FliesFew, MoveGoesOn, ReachedFits, RootRunIsShort, RunIsShort};
-ghost use Rattle.std.specs.Prelude.{List, length, ℕ, ◌≡◌, ◌≤◌, ◌⊎◌};
+ghost use Rattle.std.specs.declared.cmp.Ordering.TheVariants.{Equal, Less};
+ghost use Rattle.std.specs.Prelude.{List, length, ℕ, ◌≡◌, ◌≤◌, ◌↔◌, ◌⊎◌};
 
+use crate::Residual;
 use fare_law::Piece;
 use open_unit::OpenUnit;
 use ticket_order::{codes_tell, order_laws};
@@ -63,9 +66,13 @@ pub fn best_runs()
     unit_laws::<Piece, OpenUnit, FareUnits>();
 }
 
-/// The order in which the rows of a certificate stand is strict and total.
+/// The order in which the rows of a certificate stand is strict and total, and the comparison of
+/// residuals tells it. So there is one list of the residuals that a search needs.
 pub fn residual_order()
-    ensures { IsStrictOrder StateBefore }
+    ensures order { IsStrictOrder StateBefore }
+    ensures before { (x y : State) → IsResidual x → IsResidual y → (⟦<Residual as Ord>⟧.cmp x y ≡ Less) ↔ StateBefore x y }
+    ensures same { (x y : State) → IsResidual x → IsResidual y → (⟦<Residual as Ord>⟧.cmp x y ≡ Equal) ↔ (x ≡ y) }
+    ensures need { (b : Book) (q : Request) (xs ys : List State) → AreNeeded StateBefore b q xs → AreNeeded StateBefore b q ys → xs ≡ ys }
 {}
 
 /// The order of tickets by price and code is strict, and total on the lawful tickets of a book whose

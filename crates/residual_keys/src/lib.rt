@@ -5,6 +5,8 @@ mod kept;
 mod laws;
 mod parts;
 mod residual;
+#[cfg(test)]
+mod tests;
 
 pub use laws::{best_runs, nothing_lost, one_best, one_next, residual_order, runs_are_short};
 pub use parts::TicketPart;
