@@ -4,7 +4,7 @@ use Rattle.std.proofs.lemmas.Bool.{cases_Bool, cases_order, lt-leb}
 use Rattle.std.proofs.lemmas.List.{drop_all}
 use borrow.Author.Tests.{tests}
 use Rattle.std.specs.Char.{is_ascii_digit}
-use Rattle.case_text.specs.Numbers.{leads_well, read_on, number_spelled, within, number_within}
+use Rattle.case_text.specs.Numbers.{read_on, within, number_within}
 
 -- the number that the digits from a place on write, after those of n
 abbrev pub from_place : ℕ → ℕ → List ℕ → Option ℕ

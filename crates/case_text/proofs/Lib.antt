@@ -2,3 +2,4 @@ pub mod Cutting
 pub mod Digits
 pub mod Machine
 pub mod Classes
+pub mod Columns

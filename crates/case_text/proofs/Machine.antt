@@ -2,7 +2,7 @@
 use Rattle.std.proofs.Common.{◌≡◌, ◌≢◌, ◌<◌, ℕ, List, [], ◌∷◌, ◌++◌, Bool, true, false, Option, Some, None, refl, ap, sym, ◌∙◌, subst, arith, eqb, append-nil, append_assoc, inl, inr, length}
 use Rattle.std.proofs.lemmas.Grind.{common_steps}
 use Rattle.std.proofs.lemmas.Bool.Decides.{eqb_tells}
-use Rattle.csv.specs.Machine.{next_record, step, Read, ends_at_end, in_field}
+use Rattle.csv.specs.Machine.{next_record, step, ends_at_end, in_field}
 use Rattle.csv.specs.Reading.{default_config, strip_bom, ReadsNext, NextIs}
 use Rattle.csv.specs.declared.parser.Config.{Config}
 use Rattle.csv.specs.declared.parser.State.{State}

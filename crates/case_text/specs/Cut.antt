@@ -1,5 +1,5 @@
 -- A line cut at its commas.
-use Rattle.std.specs.Prelude.{◌≡◌, ◌≢◌, ◌==◌, ◌<◌, ℕ, List, [], ◌∷◌, if◌then◌else◌, All, nat_lt, not, ◌&&◌}
+use Rattle.std.specs.Prelude.{◌≢◌, ◌==◌, ◌<◌, ℕ, List, [], ◌∷◌, if◌then◌else◌, All, Bool, nat_lt, not, ◌&&◌}
 use Rattle.std.specs.List.{list_all}
 
 -- the byte goes onto the first field
@@ -23,6 +23,9 @@ pub record IsPlain (c : ℕ) : Type 0 where
 abbrev pub IsPlainLine : List ℕ → Type 0
 IsPlainLine line = All IsPlain line
 
--- the test of such a line
+-- the tests of such a byte and of such a line
+abbrev pub plain_byte : ℕ → Bool
+plain_byte c = nat_lt c 128 && not (c == 34) && not (c == 10) && not (c == 13)
+
 abbrev pub plain_line : List ℕ → Bool
-plain_line line = list_all (λ c. nat_lt c 128 && not (c == 34) && not (c == 10) && not (c == 13)) line
+plain_line line = list_all plain_byte line

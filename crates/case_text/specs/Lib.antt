@@ -4,3 +4,4 @@ pub mod Numbers
 pub mod Cut
 pub mod Marks
 pub mod Rows
+pub mod Gives

@@ -1,5 +1,5 @@
 -- The lines of a text, numbered from 1, without the empty ones.
-use Rattle.std.specs.Prelude.{◌≡◌, ◌+◌, ◌==◌, ℕ, cond, List, [], ◌∷◌, length}
+use Rattle.std.specs.Prelude.{◌+◌, ◌==◌, ℕ, cond, List, [], ◌∷◌, length}
 use Rattle.std.specs.Str.Lines.{lines}
 use Rattle.fare_law.specs.declared.rows.TextLine.{TextLine}
 use Rattle.case_text.specs.declared.lines.Line.{Line}

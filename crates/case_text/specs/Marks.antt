@@ -1,5 +1,5 @@
 -- The marks of a row that aren't numbers, names or times: day shifts, weekdays, seats.
-use Rattle.std.specs.Prelude.{ℕ, ℤ, pos, neg_ℤ, Bool, true, false, ◌==◌, ◌&&◌, ◌||◌, ◌+◌, ◌-◌, ◌^◌, nat_le, nat_lt, not, List, [], ◌∷◌, ◌++◌, length, set, replicate, slice_index, Option, Some, None, option_and_then, option_map, if◌then◌else◌, bytes_eq, codes}
+use Rattle.std.specs.Prelude.{ℕ, ℤ, pos, neg_ℤ, Bool, false, ◌==◌, ◌&&◌, ◌||◌, ◌+◌, ◌-◌, ◌^◌, nat_le, nat_lt, not, List, [], ◌∷◌, length, set, replicate, Option, Some, None, option_map, if◌then◌else◌, bytes_eq, codes}
 use Rattle.std.specs.Char.{is_ascii_digit, is_ascii_uppercase}
 use Rattle.market_time.specs.Dates.{day_spelled}
 

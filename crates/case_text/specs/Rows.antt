@@ -1,5 +1,5 @@
 -- The rows of the tables of places, flights and seats: a row, or the first column that isn't of its form.
-use Rattle.std.specs.Prelude.{ℕ, ℤ, pos, Bool, ◌==◌, ◌&&◌, ◌+◌, ◌-◌, List, [], ◌∷◌, length, slice_index_or, Option, Some, None, option_and_then, option_map, Result, Ok, Err, if◌then◌else◌, bytes_eq, codes}
+use Rattle.std.specs.Prelude.{ℕ, ◌==◌, ◌&&◌, ◌-◌, List, [], length, slice_index_or, Option, Some, None, Result, Ok, Err, if◌then◌else◌}
 use Rattle.fare_law.specs.declared.rows.PlaceRow.{PlaceRow}
 use Rattle.fare_law.specs.declared.rows.FlightRow.{FlightRow}
 use Rattle.fare_law.specs.declared.rows.SeatRow.{SeatRow}

@@ -1,7 +1,7 @@
 //! The fields of a row.
 ghost use Rattle.std.specs.Prelude.{◌≡◌, ◌<◌, ◌↔◌, IsTrue, length, IfOk};
 ghost use Rattle.csv.specs.Records.{fields_of};
-ghost use Rattle.case_text.specs.Cut.{cut, IsPlainLine, IsPlain};
+ghost use Rattle.case_text.specs.Cut.{cut, IsPlainLine, IsPlain, plain_line, plain_byte};
 
 use csv::{ByteRecord, Error, ReaderBuilder};
 use std::alloc::Global;
@@ -22,13 +22,15 @@ pub fn line_fields(alloc: Global, line: &[u8]) -> Result<ByteRecord, Error>
 
 /// Whether the line is ASCII without quotes and line ends.
 pub fn is_plain(line: &[u8]) -> bool
-    ensures { IsTrue result ↔ IsPlainLine line.now }
+    ensures plain { IsTrue result → IsPlainLine line.now }
+    ensures test { result ≡ plain_line line.now }
 {
     line.iter().all(|byte| is_plain_byte(*byte))
 }
 
 fn is_plain_byte(byte: u8) -> bool
-    ensures { IsTrue result ↔ IsPlain byte }
+    ensures plain { IsTrue result ↔ IsPlain byte }
+    ensures test { result ≡ plain_byte byte }
 {
     byte < 128 && byte != b'"' && byte != b'\n' && byte != b'\r'
 }

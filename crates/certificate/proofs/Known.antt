@@ -10,8 +10,9 @@ use Rattle.fare_law.specs.Order.{Before, Best, Cheaper, HasKeys, Less, code}
 use Rattle.flight_paths.specs.Positions.{Ascending}
 use Rattle.residual_keys.specs.NothingLost.{OneTicket, RunsAreTickets, TicketsAreRuns}
 use Rattle.residual_keys.specs.OneNext.{MoveLeavesOne, RunGoesOn, RunHasKeys}
-use Rattle.residual_keys.specs.ResidualOrder.{IsStrictOrder, StateBefore}
-use Rattle.residual_keys.specs.Searches.{BestRuns, Drawn, TicketOf}
+use Rattle.residual_keys.specs.ResidualOrder.{StateBefore}
+use Rattle.residual_keys.specs.Residuals.{State}
+use Rattle.residual_keys.specs.Searches.{AreNeeded, BestRuns, Drawn, TicketOf}
 use Rattle.residual_keys.specs.Short.{ReachedFits}
 use Rattle.ticket_order.specs.Coding.{Coded}
 
@@ -26,7 +27,7 @@ pub record Known : Type 0 where
   pub fits : (b : Book) (q : Request) → ReachedFits b q
   pub best_tickets : (b : Book) (q : Request) → Ascending b.timetable.flights → (ds : List Drawn) → BestRuns b q q.best ds → (ts : List Ticket) × Matched (TicketOf b q) ds ts × Best b q ts
   pub one_best : (b : Book) (q : Request) → HasKeys b → (ts us : List Ticket) → Best b q ts → Best b q us → ts ≡ us
-  pub order : IsStrictOrder StateBefore
+  pub need : (b : Book) (q : Request) (xs ys : List State) → AreNeeded StateBefore b q xs → AreNeeded StateBefore b q ys → xs ≡ ys
   pub never : (b : Book) (q : Request) (t : Ticket) → Cheaper b q t t → ⊥
   pub front : (xs ys : List Move) (more : List ℕ) → Each Coded xs → Each Coded ys → run_code ys ≡ run_code xs ++ more → IsPrefix xs ys
   pub joined : (xs ys : List Move) → run_code (xs ++ ys) ≡ run_code xs ++ run_code ys

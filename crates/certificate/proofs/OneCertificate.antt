@@ -1,55 +1,19 @@
 -- The certificate of a search is one, and certificates that meet the checks have one list of answers.
-use Rattle.std.proofs.Common.{◌≡◌, ℕ, arith, List, [], ◌∷◌, map, Option, Some, None, sym, refl, ap, ap₂, ◌∙◌, subst, inl, inr}
+use Rattle.std.proofs.Common.{◌≡◌, ℕ, arith, List, [], ◌∷◌, map, Option, Some, None, sym, refl, ap, ap₂, ◌∙◌, subst}
 use Rattle.certificate.specs.declared.parts.CertAnswer.{CertAnswer}
 use Rattle.certificate.specs.declared.parts.CertRow.{CertRow}
 use Rattle.certificate.specs.AnswerCheck.{AnswerIs}
 use Rattle.certificate.specs.CertOf.{OneCertificate, SameAnswers}
 use Rattle.certificate.proofs.Known.{Known}
-use Rattle.certificate.proofs.ListFacts.{each_in}
 use Rattle.certificate.proofs.OneFirst.{neither_less}
 use Rattle.certificate.proofs.Tickets.{costs_one}
 use Rattle.certificate.proofs.YesIsBest.{yes_is_best}
 use Rattle.fare_law.specs.declared.requests.Request.{Request}
 use Rattle.fare_law.specs.declared.tickets.Ticket.{Ticket}
 use Rattle.fare_law.specs.Book.{Book}
-use Rattle.fare_law.specs.Lists.{Each, EachPair, IsIn, Matched}
-use Rattle.residual_keys.specs.ResidualOrder.{IsStrictOrder, StateBefore}
+use Rattle.fare_law.specs.Lists.{Each, Matched}
 use Rattle.residual_keys.specs.Residuals.{State}
 use Rattle.residual_keys.specs.Searches.{Least}
-
--- two ascending lists with the same elements are one
-module _ {X : Type 0} (Below : X → X → Type 0) (strict : IsStrictOrder Below) where
-  first_below : (x : X) (xs : List X) → EachPair Below (x ∷ xs) → Each (Below x) xs
-  first_below x [] h = tt
-  first_below x (y ∷ ys) h = (h.0, more y ys h.0 (first_below y ys h.1))
-    where
-      more : (y : X) (zs : List X) → Below x y → Each (Below y) zs → Each (Below x) zs
-      more y [] l k = tt
-      more y (z ∷ zs) l k = (strict.trans x y z l k.0, more y zs l k.1)
-
-  pairs_rest : (x : X) (xs : List X) → EachPair Below (x ∷ xs) → EachPair Below xs
-  pairs_rest x [] h = tt
-  pairs_rest x (y ∷ ys) h = h.1
-
-  firsts : (x y : X) (xs ys : List X) → Each (Below x) xs → Each (Below y) ys → IsIn x (y ∷ ys) → IsIn y (x ∷ xs) → x ≡ y
-  firsts x y xs ys h k (inl e) j = e
-  firsts x y xs ys h k (inr i) (inl e) = sym e
-  firsts x y xs ys h k (inr i) (inr j) = absurd (strict.never x (strict.trans x y x (each_in (Below x) xs h y j) (each_in (Below y) ys k x i)))
-
-  in_rest : (x y : X) (xs ys : List X) → x ≡ y → Each (Below x) xs → (z : X) → IsIn z xs → IsIn z (y ∷ ys) → IsIn z ys
-  in_rest x y xs ys e h z i (inl f) = absurd (strict.never x (subst (Below x) (f ∙ sym e) (each_in (Below x) xs h z i)))
-  in_rest x y xs ys e h z i (inr j) = j
-
-  ascending_one : (xs ys : List X) → EachPair Below xs → EachPair Below ys → ((z : X) → IsIn z xs → IsIn z ys) → ((z : X) → IsIn z ys → IsIn z xs) → xs ≡ ys
-  ascending_one [] [] h k to from = refl
-  ascending_one [] (y ∷ ys) h k to from = absurd (from y (inl refl))
-  ascending_one (x ∷ xs) [] h k to from = absurd (to x (inl refl))
-  ascending_one (x ∷ xs) (y ∷ ys) h k to from =
-      let below = first_below x xs h in
-      let above = first_below y ys k in
-      let e = firsts x y xs ys below above (to x (inl refl)) (from y (inl refl)) in
-      ap₂ (λ z zs. z ∷ zs) e
-      (ascending_one xs ys (pairs_rest x xs h) (pairs_rest y ys k) (λ z i. in_rest x y xs ys e below z i (to z (inr i))) (λ z i. in_rest y x ys xs (sym e) above z i (from z (inr i))))
 
 least_one : (b : Book) (q : Request) (x : State) (o p : Option ℕ) → Least b q x o → Least b q x p → o ≡ p
 least_one b q x None None h k = refl
@@ -104,8 +68,7 @@ module _ (known : Known) (b : Book) (q : Request) where
   one_certificate keys c d h k =
       let tickets = known.one_best b q keys h.tickets k.tickets h.best k.best in
       let answers = answers_one c.answers d.answers k.tickets (subst (Matched (AnswerIs b q) c.answers) tickets h.answers) k.answers in
-      let residuals = ascending_one StateBefore known.order (map (λ row. row.residual) c.rows) (map (λ row. row.residual) d.rows) h.rows.need.in_order k.rows.need.in_order
-      (λ x i. (k.rows.need.are x).1 ((h.rows.need.are x).0 i)) (λ x i. (h.rows.need.are x).1 ((k.rows.need.are x).0 i)) in
+      let residuals = known.need b q (map (λ row. row.residual) c.rows) (map (λ row. row.residual) d.rows) h.rows.need k.rows.need in
       let rows = rows_one b q c.rows d.rows residuals h.rows.bounds k.rows.bounds in
       let number = h.of.0 ∙ sym k.of.0 in
       let request = h.of.1 ∙ sym k.of.1 in

@@ -19,8 +19,11 @@ pub fn one_failure()
 /// Yes implies best: where the checks hold of a certificate, its answers are the best tickets of the
 /// book and the request, in their order and at their prices. Nothing is asked of the book, and of the
 /// request only what the checks themselves ask: it has a first slice, since the root is a row.
+/// So yes fixes the answers: where the live fares' keys are well formed, two certificates that meet the
+/// checks of one book and one request have the same.
 pub fn yes_is_best()
-    ensures { (c : Certificate) (b : Book) (q : Request) → YesIsBest c b q }
+    ensures best { (c : Certificate) (b : Book) (q : Request) → YesIsBest c b q }
+    ensures same { (b : Book) (q : Request) → SameAnswers b q }
 {
     nothing_lost();
     one_next();
@@ -34,53 +37,12 @@ pub fn yes_is_best()
 
 /// The certificate of a search meets the checks, where the timetable's flights stand in the order of
 /// their departures, the live fares' keys are well formed, and the request has a first slice and asks
-/// for at least one ticket.
+/// for at least one ticket. By best tickets or by least runs it is the same certificate, and where the
+/// keys are well formed a book and a request have one.
 pub fn search_meets_checks()
-    ensures { (c : Certificate) (b : Book) (q : Request) → SearchMeetsChecks c b q }
-{
-    nothing_lost();
-    one_next();
-    best_runs();
-    one_best();
-    residual_order();
-    runs_are_short();
-    codes_tell();
-    order_laws();
-}
-
-/// A book and a request have one certificate of a search, where the live fares' keys are well formed.
-pub fn one_certificate()
-    ensures { (b : Book) (q : Request) → OneCertificate b q }
-{
-    nothing_lost();
-    one_next();
-    best_runs();
-    one_best();
-    residual_order();
-    runs_are_short();
-    codes_tell();
-    order_laws();
-}
-
-/// Yes fixes the answers: two certificates that meet the checks of one book and one request have the
-/// same answers, where the live fares' keys are well formed.
-pub fn same_answers()
-    ensures { (b : Book) (q : Request) → SameAnswers b q }
-{
-    nothing_lost();
-    one_next();
-    best_runs();
-    one_best();
-    residual_order();
-    runs_are_short();
-    codes_tell();
-    order_laws();
-}
-
-/// A certificate is that of a search by best tickets exactly where it is by the least runs from the
-/// root, where the timetable's flights stand in the order of their departures.
-pub fn same_by_runs()
-    ensures { (c : Certificate) (b : Book) (q : Request) → SameByRuns c b q }
+    ensures checks { (c : Certificate) (b : Book) (q : Request) → SearchMeetsChecks c b q }
+    ensures runs { (c : Certificate) (b : Book) (q : Request) → SameByRuns c b q }
+    ensures one { (b : Book) (q : Request) → OneCertificate b q }
 {
     nothing_lost();
     one_next();

@@ -1,3 +1,4 @@
 pub mod FlightSeats
 pub mod OnlyTicket
 pub mod Converse
+pub mod OneDay

@@ -1,1 +1,2 @@
 pub mod OneWay
+pub mod Dated

@@ -3,7 +3,9 @@
 #![tactic(auto)]
 
 mod cases;
+mod dated_flights;
 mod finder;
 
 pub use cases::OneWayCase;
+pub use dated_flights::{dated, flights_of_one_day, is_one_day};
 pub use finder::cheapest;

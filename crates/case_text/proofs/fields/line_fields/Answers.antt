@@ -1,4 +1,4 @@
-use Rattle.std.proofs.Common.{◌∙◌, ap, inl, inr}
+use Rattle.std.proofs.Common.{◌∙◌, ap, inr}
 use Rattle.csv.specs.Reading.{builder_config, builder_trim, builder_names_headers}
 use Rattle.case_text.proofs.Machine.{fields_are}
 use Rattle.case_text.proofs.fields.line_fields.Goals as goal

@@ -18,7 +18,7 @@ returns c =
       fits = c.runs_are_short.ensures.fits;
       best_tickets = c.best_runs.ensures.tickets;
       one_best = c.one_best.ensures.tickets;
-      order = c.residual_order.ensures;
+      need = c.residual_order.ensures.need;
       never = c.one_best.ensures.never;
       front = c.codes_tell.ensures.front;
       joined = c.codes_tell.ensures.joined;
@@ -28,7 +28,7 @@ returns c =
     } in
     record {
       no_row = no_row;
-      row_twice = row_twice (c.residual_order.ensures.never one_way_root);
+      row_twice = row_twice (c.residual_order.ensures.order.never one_way_root);
       bound = bound_fails;
       price = wrong_price known;
       answer_twice = answer_twice known c.order_laws.ensures.before_never;

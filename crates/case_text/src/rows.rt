@@ -1,0 +1,128 @@
+//! The rows of the tables of places, flights and seats.
+ghost use Rattle.std.specs.Prelude.{◌≡◌, ◌<◌, ◌≤◌, length, Ok, IfOk, IfErr};
+ghost use Rattle.csv.specs.Records.{fields_of};
+ghost use Rattle.case_text.specs.Rows as Rows;
+ghost use Rattle.case_text.specs.Gives.{Gives, Refuses};
+ghost use Rattle.case_text.specs.Lines.{shown};
+
+use crate::fields::{is_plain, line_fields};
+use crate::marks::{seat_day_of, seats_of, shift_of, weekdays_of};
+use crate::numbers::number_within;
+use crate::{Line, RowFault};
+use csv::ByteRecord;
+use fare_law::{FlightRow, PlaceRow, SeatRow};
+use market_time::{day_of, minute_of, offset_of};
+use name_text::{carrier_of, place_of};
+use std::alloc::Global;
+
+/// The row of a place: its code and its least connect time in minutes, 0 to 1440.
+pub fn place_row(alloc: Global, line: &Line<'_>) -> Result<PlaceRow, RowFault>
+    requires { 0 < length line.now.bytes.now }
+    ensures { Gives result (Rows.place_row (shown line.now)) }
+{
+    let row = columns(alloc, line.bytes, 2)?;
+    let place = in_column(1, place_of(field(&row, 1)))?;
+    let connect = in_column(2, number_within(field(&row, 2), 0, 1440))?;
+    Ok(PlaceRow {
+        line: line.line,
+        place,
+        connect,
+    })
+}
+
+/// The row of a flight, in twelve columns.
+pub fn flight_row(alloc: Global, line: &Line<'_>) -> Result<FlightRow, RowFault>
+    requires { 0 < length line.now.bytes.now }
+    ensures { Gives result (Rows.flight_row (shown line.now)) }
+{
+    let row = columns(alloc, line.bytes, 12)?;
+    let carrier = in_column(1, carrier_of(field(&row, 1)))?;
+    let number = in_column(2, number_within(field(&row, 2), 1, 9999))?;
+    let from = in_column(3, place_of(field(&row, 3)))?;
+    let to = in_column(4, place_of(field(&row, 4)))?;
+    let dep = in_column(5, minute_of(field(&row, 5)).ok())?;
+    let dep_offset = in_column(6, offset_of(field(&row, 6)).ok())?;
+    let arr = in_column(7, minute_of(field(&row, 7)).ok())?;
+    let arr_offset = in_column(8, offset_of(field(&row, 8)).ok())?;
+    let shift = in_column(9, shift_of(field(&row, 9)))?;
+    let first = in_column(10, day_of(field(&row, 10)).ok())?;
+    let last = in_column(11, day_of(field(&row, 11)).ok())?;
+    let days = in_column(12, weekdays_of(field(&row, 12)))?;
+    Ok(FlightRow {
+        line: line.line,
+        carrier,
+        number,
+        from,
+        to,
+        dep,
+        dep_offset,
+        arr,
+        arr_offset,
+        shift,
+        first,
+        last,
+        days,
+    })
+}
+
+/// The row of a flight's seats, on one day or on all days.
+pub fn seat_row(alloc: Global, line: &Line<'_>) -> Result<SeatRow, RowFault>
+    requires { 0 < length line.now.bytes.now }
+    ensures { Gives result (Rows.seat_row (shown line.now)) }
+{
+    let row = columns(alloc, line.bytes, 5)?;
+    let carrier = in_column(1, carrier_of(field(&row, 1)))?;
+    let number = in_column(2, number_within(field(&row, 2), 1, 9999))?;
+    let from = in_column(3, place_of(field(&row, 3)))?;
+    let day = in_column(4, seat_day_of(field(&row, 4)))?;
+    let seats = in_column(5, seats_of(field(&row, 5)))?;
+    Ok(SeatRow {
+        line: line.line,
+        carrier,
+        number,
+        from,
+        day,
+        seats,
+    })
+}
+
+/// The fields of a line, where it is plain and has so many.
+fn columns(alloc: Global, line: &[u8], count: usize) -> Result<ByteRecord, RowFault>
+    requires { 0 < length line.now }
+    ensures fields { IfOk result (λ row. Rows.columns count line.now ≡ Ok (fields_of row)) }
+    ensures fault { IfErr result (λ fault. Refuses fault (Rows.columns count line.now)) }
+{
+    if !is_plain(line) {
+        return Err(RowFault::BadColumn(0));
+    }
+    // A reader over a slice fails for want of memory alone.
+    let Ok(row) = line_fields(alloc, line) else {
+        return Err(RowFault::Mem);
+    };
+    if row.len() == count {
+        Ok(row)
+    } else {
+        Err(RowFault::BadColumn(0))
+    }
+}
+
+/// The field of a column, counted from 1.
+fn field(row: &ByteRecord, column: usize) -> &[u8]
+    requires { 1 ≤ column }
+    ensures { result.now ≡ Rows.field (fields_of row.now) column }
+{
+    match row.get(column - 1) {
+        Some(field) => field,
+        None => &[],
+    }
+}
+
+/// What the column spells, or that it is bad.
+fn in_column<T>(column: u32, value: Option<T>) -> Result<T, RowFault>
+    ensures { Gives result (Rows.in_column column value) }
+{
+    match value {
+        Some(value) => Ok(value),
+        None => Err(RowFault::BadColumn(column)),
+    }
+}

@@ -1,0 +1,4 @@
+pub mod MemberLemmas
+pub mod ItemLemmas
+pub mod NameLemmas
+pub mod SpelledLemmas

@@ -1,0 +1,4 @@
+pub mod Spelled
+pub mod Names
+pub mod Members
+pub mod Items

@@ -1,0 +1,30 @@
+-- The request that a text spells, or its first fault.
+use Rattle.std.specs.Prelude.{◌≡◌, ℕ, List, Option, Some, None, Result, Ok, Err, ⊤}
+use Rattle.fare_law.specs.declared.requests.Request.{Request}
+use Rattle.json_form.specs.Spelled.{spelled}
+use Rattle.serde_json.specs.Data.{Data}
+use Rattle.request_text.specs.declared.asked.Asked.{Asked}
+use Rattle.request_text.specs.declared.fault.RequestFault.{RequestFault}
+use Rattle.request_text.specs.declared.fault.RequestFault.TheVariants.{Syntax, Shape, BadRequest, Mem}
+use Rattle.request_text.specs.Form.{asked}
+use Rattle.request_text.specs.Limits.{allowed}
+
+-- of what is asked: the request, or the reason for which it is refused
+abbrev pub judged : Asked → Result Request RequestFault
+judged a = elim (allowed a) [ Ok q ↦ Ok q | Err why ↦ Err (BadRequest why) ]
+
+-- of a JSON value: the request, if it is of the form
+abbrev pub request_spelled : Data → Result Request RequestFault
+request_spelled d = elim (asked d) [ Some a ↦ judged a | None ↦ Err Shape ]
+
+-- of bytes: the request, if they are a JSON text
+abbrev pub request_of : List ℕ → Result Request RequestFault
+request_of bytes = elim (spelled bytes) [ Some d ↦ request_spelled d | None ↦ Err Syntax ]
+
+-- what was returned is what is told, unless memory ran out
+abbrev pub Tells : Result Request RequestFault → Result Request RequestFault → Type 0
+Tells (Ok q) told = told ≡ Ok q
+Tells (Err Mem) told = ⊤
+Tells (Err Syntax) told = told ≡ Err Syntax
+Tells (Err Shape) told = told ≡ Err Shape
+Tells (Err (BadRequest why)) told = told ≡ Err (BadRequest why)
