@@ -35,7 +35,7 @@ pub record CertOfRuns (b : Book) (q : Request) (c : Certificate) : Type 0 where
   pub rows : RowsAre b q c.rows
 
 abbrev pub SameByRuns : Certificate → Book → Request → Type 0
-SameByRuns c b q = Ascending b.timetable.flights → CertOf b q c ↔ CertOfRuns b q c
+SameByRuns c b q = Ascending b.timetable.flights → (CertOf b q c ↔ CertOfRuns b q c)
 
 -- Yes implies best: where the checks hold, the answers are the best tickets in order, at their prices.
 abbrev pub YesIsBest : Certificate → Book → Request → Type 0
