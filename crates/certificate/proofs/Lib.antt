@@ -1,2 +1,15 @@
+pub mod Known
+pub mod ListFacts
+pub mod OneFirst
+pub mod Decided
+pub mod SomeFailure
+pub mod Tickets
 pub mod YesIsBest
-pub mod SearchChecks
+pub mod SearchRows
+pub mod MeetsChecks
+pub mod OneCertificate
+pub mod OneWayMoves
+pub mod OneWayChecks
+pub mod ByRuns
+pub mod OneWayFailures
+pub mod OneWayOf

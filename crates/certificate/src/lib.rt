@@ -1,2 +1,12 @@
-//! Certificates: what a checker has to believe no search for.
+//! Certificates: the answers of a search, with bounds on what is left of each residual. Whoever has
+//! the book and the request can check one and need not search: where the five checks hold, the
+//! answers are the best tickets. The layer above reads certificates, checks them and makes them.
 #![tactic(auto)]
+
+mod laws;
+mod parts;
+mod worked;
+
+pub use laws::{one_failure, search_meets_checks, yes_is_best};
+pub use parts::{CertAnswer, CertRow, Certificate};
+pub use worked::{one_way_fails, one_way_meets, one_way_of};

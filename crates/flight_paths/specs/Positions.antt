@@ -1,11 +1,12 @@
 -- Where a journey stands, and the flights that lead on.
-use Rattle.std.specs.Prelude.{◌≡◌, ◌≢◌, ◌⊎◌, ℕ, zero, suc, ℤ, Bool, true, false, ◌&&◌, ◌==◌, pos, ◌≤◌, ◌<◌, ◌+ℤ◌, ◌≤ℤ◌, int_le, int_lt, List, [], ◌∷◌, slice_get, IfSome, Option, Some, None, cond}
+use Rattle.std.specs.Prelude.{◌≡◌, ◌≢◌, ◌⊎◌, ℕ, zero, suc, ℤ, Bool, true, false, ◌&&◌, ◌==◌, pos, ◌≤◌, ◌<◌, ◌+ℤ◌, ◌≤ℤ◌, int_le, int_lt, List, [], ◌∷◌, length, ◌↔◌, slice_get, IfSome, IsSome, Option, Some, None, cond}
 use Rattle.fare_law.specs.declared.flights.Flight.{Flight}
 use Rattle.fare_law.specs.declared.names.Place.{Place}
 use Rattle.fare_law.specs.declared.requests.Slice.{Slice}
 use Rattle.fare_law.specs.Book.{Book, connect, flight_at, same_place}
 use Rattle.fare_law.specs.Journey.{InWindow}
 use Rattle.fare_law.specs.Lists.{Each}
+use Rattle.fare_law.specs.Parts.{Shape}
 use Rattle.flight_paths.specs.declared.positions.Position.{Position}
 
 -- the flights stand in the order of their departures
@@ -73,6 +74,7 @@ before_slice b i (Some s) arrival = Some (position_before b i s arrival)
 
 -- flight n, which is f, may be taken at this position of slice s
 pub record Takes (b : Book) (s : Slice) (at : Position) (n : ℕ) (f : Flight) : Type 0 where
+  pub few : at.leg ≤ 2
   pub known : flight_at b n ≡ Some f
   pub departs : f.from ≡ at.place
   pub low : at.lo ≤ n
@@ -101,3 +103,31 @@ Flies b slices None (n ∷ ns) (f ∷ fs) end = ⊥
 Flies b slices (Some at) (n ∷ ns) (f ∷ fs) end =
     (s : Slice) × (slice_get slices at.slice ≡ Some s) × Takes b s at n f
     × (next : Option Position) × LeadsTo b slices s at f next × Flies b slices next ns fs end
+
+-- No flight arrives at this place, up to the one that arrives at the slice's destination, where the path crosses into the next slice.
+abbrev pub KeepsOff : Slice → List Flight → Place → Type 0
+KeepsOff s [] place = Unit {0}
+KeepsOff s (f ∷ fs) place = (f.to ≢ place) × (f.to ≢ s.to → KeepsOff s fs place)
+
+abbrev pub via_places : Option Place → List Place
+via_places None = []
+via_places (Some v) = v ∷ []
+
+-- the places of the slice that were called at before a path of this position
+abbrev pub called_at : Slice → Position → List Place
+called_at s at = s.from ∷ at.place ∷ via_places at.via
+
+-- A path of a position: some flights that lead on from it and are of the shape of a component, and in its slice none calls again at a place that was called at before the path.
+pub record IsPath (b : Book) (slices : List Slice) (at : Position) (ns : List ℕ) (fs : List Flight) (next : Option Position) : Type 0 where
+  pub some : ns ≢ []
+  pub flies : Flies b slices (Some at) ns fs next
+  pub shape : Shape fs
+  pub called : (s : Slice) → slice_get slices at.slice ≡ Some s → Each (KeepsOff s fs) (called_at s at)
+
+-- The position is one of this request: its slice is the request's, at most two flights are taken, a place was called at first exactly where two are, and its range is one of the timetable.
+pub record Fits (b : Book) (slices : List Slice) (at : Position) : Type 0 where
+  pub slice : at.slice < length slices
+  pub leg : at.leg ≤ 2
+  pub via : IsSome at.via ↔ (at.leg ≡ 2)
+  pub range : at.lo ≤ at.hi
+  pub known : at.hi ≤ length b.timetable.flights

@@ -178,7 +178,7 @@ itinerary_flies b sl (s ∷ ss) i arrival ns fs e m (now, later, is, slice, late
         let r = before_range b s arrival n f k.0 c.begins c.window l in (
           s,
           at,
-          record { known = k.0; departs = c.begins; low = r.0; high = r.1; window = λ x. c.window; not_origin = flip c.apart.0.0; not_here = flip c.apart.0.0; not_via = tt },
+          record { few = omega arith; known = k.0; departs = c.begins; low = r.0; high = r.1; window = λ x. c.window; not_origin = flip c.apart.0.0; not_here = flip c.apart.0.0; not_via = tt },
           before_slice b (suc i) (slice_get sl (suc i)) (Some f.arr),
           inl (c.ends, refl),
           next f.arr ns later k.1 z,
@@ -189,13 +189,13 @@ itinerary_flies b sl (s ∷ ss) i arrival ns fs e m (now, later, is, slice, late
         let r2 = inside_range b f g m k.1.0 c.joined.0 c.stops.0 in (
           s,
           at,
-          record { known = k.0; departs = c.begins; low = r.0; high = r.1; window = λ x. c.window; not_origin = flip c.apart.0.0; not_here = flip c.apart.0.0; not_via = tt },
+          record { few = omega arith; known = k.0; departs = c.begins; low = r.0; high = r.1; window = λ x. c.window; not_origin = flip c.apart.0.0; not_here = flip c.apart.0.0; not_via = tt },
           Some (position_inside b i 1 f.to None f.arr),
           inr (c.ends.0, omega arith, refl),
           (
             s,
             at,
-            record { known = k.1.0; departs = c.joined.0; low = r2.0; high = r2.1; window = λ x. absurd (omega (arith, x)); not_origin = flip c.apart.0.1.0; not_here = flip c.apart.1.0.0; not_via = tt },
+            record { few = omega arith; known = k.1.0; departs = c.joined.0; low = r2.0; high = r2.1; window = λ x. absurd (omega (arith, x)); not_origin = flip c.apart.0.1.0; not_here = flip c.apart.1.0.0; not_via = tt },
             before_slice b (suc i) (slice_get sl (suc i)) (Some g.arr),
             inl (c.ends.1, refl),
             next g.arr ns later k.1.1 z,
@@ -208,19 +208,19 @@ itinerary_flies b sl (s ∷ ss) i arrival ns fs e m (now, later, is, slice, late
         let r3 = inside_range b g h o k.1.1.0 c.joined.1.0 c.stops.1.0 in (
           s,
           at,
-          record { known = k.0; departs = c.begins; low = r.0; high = r.1; window = λ x. c.window; not_origin = flip c.apart.0.0; not_here = flip c.apart.0.0; not_via = tt },
+          record { few = omega arith; known = k.0; departs = c.begins; low = r.0; high = r.1; window = λ x. c.window; not_origin = flip c.apart.0.0; not_here = flip c.apart.0.0; not_via = tt },
           Some (position_inside b i 1 f.to None f.arr),
           inr (c.ends.0, omega arith, refl),
           (
             s,
             at,
-            record { known = k.1.0; departs = c.joined.0; low = r2.0; high = r2.1; window = λ x. absurd (omega (arith, x)); not_origin = flip c.apart.0.1.0; not_here = flip c.apart.1.0.0; not_via = tt },
+            record { few = omega arith; known = k.1.0; departs = c.joined.0; low = r2.0; high = r2.1; window = λ x. absurd (omega (arith, x)); not_origin = flip c.apart.0.1.0; not_here = flip c.apart.1.0.0; not_via = tt },
             Some (position_inside b i 2 g.to (Some f.to) g.arr),
             inr (c.ends.1.0, omega arith, refl),
             (
               s,
               at,
-              record { known = k.1.1.0; departs = c.joined.1.0; low = r3.0; high = r3.1; window = λ x. absurd (omega (arith, x)); not_origin = flip c.apart.0.1.1.0; not_here = flip c.apart.1.1.0.0; not_via = flip c.apart.1.0.1.0 },
+              record { few = omega arith; known = k.1.1.0; departs = c.joined.1.0; low = r3.0; high = r3.1; window = λ x. absurd (omega (arith, x)); not_origin = flip c.apart.0.1.1.0; not_here = flip c.apart.1.1.0.0; not_via = flip c.apart.1.0.1.0 },
               before_slice b (suc i) (slice_get sl (suc i)) (Some h.arr),
               inl (c.ends.1.1, refl),
               next h.arr ns later k.1.1.1 z,

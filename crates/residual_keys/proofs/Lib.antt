@@ -1,3 +1,4 @@
+pub mod Known
 pub mod FareFacts
 pub mod Marks
 pub mod OneUnit
@@ -5,9 +6,16 @@ pub mod Ranges
 pub mod Journeys
 pub mod TicketParts
 pub mod Wholes
+pub mod Fitting
 pub mod Runs
 pub mod NothingLost
 pub mod OneNext
 pub mod OneTicket
 pub mod RunsBest
-pub mod CaseA
+pub mod Ordered
+pub mod LeastOne
+pub mod OneBest
+pub mod Short
+pub mod Slots
+pub mod Compared
+pub mod Needed

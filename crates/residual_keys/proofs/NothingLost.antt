@@ -1,6 +1,6 @@
 -- The runs from the root are the moves of the lawful tickets, with their price and code.
-use Rattle.std.proofs.Common.{◌≡◌, ◌≢◌, ℕ, suc, ◌+◌, ◌≤◌, ◌⊎◌, Bool, true, false, cond, nat_le, List, [], ◌∷◌, ◌++◌, length, map, flat_map, find, reverse, sum_by, slice_get, Option, Some, None, sym, refl, ap, ap₂, ◌∙◌, subst, inl, inr, arith, option_and_then}
-use Rattle.std.proofs.lemmas.Bool.{cases_Bool, and_parts, le-leb, lt-leb}
+use Rattle.std.proofs.Common.{◌≡◌, ◌≢◌, ℕ, suc, ◌+◌, Bool, true, false, cond, nat_le, List, [], ◌∷◌, ◌++◌, length, map, flat_map, find, reverse, sum_by, slice_get, Option, Some, None, sym, refl, ap, ap₂, ◌∙◌, subst, inl, inr, arith, option_and_then}
+use Rattle.std.proofs.lemmas.Bool.{cases_Bool, and_parts}
 use Rattle.std.proofs.lemmas.List.Sums.{sum_by-cons}
 use Rattle.std.specs.Cmp.Lexicographic.{bytes_decides}
 use Rattle.fare_law.specs.declared.filings.Action.{Action}
@@ -13,7 +13,7 @@ use Rattle.fare_law.specs.declared.tickets.Piece.{Piece}
 use Rattle.fare_law.specs.declared.requests.Request.{Request}
 use Rattle.fare_law.specs.declared.tickets.Ticket.{Ticket}
 use Rattle.fare_law.specs.Book.{Book, actions, same_key, names_fare, last_that, fare_put, live_fare}
-use Rattle.fare_law.specs.Lawful.{Part, IsPart, comes_in, Numbered, PartsLawful, Lawful}
+use Rattle.fare_law.specs.Lawful.{Part, IsPart, comes_in, PartsLawful, Lawful}
 use Rattle.fare_law.specs.Lists.{Each, Matched}
 use Rattle.fare_law.specs.Order.{Costs, code_after, role_number, slot_number, carrier_number, basis_number, open_below}
 use Rattle.fare_law.specs.Parts.{Numbers, StandsFor, ComponentLawful, price_of}
@@ -25,17 +25,15 @@ use Rattle.open_unit.specs.OpenUnits.{unit_steps}
 use Rattle.flight_paths.specs.Positions.{Flies, before_slice}
 use Rattle.residual_keys.specs.Residuals.{State, begins, no_part, Run, RunFromRoot}
 use Rattle.fare_law.specs.Moves.{role_of, role_code, move_of, moves_after, moves_of, run_code}
-use Rattle.residual_keys.specs.NothingLost.{NothingLost}
 use Rattle.residual_keys.proofs.Marks.{same_carrier_is}
 use Rattle.residual_keys.proofs.Ranges.{Ascending, same_place_is}
 use Rattle.residual_keys.proofs.Runs.{Item, mark, ZeroSlot, ItemOf, mark_of, total, Sides, run_sides, sides_run}
 use Rattle.residual_keys.proofs.TicketParts.{PartRun, is_new, news}
 use Rattle.residual_keys.proofs.Wholes.{labels, pieces, flights, same_count, Machines, machines_lawful, lawful_machines}
-use Rattle.unit_labels.specs.Labels.{Labelled, LabelRun, part_of, parts_of, slot_of, labels_so_far, Part as Mark, Alone as StaysAlone, Opens as Opening, GoesOn as GoingOn, Closes as Closing}
-use Rattle.unit_labels.specs.UnitRuns.{UnitRun}
-use Rattle.unit_labels.proofs.LabelLaw.{Seen, seen_none, seen_again, seen_next, come_before, slot_is, labelled_numbered}
-use Rattle.unit_labels.proofs.LabelRuns.{labels_theorem}
-use Rattle.unit_labels.proofs.UnitJoin.{NewAccepted, run_labels, units_apart, units_together}
+use Rattle.unit_labels.specs.Labels.{LawfulLabels, LabelRun, part_of, parts_of, parts_between, slot_of, labels_so_far, Part as Mark, Alone as StaysAlone, Opens as Opening, GoesOn as GoingOn, Closes as Closing}
+use Rattle.unit_labels.specs.UnitRuns.{UnitRun, EachAccepted}
+use Rattle.residual_keys.proofs.Fitting.{root_fits}
+use Rattle.residual_keys.proofs.Known.{Known}
 
 -- the live fare of a key has that key
 
@@ -76,41 +74,22 @@ live_key b key fare h = go (last_that (names_fare key) b) refl h
     go None e k = cc
     go (Some a) e k = put_key key a fare (find_passes (names_fare key) (reverse (actions b)) a e) k
 
+-- the part of a component in its unit, as its code has it
+abbrev between : List ℕ → ℕ → List ℕ → Mark
+between before l after =
+    cond (comes_in l before)
+    (cond (comes_in l after) (GoingOn (open_below before l after)) (Closing (open_below before l after)))
+    (cond (comes_in l after) Opening StaysAlone)
+
 -- the role and slot of a component as the machine's mark
-role_mark : (n l : ℕ) (before after : List ℕ) → Seen n before → 1 ≤ l → (l ≤ n) ⊎ (l ≡ suc n) → (mark (role_of before l after) (slot_number before l after) ≡ part_of n l after) × ZeroSlot (role_of before l after) (slot_number before l after)
-role_mark n l before after s one (inl le) =
-    let seen : comes_in l before ≡ true = s.all l one le in
-    let test : nat_le l n ≡ true = le-leb l n le in
-    let slot = slot_is n l before after s one le in (
-      ap (λ x. mark (cond x (cond (comes_in l after) GoesOn Closes) (cond (comes_in l after) Opens Alone)) (cond x (open_below before l after) 0)) seen
-          ∙ old (comes_in l after) (open_below before l after) (slot_of l after) slot
-          ∙ sym (ap (λ x. cond x (cond (comes_in l after) (GoingOn (slot_of l after)) (Closing (slot_of l after))) (cond (comes_in l after) Opening StaysAlone)) test),
-      subst (λ x. ZeroSlot (cond x (cond (comes_in l after) GoesOn Closes) (cond (comes_in l after) Opens Alone)) (cond x (open_below before l after) 0)) (sym seen) (free (comes_in l after) (open_below before l after)),
-    )
+role_mark : (before : List ℕ) (l : ℕ) (after : List ℕ) → (mark (role_of before l after) (slot_number before l after) ≡ between before l after) × ZeroSlot (role_of before l after) (slot_number before l after)
+role_mark before l after = go (comes_in l before) (comes_in l after) (open_below before l after)
   where
-    old : (c : Bool) (o p : ℕ) → o ≡ p → mark (cond c GoesOn Closes) o ≡ cond c (GoingOn p) (Closing p)
-    old true o p e = ap GoingOn e
-    old false o p e = ap Closing e
-
-    free : (c : Bool) (o : ℕ) → ZeroSlot (cond c GoesOn Closes) o
-    free true o = tt
-    free false o = tt
-role_mark n l before after s one (inr e) =
-    let test : nat_le l n ≡ false = lt-leb l n (omega arith) in
-    let seen : comes_in l before ≡ false = come_before n l before s one ∙ test in (
-      ap (λ x. mark (cond x (cond (comes_in l after) GoesOn Closes) (cond (comes_in l after) Opens Alone)) (cond x (open_below before l after) 0)) seen
-          ∙ new (comes_in l after)
-          ∙ sym (ap (λ x. cond x (cond (comes_in l after) (GoingOn (slot_of l after)) (Closing (slot_of l after))) (cond (comes_in l after) Opening StaysAlone)) test),
-      subst (λ x. ZeroSlot (cond x (cond (comes_in l after) GoesOn Closes) (cond (comes_in l after) Opens Alone)) (cond x (open_below before l after) 0)) (sym seen) (none (comes_in l after)),
-    )
-  where
-    new : (c : Bool) → mark (cond c Opens Alone) 0 ≡ cond c Opening StaysAlone
-    new true = refl
-    new false = refl
-
-    none : (c : Bool) → ZeroSlot (cond c Opens Alone) 0
-    none true = refl
-    none false = refl
+    go : (x c : Bool) (o : ℕ) → (mark (cond x (cond c GoesOn Closes) (cond c Opens Alone)) (cond x o 0) ≡ cond x (cond c (GoingOn o) (Closing o)) (cond c Opening StaysAlone)) × ZeroSlot (cond x (cond c GoesOn Closes) (cond c Opens Alone)) (cond x o 0)
+    go true true o = (refl, tt)
+    go true false o = (refl, tt)
+    go false true o = (refl, refl)
+    go false false o = (refl, refl)
 
 -- a mark shows its role and slot
 mark_shows : (r s : Role) (i j : ℕ) → ZeroSlot r i → ZeroSlot s j → mark r i ≡ mark s j → (r ≡ s) × (i ≡ j)
@@ -235,34 +214,23 @@ component_labels b q (m ∷ ms) [] ls h e = absurd h
 component_labels b q (m ∷ ms) (x ∷ xs) [] h e = absurd (omega arith)
 component_labels b q (m ∷ ms) (x ∷ xs) (l ∷ ls) h e = ap (λ r. l ∷ r) (component_labels b q ms xs ls h.1 (omega arith))
 
-old_so_far : (n l : ℕ) → l ≤ n → labels_so_far n l ≡ n
-old_so_far n l h = ap (λ b. cond b n (suc n)) (le-leb l n h)
-
-new_so_far : (n l : ℕ) → l ≡ suc n → labels_so_far n l ≡ suc n
-new_so_far n l h = ap (λ b. cond b n (suc n)) (lt-leb l n (omega arith))
-
 -- its moves are the run's
-moves_are : (b : Book) (q : Request) (n : ℕ) (before : List ℕ) (ms : List Move) (xs : List Item) (ls : List ℕ) → Seen n before → Numbered n ls → Matched (ItemOf b q) ms xs → length ls ≡ length xs → map mark_of ms ≡ parts_of n ls
+moves_are : (b : Book) (q : Request) (before : List ℕ) (ms : List Move) (xs : List Item) (ls : List ℕ) → Matched (ItemOf b q) ms xs → length ls ≡ length xs → map mark_of ms ≡ parts_between before ls
     → moves_after before (components ms xs ls) ≡ ms
 unfolding components
-moves_are b q n before [] xs ls s k h e t = refl
-moves_are b q n before (m ∷ ms) [] ls s k h e t = absurd h
-moves_are b q n before (m ∷ ms) (x ∷ xs) [] s k h e t = absurd (omega arith)
-moves_are b q n before (m ∷ ms) (x ∷ xs) (l ∷ ls) s k h e t =
-    let hd : mark_of m ≡ part_of n l ls = cc in
-    let tl : map mark_of ms ≡ parts_of (labels_so_far n l) ls = cc in
+moves_are b q before [] xs ls h e t = refl
+moves_are b q before (m ∷ ms) [] ls h e t = absurd h
+moves_are b q before (m ∷ ms) (x ∷ xs) [] h e t = absurd (omega arith)
+moves_are b q before (m ∷ ms) (x ∷ xs) (l ∷ ls) h e t =
+    let hd : mark_of m ≡ between before l ls = cc in
+    let tl : map mark_of ms ≡ parts_between (before ++ l ∷ []) ls = cc in
     let units = component_labels b q ms xs ls h.1 (omega arith) in
-    let c = cases n l ls before s k in
-    let r = role_mark n l before ls s c.0 c.1 in
+    let r = role_mark before l ls in
     let w = mark_shows (role_of before l ls) m.role (slot_number before l ls) m.slot r.1 h.0.zero_slot (r.0 ∙ sym hd) in
     ap₂ (λ y ys. y ∷ ys)
     (ap (λ us. move_of before (record { flights = m.flights; fare = x.piece.fare.key; unit = l }) us) units ∙ same_move m x (role_of before l ls) (slot_number before l ls) (sym h.0.carrier) (sym h.0.basis) w.0 w.1)
-    (moves_are b q (labels_so_far n l) (before ++ l ∷ []) ms xs ls c.2 c.3 h.1 (omega arith) tl)
+    (moves_are b q (before ++ l ∷ []) ms xs ls h.1 (omega arith) tl)
   where
-    cases : (n l : ℕ) (ls before : List ℕ) → Seen n before → Numbered n (l ∷ ls) → (1 ≤ l) × ((l ≤ n) ⊎ (l ≡ suc n)) × Seen (labels_so_far n l) (before ++ l ∷ []) × Numbered (labels_so_far n l) ls
-    cases n l ls before s (inl (a, d, k)) = (a, inl d, subst (λ t. Seen t (before ++ l ∷ [])) (sym (old_so_far n l d)) (seen_again n l before a d s), subst (λ t. Numbered t ls) (sym (old_so_far n l d)) k)
-    cases n l ls before s (inr (d, k)) = (omega arith, inr d, subst (λ t. Seen t (before ++ l ∷ [])) (sym (new_so_far n l d)) (seen_next n l before d s), subst (λ t. Numbered t ls) (sym (new_so_far n l d)) k)
-
     same_move : (m : Move) (x : Item) (r : Role) (s : ℕ) → x.piece.fare.key.carrier ≡ m.carrier → x.piece.fare.key.basis ≡ m.basis → r ≡ m.role → s ≡ m.slot
         → (let k : Move = record { flights = m.flights; carrier = x.piece.fare.key.carrier; basis = x.piece.fare.key.basis; role = r; slot = s } in k) ≡ m
     same_move m x r s c d e f = λ i. record { flights = m.flights; carrier = c i; basis = d i; role = e i; slot = f i }
@@ -275,17 +243,17 @@ not_empty b q r (m ∷ ms) (x ∷ xs) [] price run h e z = omega arith
 not_empty b q r (m ∷ ms) (x ∷ xs) (l ∷ ls) price run h e z = cc
 
 -- Each run from the root is the moves of a lawful ticket of its price.
-pub run_ticket : (b : Book) (q : Request) → Ascending b.timetable.flights → (ms : List Move) (price : ℕ) → RunFromRoot b q ms price → (t : Ticket) × Lawful t b q × (moves_of t ≡ ms) × Costs t b q price
+pub run_ticket : Known → (b : Book) (q : Request) → Ascending b.timetable.flights → (ms : List Move) (price : ℕ) → RunFromRoot b q ms price → (t : Ticket) × Lawful t b q × (moves_of t ≡ ms) × Costs t b q price
 unfolding cost
-run_ticket b q asc ms price (at, root, run) =
+run_ticket known b q asc ms price (at, root, run) =
     let r = run_sides b q (record { at = at; units = []; part = no_part }) ms price run in
     let xs = r.0 in
     let s = r.1 in
-    let g = run_labels unit_steps 0 [] [] (map mark_of ms) (map (λ x. x.piece) xs) refl s.units in
+    let g = known.units.apart (map mark_of ms) (map (λ x. x.piece) xs) s.units in
     let ls = g.0 in
     let same : length ls ≡ length xs = g.2 ∙ same_length xs in
-    let law = (labels_theorem (map mark_of ms) ls).0 g.1 in
-    let apart = units_apart unit_steps 0 [] [] (map mark_of ms) ls (map (λ x. x.piece) xs) g.1 s.units refl tt tt in
+    let law = (known.labels.runs (map mark_of ms) ls).0 g.1 in
+    let between : map mark_of ms ≡ parts_between [] ls = law.1 ∙ sym (known.labels.coded ls law.0.0) in
     let ps = parts xs ls in
     let el = parts_labels xs ls same in
     let ep = parts_pieces xs ls same in
@@ -293,13 +261,13 @@ run_ticket b q asc ms price (at, root, run) =
       flies = subst (λ fs. Flies b q.slices (before_slice b 0 (slice_get q.slices 0) None) (flat_map (λ m. m.flights) ms) fs None) (sym (parts_flights xs ls same))
           (subst (λ z. Flies b q.slices z (flat_map (λ m. m.flights) ms) (flat_map (λ x. x.flights) xs) None) (sym root) s.flies);
       components = parts_components b q ms xs ls s.items same;
-      labelled = subst (Labelled 0) (sym el) law.0;
-      units = subst (λ z. NewAccepted unit_steps 0 z (pieces ps)) (sym el) (subst (λ z. NewAccepted unit_steps 0 ls z) (sym ep) apart.1);
+      labelled = subst LawfulLabels (sym el) law.0;
+      units = subst (λ z. EachAccepted unit_steps z (pieces ps)) (sym el) (subst (λ z. EachAccepted unit_steps ls z) (sym ep) g.3);
       part = subst (λ z. PartRun no_part (news 0 z) (pieces ps)) (sym el) (subst (λ z. PartRun no_part (news 0 ls) z) (sym ep) (subst (λ z. PartRun no_part z (map (λ x. x.piece) xs)) (begins_news 0 ms ls law.1) s.part));
     } in (
       record { components = components ms xs ls },
       (ps, are_parts b q ms xs ls s.items same, machines_lawful b q (flat_map (λ m. m.flights) ms) ps asc machines, not_empty b q _ ms xs ls price run s.items same),
-      moves_are b q 0 [] ms xs ls seen_none (labelled_numbered 0 ls law.0) s.items same law.1,
+      moves_are b q [] ms xs ls s.items same between,
       (ps, are_parts b q ms xs ls s.items same, r.2 ∙ parts_cost xs ls same),
     )
   where
@@ -353,22 +321,17 @@ some_flights b sale key [] [] p n h e = h.begins
 some_flights b sale key [] (f ∷ fs) p n h e = n
 some_flights b sale key (k ∷ ns) fs p n h e = cc
 
-next_labels : (n l : ℕ) (ls before : List ℕ) → Seen n before → Numbered n (l ∷ ls) → (1 ≤ l) × ((l ≤ n) ⊎ (l ≡ suc n)) × Seen (labels_so_far n l) (before ++ l ∷ []) × Numbered (labels_so_far n l) ls
-next_labels n l ls before s (inl (a, d, k)) = (a, inl d, subst (λ t. Seen t (before ++ l ∷ [])) (sym (old_so_far n l d)) (seen_again n l before a d s), subst (λ t. Numbered t ls) (sym (old_so_far n l d)) k)
-next_labels n l ls before s (inr (d, k)) = (omega arith, inr d, subst (λ t. Seen t (before ++ l ∷ [])) (sym (new_so_far n l d)) (seen_next n l before d s), subst (λ t. Numbered t ls) (sym (new_so_far n l d)) k)
-
 -- its moves have their items, and their marks are those of its labels
-moves_items : (b : Book) (q : Request) (n : ℕ) (before : List ℕ) (cs : List Component) (ps : List Part) → Seen n before → Numbered n (map (λ d. d.unit) cs) → Matched (IsPart b q) cs ps
-    → Each (λ part. ComponentLawful b q.party part.flights part.piece) ps → Matched (ItemOf b q) (moves_after before cs) (items ps) × (map mark_of (moves_after before cs) ≡ parts_of n (map (λ d. d.unit) cs))
+moves_items : (b : Book) (q : Request) (before : List ℕ) (cs : List Component) (ps : List Part) → Matched (IsPart b q) cs ps → Each (λ part. ComponentLawful b q.party part.flights part.piece) ps
+    → Matched (ItemOf b q) (moves_after before cs) (items ps) × (map mark_of (moves_after before cs) ≡ parts_between before (map (λ d. d.unit) cs))
 unfolding items
-moves_items b q n before [] [] s k m h = (tt, refl)
-moves_items b q n before [] (x ∷ ps) s k m h = absurd m
-moves_items b q n before (c ∷ cs) [] s k m h = absurd m
-moves_items b q n before (c ∷ cs) (x ∷ ps) s k m h =
+moves_items b q before [] [] m h = (tt, refl)
+moves_items b q before [] (x ∷ ps) m h = absurd m
+moves_items b q before (c ∷ cs) [] m h = absurd m
+moves_items b q before (c ∷ cs) (x ∷ ps) m h =
     let us = map (λ d. d.unit) cs in
-    let w = next_labels n c.unit us before s k in
-    let r = role_mark n c.unit before us s w.0 w.1 in
-    let rest = moves_items b q (labels_so_far n c.unit) (before ++ c.unit ∷ []) cs ps w.2 w.3 m.1 h.1 in
+    let r = role_mark before c.unit us in
+    let rest = moves_items b q (before ++ c.unit ∷ []) cs ps m.1 h.1 in
     let key : x.piece.fare.key ≡ c.fare = live_key b c.fare x.piece.fare m.0.stands.fare in (
       (
         record {
@@ -411,17 +374,17 @@ pub record TicketSides (b : Book) (q : Request) (t : Ticket) (ps : List Part) : 
   pub label_run : LabelRun 0 [] (map mark_of (moves_of t)) (map (λ d. d.unit) t.components)
   pub unit_run : UnitRun unit_steps [] (map mark_of (moves_of t)) (pieces ps)
 
-pub ticket_sides : (b : Book) (q : Request) (t : Ticket) (ps : List Part) → Matched (IsPart b q) t.components ps → PartsLawful b q ps → t.components ≢ [] → TicketSides b q t ps
-ticket_sides b q t ps m law some =
+pub ticket_sides : Known → (b : Book) (q : Request) (t : Ticket) (ps : List Part) → Matched (IsPart b q) t.components ps → PartsLawful b q ps → t.components ≢ [] → TicketSides b q t ps
+ticket_sides known b q t ps m law some =
     let ms = moves_of t in
     let ns = flat_map (λ k. k.flights) ms in
     let us = units_same b q t.components ps m in
     let num = all_numbers b q [] t.components ps m in
     let machines = lawful_machines b q ns ps num law in
-    let it = moves_items b q 0 [] t.components ps seen_none (subst (Numbered 0) (sym us) law.numbered) m law.components in
-    let marks : map mark_of ms ≡ parts_of 0 (labels ps) = it.1 ∙ ap (parts_of 0) us in
-    let run = (labels_theorem (map mark_of ms) (labels ps)).1 (machines.labelled, marks) in
-    let units = units_together unit_steps 0 [] [] (map mark_of ms) (labels ps) (pieces ps) run (same_count ps) tt tt tt machines.units in
+    let it = moves_items b q [] t.components ps m law.components in
+    let marks : map mark_of ms ≡ parts_of 0 (labels ps) = it.1 ∙ ap (parts_between []) us ∙ known.labels.coded (labels ps) law.numbered in
+    let run = (known.labels.runs (map mark_of ms) (labels ps)).1 (machines.labelled, marks) in
+    let units = known.units.together (map mark_of ms) (labels ps) (pieces ps) run (same_count ps) machines.units in
     let at = root_some b q ns (flights ps) (some_numbers b q t.components ps m some) machines.flies in
     let sides : Sides b q at.0 [] no_part ms (items ps) = record {
       items = it.0;
@@ -432,11 +395,11 @@ ticket_sides b q t ps m law some =
     record { at = at.0; root = at.1; sides = sides; label_run = subst (LabelRun 0 [] (map mark_of ms)) (sym us) run; unit_run = units }
 
 -- Each lawful ticket's moves are a run from the root, of its price.
-pub ticket_run : (b : Book) (q : Request) (t : Ticket) → Lawful t b q → (price : ℕ) × RunFromRoot b q (moves_of t) price × Costs t b q price
+pub ticket_run : Known → (b : Book) (q : Request) (t : Ticket) → Lawful t b q → (price : ℕ) × RunFromRoot b q (moves_of t) price × Costs t b q price
 unfolding cost
-ticket_run b q t (ps, m, law, some) =
-    let s = ticket_sides b q t ps m law some in
-    (total (items ps), (s.at, s.root, sides_run b q (record { at = s.at; units = []; part = no_part }) (moves_of t) (items ps) s.sides), (ps, m, items_cost ps))
+ticket_run known b q t (ps, m, law, some) =
+    let s = ticket_sides known b q t ps m law some in
+    (total (items ps), (s.at, s.root, sides_run b q (record { at = s.at; units = []; part = no_part }) (moves_of t) (items ps) (root_fits b q s.at s.root) s.sides), (ps, m, items_cost ps))
 
 -- Its code is that of its moves.
 role_codes : (before : List ℕ) (l : ℕ) (after : List ℕ) → role_number before l after ≡ role_code (role_of before l after)
@@ -455,6 +418,3 @@ codes before (c ∷ cs) =
     ap₂ (λ x y. x ++ y)
     (ap (λ r. length c.flights ∷ [] ++ c.flights ++ carrier_number c.fare.carrier ∷ basis_number c.fare.basis ∷ r ∷ slot_number before c.unit after ∷ []) (role_codes before c.unit after))
     (codes (before ++ c.unit ∷ []) cs)
-
-pub nothing_lost : (b : Book) (q : Request) → Ascending b.timetable.flights → NothingLost b q
-nothing_lost b q asc = (λ ms price r. run_ticket b q asc ms price r, λ t h. ticket_run b q t h, λ t. codes [] t.components)

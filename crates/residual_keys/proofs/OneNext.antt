@@ -5,7 +5,8 @@ use Rattle.fare_law.specs.declared.tickets.Piece.{Piece}
 use Rattle.fare_law.specs.declared.requests.Request.{Request}
 use Rattle.fare_law.specs.declared.requests.Slice.{Slice}
 use Rattle.fare_law.specs.Book.{Book, live_fare, live_rule}
-use Rattle.fare_law.specs.Lists.{OnFirst, OnLast}
+use Rattle.fare_law.specs.Lists.{Each, OnFirst, OnLast}
+use Rattle.fare_law.specs.Order.{HasKeys, IsCarrier, IsBasis}
 use Rattle.fare_law.specs.Parts.{Numbers, Filed, StandsFor, price_of}
 use Rattle.fare_law.specs.declared.moves.Move.{Move}
 use Rattle.open_unit.specs.declared.units.OpenUnit.{OpenUnit}
@@ -16,6 +17,8 @@ use Rattle.open_unit.specs.OpenUnits.{gone_on}
 use Rattle.flight_paths.specs.Positions.{Ascending, Flies, LeadsTo, before_slice}
 use Rattle.residual_keys.specs.Residuals.{State, begins, part_with, UnitStep, Moves, Run, no_part, LeadsFrom}
 use Rattle.residual_keys.specs.NothingLost.{SameCompletions}
+use Rattle.ticket_order.specs.Coding.{Coded}
+use Rattle.residual_keys.proofs.Known.{Known}
 use Rattle.residual_keys.proofs.Runs.{flies_numbers}
 use Rattle.residual_keys.proofs.NothingLost.{run_ticket, ticket_run}
 
@@ -98,12 +101,12 @@ units_one Closes s us x y p h k = h.3 ∙ sym k.3
 pub moves_one : (b : Book) (q : Request) (r : State) (m : Move) (fs gs : List Flight) (p p' : Piece) (next next' : Option Position) (us us' : List OpenUnit)
     → Moves b q r m fs p next us → Moves b q r m gs p' next' us' → (fs ≡ gs) × (p ≡ p') × (next ≡ next') × (us ≡ us')
 moves_one b q r m fs gs p p' next next' us us' h k =
-    let ef = numbers_one b m.flights fs gs (flies_numbers b q.slices (Some r.at) next m.flights fs h.path) (flies_numbers b q.slices (Some r.at) next' m.flights gs k.path) in
+    let ef = numbers_one b m.flights fs gs (flies_numbers b q.slices (Some r.at) next m.flights fs h.path.flies) (flies_numbers b q.slices (Some r.at) next' m.flights gs k.path.flies) in
     let ep = piece_one b q.sale fs p p' (closing m.role) h.stands (subst (λ z. StandsFor b q.sale p'.fare.key z p') (sym ef) k.stands)
     (direction m.role m.slot r.units us p h.units) (direction m.role m.slot r.units us' p' k.units) (sym h.carrier ∙ k.carrier) (sym h.basis ∙ k.basis) in (
       ef,
       ep,
-      flies_one b q.slices (Some r.at) m.flights fs next next' h.path (subst (λ z. Flies b q.slices (Some r.at) m.flights z next') (sym ef) k.path),
+      flies_one b q.slices (Some r.at) m.flights fs next next' h.path.flies (subst (λ z. Flies b q.slices (Some r.at) m.flights z next') (sym ef) k.path.flies),
       units_one m.role m.slot r.units us us' p h.units (subst (λ z. UnitStep m.role m.slot r.units z us') (sym ep) k.units),
     )
 
@@ -141,11 +144,33 @@ pub run_leads : (b : Book) (q : Request) (r x : State) (ms rest : List Move) →
 run_leads b q r x [] rest h k = subst (λ z. Runs b q z rest) (sym h) k
 run_leads b q r x (m ∷ ms) rest (fs, p, at, us, mv, h) k = run_leads b q (record { at = at; units = us; part = part_with r.part (begins m.role) p }) x ms rest h (less_run b q r m (ms ++ rest) fs p at us mv k)
 
-pub same_completions : (b : Book) (q : Request) → Ascending b.timetable.flights → SameCompletions b q
-same_completions b q asc ms ms' rest x (at, root, h) (at', root', h') (t, law, e) =
-    let run = ticket_run b q t law in
+pub same_completions : Known → (b : Book) (q : Request) → Ascending b.timetable.flights → SameCompletions b q
+same_completions known b q asc ms ms' rest x (at, root, h) (at', root', h') (t, law, e) =
+    let run = ticket_run known b q t law in
     let one : (at'' : Position) → before_slice b 0 (slice_get q.slices 0) None ≡ Some at'' → at'' ≡ at = λ z w. some_one (before_slice b 0 (slice_get q.slices 0) None) z at w root in
     let k : Runs b q (record { at = at; units = []; part = no_part }) (ms ++ rest) = (run.0, subst (λ z. Run b q (record { at = z; units = []; part = no_part }) (ms ++ rest) run.0) (one run.1.0 run.1.1) (subst (λ z. Run b q (record { at = run.1.0; units = []; part = no_part }) z run.0) e run.1.2)) in
     let o = leads_run b q (record { at = at'; units = []; part = no_part }) x ms' rest h' (run_leads b q (record { at = at; units = []; part = no_part }) x ms rest h k) in
-    let u = run_ticket b q asc (ms' ++ rest) o.0 (at', root', o.1) in
+    let u = run_ticket known b q asc (ms' ++ rest) o.0 (at', root', o.1) in
     (u.0, u.1, u.2)
+
+pub leads_to_one : (b : Book) (q : Request) (r x y : State) (ms : List Move) → LeadsFrom b q r ms x → LeadsFrom b q r ms y → x ≡ y
+leads_to_one b q r x y [] h k = h ∙ sym k
+leads_to_one b q r x y (m ∷ ms) (fs, p, at, us, mv, h) (gs, p', at', us', mv', k) =
+    let o = moves_one b q r m fs gs p p' (Some at) (Some at') us us' mv mv' in
+    let a : at ≡ at' = some_same at at' o.2 in
+    let s : (let x : State = record { at = at'; units = us'; part = part_with r.part (begins m.role) p' } in x) ≡ record { at = at; units = us; part = part_with r.part (begins m.role) p }
+    = λ i. record { at = sym a i; units = sym o.3 i; part = part_with r.part (begins m.role) (sym o.1 i) } in
+    leads_to_one b q (record { at = at; units = us; part = part_with r.part (begins m.role) p }) x y ms h (subst (λ z. LeadsFrom b q z ms y) s k)
+  where
+    some_same : (x y : Position) → Some x ≡ Some y → x ≡ y
+    some_same x y e = cc
+
+move_has_key : (b : Book) (q : Request) → HasKeys b → (x : State) (m : Move) (fs : List Flight) (p : Piece) (next : Option Position) (us : List OpenUnit) → Moves b q x m fs p next us → Coded m
+move_has_key b q keys x m fs p next us mv = let k = keys p.fare.key p.fare mv.stands.fare in (subst IsCarrier (sym mv.carrier) k.0, subst IsBasis (sym mv.basis) k.1)
+
+-- the live fares' keys are the moves'
+pub run_has_keys : (b : Book) (q : Request) → HasKeys b → (x : State) (ms : List Move) (price : ℕ) → Run b q x ms price → Each Coded ms
+run_has_keys b q keys x [] price run = absurd run
+run_has_keys b q keys x (m ∷ []) price (fs, p, mv, e) = (move_has_key b q keys x m fs p None [] mv, tt)
+run_has_keys b q keys x (m ∷ n ∷ ms) price (fs, p, at, us, rest, mv, run, e) =
+    (move_has_key b q keys x m fs p (Some at) us mv, run_has_keys b q keys (record { at = at; units = us; part = part_with x.part (begins m.role) p }) (n ∷ ms) rest run)

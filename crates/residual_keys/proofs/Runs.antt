@@ -1,5 +1,5 @@
 -- Runs, and the machines that each look at one side of them.
-use Rattle.std.proofs.Common.{◌≡◌, ◌≢◌, ℕ, ◌+◌, List, [], ◌∷◌, ◌++◌, map, set, remove, flat_map, sum_by, Option, Some, None, sym, refl, ap, ◌∙◌, subst, arith}
+use Rattle.std.proofs.Common.{◌≡◌, ◌≢◌, ℕ, ◌+◌, List, [], ◌∷◌, ◌++◌, map, set, remove, flat_map, sum_by, Option, Some, None, IfNone, sym, refl, ap, ◌∙◌, subst, arith}
 use Rattle.std.proofs.lemmas.List.Sums.{sum_by-cons}
 use Rattle.fare_law.specs.declared.flights.Flight.{Flight}
 use Rattle.fare_law.specs.declared.tickets.Piece.{Piece}
@@ -15,8 +15,9 @@ use Rattle.fare_law.specs.declared.moves.Role.{Role}
 use Rattle.fare_law.specs.declared.moves.Role.TheVariants.{Alone, Opens, GoesOn, Closes}
 use Rattle.residual_keys.specs.declared.parts.TicketPart.{TicketPart}
 use Rattle.open_unit.specs.OpenUnits.{opened, gone_on, unit_steps}
-use Rattle.flight_paths.specs.Positions.{Flies}
+use Rattle.flight_paths.specs.Positions.{Fits, Flies}
 use Rattle.residual_keys.specs.Residuals.{State, begins, part_with, PartAllows, UnitStep, Moves, Run}
+use Rattle.residual_keys.proofs.Fitting.{flies_fits, is_path}
 use Rattle.residual_keys.proofs.TicketParts.{PartRun}
 use Rattle.unit_labels.specs.Labels.{Part, Alone as StaysAlone, Opens as Opening, GoesOn as GoingOn, Closes as Closing}
 use Rattle.unit_labels.specs.UnitRuns.{UnitRun}
@@ -108,8 +109,8 @@ step_zero Closes s us us' p h = tt
 
 item_of : (b : Book) (q : Request) (r : State) (m : Move) (fs : List Flight) (p : Piece) (next : Option Position) (us : List OpenUnit) → Moves b q r m fs p next us → ItemOf b q m (record { flights = fs; piece = p })
 item_of b q r m fs p next us h = record {
-  some = h.some;
-  numbers = flies_numbers b q.slices (Some r.at) next m.flights fs h.path;
+  some = h.path.some;
+  numbers = flies_numbers b q.slices (Some r.at) next m.flights fs h.path.flies;
   stands = h.stands;
   carrier = h.carrier;
   basis = h.basis;
@@ -124,7 +125,7 @@ run_sides b q r (m ∷ []) price (fs, p, mv, e) = (
   record { flights = fs; piece = p } ∷ [],
   record {
     items = (item_of b q r m fs p None [] mv, tt);
-    flies = flies_append b q.slices (Some r.at) None None m.flights fs [] [] mv.path refl;
+    flies = flies_append b q.slices (Some r.at) None None m.flights fs [] [] mv.path.flies refl;
     units = step_run m.role m.slot r.units [] p [] [] mv.units refl;
     part = (mv.part, tt);
   },
@@ -138,40 +139,40 @@ run_sides b q r (m ∷ n ∷ ms) price (fs, p, at, us, rest, mv, run, e) =
       record { flights = fs; piece = p } ∷ k.0,
       record {
         items = (item_of b q r m fs p (Some at) us mv, k.1.items);
-        flies = flies_append b q.slices (Some r.at) (Some at) None m.flights fs _ _ mv.path k.1.flies;
+        flies = flies_append b q.slices (Some r.at) (Some at) None m.flights fs _ _ mv.path.flies k.1.flies;
         units = step_run m.role m.slot r.units us p _ _ mv.units k.1.units;
         part = (mv.part, k.1.part);
       },
       e ∙ ap (λ x. price_of fs p + x) k.2 ∙ sym (total_more (record { flights = fs; piece = p }) k.0),
     )
 
-move_of_item : (b : Book) (q : Request) (r : State) (m : Move) (x : Item) (next : Option Position) (us : List OpenUnit) → ItemOf b q m x → Flies b q.slices (Some r.at) m.flights x.flights next → UnitStep m.role m.slot r.units x.piece us
-    → PartAllows (part_with r.part (begins m.role) x.piece) → Moves b q r m x.flights x.piece next us
-move_of_item b q r m x next us i f u a = record { some = i.some; path = f; stands = i.stands; carrier = i.carrier; basis = i.basis; lawful = i.lawful; units = u; part = a }
+move_of_item : (b : Book) (q : Request) (r : State) (m : Move) (x : Item) (next : Option Position) (us : List OpenUnit) → Fits b q.slices r.at → ItemOf b q m x → Flies b q.slices (Some r.at) m.flights x.flights next → UnitStep m.role m.slot r.units x.piece us
+    → PartAllows (part_with r.part (begins m.role) x.piece) → IfNone next (us ≡ []) → Moves b q r m x.flights x.piece next us
+move_of_item b q r m x next us ok i f u a d = record { path = is_path b q.slices r.at m.flights x.flights next ok i.some i.lawful.shape f; stands = i.stands; carrier = i.carrier; basis = i.basis; lawful = i.lawful; units = u; part = a; done = d }
 
 -- And the sides together.
-pub sides_run : (b : Book) (q : Request) (r : State) (ms : List Move) (xs : List Item) → Sides b q r.at r.units r.part ms xs → Run b q r ms (total xs)
-sides_run b q r [] [] s = none_some s.flies
+pub sides_run : (b : Book) (q : Request) (r : State) (ms : List Move) (xs : List Item) → Fits b q.slices r.at → Sides b q r.at r.units r.part ms xs → Run b q r ms (total xs)
+sides_run b q r [] [] ok s = none_some s.flies
   where
     none_some : None ≡ Some r.at → ⊥
     none_some e = cc
-sides_run b q r [] (x ∷ xs) s = absurd s.items
-sides_run b q r (m ∷ ms) [] s = absurd s.items
-sides_run b q r (m ∷ []) (x ∷ []) s =
+sides_run b q r [] (x ∷ xs) ok s = absurd s.items
+sides_run b q r (m ∷ ms) [] ok s = absurd s.items
+sides_run b q r (m ∷ []) (x ∷ []) ok s =
     let f = flies_split b q.slices (Some r.at) None m.flights x.flights [] [] s.items.0.numbers s.flies in
     let u = run_step m.role m.slot r.units x.piece [] [] s.items.0.zero_slot s.units in (
       x.flights,
       x.piece,
-      move_of_item b q r m x None [] s.items.0 (subst (λ y. Flies b q.slices (Some r.at) m.flights x.flights y) (sym f.2) f.1)
-          (subst (λ y. UnitStep m.role m.slot r.units x.piece y) u.2 u.1) s.part.0,
+      move_of_item b q r m x None [] ok s.items.0 (subst (λ y. Flies b q.slices (Some r.at) m.flights x.flights y) (sym f.2) f.1)
+          (subst (λ y. UnitStep m.role m.slot r.units x.piece y) u.2 u.1) s.part.0 refl,
       total_more x [] ∙ plus_zero (price_of x.flights x.piece),
     )
   where
     plus_zero : (n : ℕ) → n + 0 ≡ n
     plus_zero n = omega arith
-sides_run b q r (m ∷ []) (x ∷ y ∷ xs) s = absurd s.items.1
-sides_run b q r (m ∷ n ∷ ms) (x ∷ []) s = absurd s.items.1
-sides_run b q r (m ∷ n ∷ ms) (x ∷ y ∷ xs) s =
+sides_run b q r (m ∷ []) (x ∷ y ∷ xs) ok s = absurd s.items.1
+sides_run b q r (m ∷ n ∷ ms) (x ∷ []) ok s = absurd s.items.1
+sides_run b q r (m ∷ n ∷ ms) (x ∷ y ∷ xs) ok s =
     let f = flies_split b q.slices (Some r.at) None m.flights x.flights _ _ s.items.0.numbers s.flies in
     let u = run_step m.role m.slot r.units x.piece _ _ s.items.0.zero_slot s.units in
     let a = goes_on n.flights _ _ f.0 s.items.1.0.some f.2 in
@@ -181,8 +182,8 @@ sides_run b q r (m ∷ n ∷ ms) (x ∷ y ∷ xs) s =
       a.0,
       u.0,
       total (y ∷ xs),
-      move_of_item b q r m x (Some a.0) u.0 s.items.0 path u.1 s.part.0,
-      sides_run b q (record { at = a.0; units = u.0; part = part_with r.part (begins m.role) x.piece }) (n ∷ ms) (y ∷ xs)
+      move_of_item b q r m x (Some a.0) u.0 ok s.items.0 path u.1 s.part.0 tt,
+      sides_run b q (record { at = a.0; units = u.0; part = part_with r.part (begins m.role) x.piece }) (n ∷ ms) (y ∷ xs) (flies_fits b q.slices (Some r.at) m.flights x.flights (Some a.0) ok path)
           (record { items = s.items.1; flies = subst (λ z. Flies b q.slices z (flat_map (λ k. k.flights) (n ∷ ms)) (flat_map (λ k. k.flights) (y ∷ xs)) None) a.1 f.2; units = u.2; part = s.part.1 }),
       total_more x (y ∷ xs),
     )

@@ -1,5 +1,5 @@
 -- A ticket's parts are lawful exactly where its flights lead to the end, its labels are labelled, its units are accepted and its ticket part allows each component.
-use Rattle.std.proofs.Common.{◌≡◌, ℕ, suc, ◌<◌, Bool, true, false, cond, ◌==◌, List, [], ◌∷◌, length, map, filter, flat_map, slice_get, Option, Some, None, IfSome, sym, refl, ap, ◌∙◌, subst, inl, inr, arith}
+use Rattle.std.proofs.Common.{◌≡◌, ℕ, suc, ◌<◌, Bool, true, false, cond, ◌==◌, List, [], ◌∷◌, length, map, filter, flat_map, slice_get, Option, Some, None, IfSome, sym, refl, ap, ◌∙◌, subst, inl, inr, arith, eq-eqb, ne_eqb, ◌||◌}
 use Rattle.std.proofs.lemmas.Bool.{cases_eq, le-leb, lt-leb, true≢false}
 use Rattle.fare_law.specs.declared.rules.CombineRule.{CombineRule}
 use Rattle.fare_law.specs.declared.rules.EndOnEnd.{EndOnEnd}
@@ -12,11 +12,8 @@ use Rattle.fare_law.specs.Lawful.{Part, comes_in, Numbered, unit_of, EndOnEndOf,
 use Rattle.fare_law.specs.Lists.{Each}
 use Rattle.fare_law.specs.Parts.{Numbers, ComponentLawful}
 use Rattle.fare_law.specs.Units.{UnitLawful}
-use Rattle.unit_labels.specs.Labels.{Labelled}
-use Rattle.unit_labels.specs.UnitRuns.{pick, Accepted}
-use Rattle.unit_labels.proofs.LabelLaw.{labelled_lawful, lawful_labelled}
-use Rattle.unit_labels.proofs.LabelRuns.{comes_other, comes_first}
-use Rattle.unit_labels.proofs.UnitJoin.{NewAccepted}
+use Rattle.unit_labels.specs.Labels.{LawfulLabels}
+use Rattle.unit_labels.specs.UnitRuns.{pick, Accepted, EachAccepted}
 use Rattle.open_unit.specs.OpenUnits.{unit_steps}
 use Rattle.flight_paths.specs.Positions.{Flies, before_slice}
 use Rattle.residual_keys.specs.Residuals.{no_part}
@@ -54,6 +51,12 @@ unit_pick u (x ∷ parts) = step (x.unit == u) ∙ ap (λ ps. cond (x.unit == u)
     step : (b : Bool) → map (λ part. part.piece) (cond b (x ∷ filter (λ part. part.unit == u) parts) (filter (λ part. part.unit == u) parts)) ≡ cond b (x.piece ∷ unit_of u parts) (unit_of u parts)
     step true = refl
     step false = refl
+
+comes_other : (u l : ℕ) (ls : List ℕ) → (u ≡ l → ⊥) → comes_in u (l ∷ ls) ≡ comes_in u ls
+comes_other u l ls ne = ap (λ b. b || comes_in u ls) (ne_eqb u l ne)
+
+comes_first : (u l : ℕ) (ls : List ℕ) → u ≡ l → comes_in u (l ∷ ls) ≡ true
+comes_first u l ls e = ap (λ b. b || comes_in u ls) (eq-eqb u l e)
 
 -- the labels of a list come in it
 comes_each : (all ls : List ℕ) → ((u : ℕ) → comes_in u ls ≡ true → comes_in u all ≡ true) → Each (λ l. comes_in l all ≡ true) ls
@@ -118,13 +121,13 @@ same_count (x ∷ parts) = ap suc (same_count parts)
 pub record Machines (b : Book) (q : Request) (ns : List ℕ) (parts : List Part) : Type 0 where
   pub flies : Flies b q.slices (before_slice b 0 (slice_get q.slices 0) None) ns (flights parts) None
   pub components : Each (λ part. ComponentLawful b q.party part.flights part.piece) parts
-  pub labelled : Labelled 0 (labels parts)
-  pub units : NewAccepted unit_steps 0 (labels parts) (pieces parts)
+  pub labelled : LawfulLabels (labels parts)
+  pub units : EachAccepted unit_steps (labels parts) (pieces parts)
   pub part : PartRun no_part (news 0 (labels parts)) (pieces parts)
 
 pub machines_lawful : (b : Book) (q : Request) (ns : List ℕ) (parts : List Part) → Ascending b.timetable.flights → Machines b q ns parts → PartsLawful b q parts
 machines_lawful b q ns parts asc m =
-    let law = labelled_lawful (labels parts) m.labelled in
+    let law = m.labelled in
     let each = each_both (λ l. 0 < l) (λ l. comes_in l (labels parts) ≡ true) (labels parts) (numbered_each 0 (labels parts) law.0) (comes_each (labels parts) (labels parts) (λ u c. c)) in
     record {
       journey = (flies_itinerary b q.slices asc q.slices 0 None ns (flights parts) refl m.flies).1;
@@ -143,7 +146,7 @@ pub lawful_machines : (b : Book) (q : Request) (ns : List ℕ) (parts : List Par
 lawful_machines b q ns parts num h = record {
   flies = itinerary_flies b q.slices q.slices 0 None ns (flights parts) refl num h.journey;
   components = h.components;
-  labelled = lawful_labelled (labels parts) h.numbered h.straddling;
+  labelled = (h.numbered, h.straddling);
   units = λ l lt c. subst (Accepted unit_steps) (unit_pick l parts) (lawful_accepted (unit_of l parts)
       (at_label (λ k. UnitLawful (unit_of k parts)) l (labels parts) c (each_map (λ part. part.unit) (λ k. UnitLawful (unit_of k parts)) parts h.units)));
   part = asks_part_run (labels parts) (pieces parts) (same_count parts)

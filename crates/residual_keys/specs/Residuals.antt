@@ -1,17 +1,13 @@
 -- Residuals, moves and runs.
-use Rattle.std.specs.Prelude.{◌≡◌, ◌≢◌, ℕ, Bool, true, false, ◌==◌, nat_le, ◌+◌, ◌%◌, ◌≤◌, ◌<◌, List, [], ◌∷◌, ◌++◌, length, map, set, remove, slice_get, Option, Some, None, cond}
+use Rattle.std.specs.Prelude.{◌≡◌, ℕ, Bool, true, false, ◌==◌, nat_le, ◌+◌, ◌%◌, ◌≤◌, ◌<◌, List, [], ◌∷◌, ◌++◌, length, set, remove, slice_get, Option, Some, None, IfNone, cond}
 use Rattle.fare_law.specs.declared.rules.CombineRule.{CombineRule}
 use Rattle.fare_law.specs.declared.rules.EndOnEnd.{EndOnEnd}
 use Rattle.fare_law.specs.declared.rules.EndOnEnd.TheVariants.{Free, SameCarrier, Never}
-use Rattle.fare_law.specs.declared.tickets.Component.{Component}
 use Rattle.fare_law.specs.declared.flights.Flight.{Flight}
 use Rattle.fare_law.specs.declared.tickets.Piece.{Piece}
 use Rattle.fare_law.specs.declared.requests.Request.{Request}
-use Rattle.fare_law.specs.declared.tickets.Ticket.{Ticket}
 use Rattle.fare_law.specs.declared.rules.UnitKind.{UnitKind}
 use Rattle.fare_law.specs.Book.{Book}
-use Rattle.fare_law.specs.Lawful.{Lawful, comes_in}
-use Rattle.fare_law.specs.Order.{Costs, code, slot_number, carrier_number, basis_number}
 use Rattle.fare_law.specs.Parts.{StandsFor, ComponentLawful, price_of}
 use Rattle.open_unit.specs.declared.marks.CarrierMark.TheVariants.{NotYet}
 use Rattle.fare_law.specs.declared.moves.Move.{Move}
@@ -21,7 +17,7 @@ use Rattle.fare_law.specs.declared.moves.Role.{Role}
 use Rattle.fare_law.specs.declared.moves.Role.TheVariants.{Alone, Opens, GoesOn, Closes}
 use Rattle.residual_keys.specs.declared.parts.TicketPart.{TicketPart}
 use Rattle.open_unit.specs.OpenUnits.{carrier_with, OneCarrierMark, MayAlone, MayOpen, opened, MayGoOn, gone_on, MayClose}
-use Rattle.flight_paths.specs.Positions.{Flies, before_slice}
+use Rattle.flight_paths.specs.Positions.{IsPath, before_slice}
 
 -- what the rest of a search depends on
 pub record State : Type 0 where
@@ -62,16 +58,16 @@ UnitStep Opens slot us p us' = (slot ≡ 0) × MayOpen p × (length us < 2) × (
 UnitStep GoesOn slot us p us' = (u : OpenUnit) × (slice_get us slot ≡ Some u) × MayGoOn u p × (us' ≡ set us slot (gone_on u p))
 UnitStep Closes slot us p us' = (u : OpenUnit) × (slice_get us slot ≡ Some u) × ((kind : UnitKind) × MayClose u p kind) × (us' ≡ remove us slot)
 
--- A move of a state: its flights, what they are to the fare, and what it leaves: a position or the end, the open units and the ticket part.
+-- A move of a state: its flights, what they are to the fare, and what it leaves: a position and the open units, or the end of the journey, where no unit is open.
 pub record Moves (b : Book) (q : Request) (r : State) (m : Move) (fs : List Flight) (p : Piece) (next : Option Position) (us : List OpenUnit) : Type 0 where
-  pub some : m.flights ≢ []
-  pub path : Flies b q.slices (Some r.at) m.flights fs next
+  pub path : IsPath b q.slices r.at m.flights fs next
   pub stands : StandsFor b q.sale p.fare.key fs p
   pub carrier : m.carrier ≡ p.fare.key.carrier
   pub basis : m.basis ≡ p.fare.key.basis
   pub lawful : ComponentLawful b q.party fs p
   pub units : UnitStep m.role m.slot r.units p us
   pub part : PartAllows (part_with r.part (begins m.role) p)
+  pub done : IfNone next (us ≡ [])
 
 -- A run: each is a move of what the one before left, and the last alone ends the journey, with no unit open.
 abbrev pub Run : Book → Request → State → List Move → ℕ → Type 0

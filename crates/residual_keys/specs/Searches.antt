@@ -1,12 +1,15 @@
 -- What a search finds: the states that are needed, their least prices, the certificate of a search.
-use Rattle.std.specs.Prelude.{◌≡◌, ◌↔◌, ℕ, ◌+◌, ◌<◌, ◌≤◌, List, ◌++◌, Option, Some, None, MatchOption}
+use Rattle.std.specs.Prelude.{◌≡◌, ◌↔◌, ℕ, ◌≤◌, List, length, Option, MatchOption}
 use Rattle.fare_law.specs.declared.requests.Request.{Request}
+use Rattle.fare_law.specs.declared.tickets.Ticket.{Ticket}
 use Rattle.fare_law.specs.Book.{Book}
 use Rattle.fare_law.specs.Lists.{EachPair, IsIn, KLeast}
-use Rattle.fare_law.specs.Order.{Before}
+use Rattle.fare_law.specs.Lawful.{Lawful}
+use Rattle.fare_law.specs.Order.{Before, Costs}
 use Rattle.fare_law.specs.declared.moves.Move.{Move}
+use Rattle.residual_keys.specs.ResidualOrder.{StateBefore}
 use Rattle.residual_keys.specs.Residuals.{State, Run, RunFromRoot, RootLeadsTo}
-use Rattle.fare_law.specs.Moves.{run_code}
+use Rattle.fare_law.specs.Moves.{moves_of, run_code}
 
 abbrev pub Reached : Book → Request → State → Type 0
 Reached b q x = (ms : List Move) × RootLeadsTo b q ms x
@@ -15,6 +18,10 @@ Reached b q x = (ms : List Move) × RootLeadsTo b q ms x
 pub record AreNeeded (Smaller : State → State → Type 0) (b : Book) (q : Request) (need : List State) : Type 0 where
   pub in_order : EachPair Smaller need
   pub are : (x : State) → IsIn x need ↔ Reached b q x
+
+-- how many states a search needs, in the order of residuals
+abbrev pub IsSize : Book → Request → ℕ → Type 0
+IsSize b q n = (need : List State) × AreNeeded StateBefore b q need × (n ≡ length need)
 
 -- the least price of a run from the state
 abbrev pub IsLeast : Book → Request → State → ℕ → Type 0
@@ -38,3 +45,7 @@ DrawnBefore d e = Before d.price (run_code d.moves) e.price (run_code e.moves)
 -- the k least runs from the root
 abbrev pub BestRuns : Book → Request → ℕ → List Drawn → Type 0
 BestRuns b q k ds = KLeast (IsDrawn b q) DrawnBefore k ds
+
+-- the ticket of a run: lawful, with these moves, at this price
+abbrev pub TicketOf : Book → Request → Drawn → Ticket → Type 0
+TicketOf b q d t = Lawful t b q × (moves_of t ≡ d.moves) × Costs t b q d.price

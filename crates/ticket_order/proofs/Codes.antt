@@ -1,14 +1,17 @@
 -- A code tells its moves, and no code is the front of another but that of a front of its moves.
-use Rattle.std.proofs.Common.{◌≡◌, ℕ, zero, suc, ◌+◌, ◌-◌, ◌*◌, ◌^◌, ◌≤◌, ◌<◌, ◌⊎◌, cond, List, [], ◌∷◌, ◌++◌, length, sym, refl, ap, ap₂, ◌∙◌, subst, inl, inr, arith, append_assoc, pow-suc, mul-le-mul_right, suc-mul, mul_comm}
-use Rattle.std.proofs.lemmas.Bool.{le-leb, lt-leb, cases_order}
+use Rattle.std.proofs.Common.{◌≡◌, ℕ, zero, suc, ◌+◌, ◌-◌, ◌*◌, ◌^◌, ◌≤◌, ◌<◌, ◌⊎◌, cond, List, [], ◌∷◌, ◌++◌, length, sym, refl, ap, ap₂, ◌∙◌, subst, inl, inr, arith, append_assoc, append-nil, pow-suc, mul-le-mul_right, suc-mul, mul_comm}
+use Rattle.std.proofs.lemmas.Bool.{le-leb, lt-leb, cases_eq, cases_order}
 use Rattle.fare_law.specs.declared.names.Basis.{Basis}
 use Rattle.fare_law.specs.declared.names.Carrier.{Carrier}
 use Rattle.fare_law.specs.Lists.{Each, IsPrefix}
-use Rattle.fare_law.specs.Order.{Less, character_value, in_places, carrier_number, basis_number, IsCharacter, IsCarrier, IsBasis}
+use Rattle.fare_law.specs.Order.{character_value, in_places, carrier_number, basis_number, IsCharacter, IsCarrier, IsBasis}
 use Rattle.fare_law.specs.declared.moves.Move.{Move}
 use Rattle.fare_law.specs.declared.moves.Role.{Role}
 use Rattle.fare_law.specs.declared.moves.Role.TheVariants.{Alone, Opens, GoesOn, Closes}
 use Rattle.fare_law.specs.Moves.{role_code, move_code, run_code}
+use Rattle.ticket_order.specs.Coding.{Apart}
+pub use Rattle.ticket_order.specs.Coding.{Coded}
+pub use Rattle.ticket_order.proofs.Words.{less_cut, less_total}
 
 value_small : (c : ℕ) → IsCharacter c → (1 ≤ character_value c) × (character_value c ≤ 36)
 value_small c (inl h) = subst (λ b. (1 ≤ cond b (c - 47) (c - 54)) × (cond b (c - 47) (c - 54) ≤ 36)) (sym (le-leb c 57 h.1)) (omega (arith, h.0), omega (arith, h.1))
@@ -90,10 +93,6 @@ role_one Closes Opens e = absurd (omega arith)
 role_one Closes GoesOn e = absurd (omega arith)
 role_one Closes Closes e = refl
 
--- the carrier and the basis of the move have their characters
-abbrev pub Coded : Move → Type 0
-Coded m = IsCarrier m.carrier × IsBasis m.basis
-
 -- two lists with equal parts of one length
 parts_same : (xs ys us vs : List ℕ) → length xs ≡ length ys → xs ++ us ≡ ys ++ vs → (xs ≡ ys) × (us ≡ vs)
 parts_same [] [] us vs l e = (refl, e)
@@ -105,7 +104,7 @@ parts_same (x ∷ xs) (y ∷ ys) us vs l e =
     let r = parts_same xs ys us vs (omega arith) t in
     (ap₂ (λ z zs. z ∷ zs) h r.0, r.1)
 
-move_parts : (m n : Move) (us vs : List ℕ) → Coded m → Coded n → move_code m ++ us ≡ move_code n ++ vs → (m ≡ n) × (us ≡ vs)
+pub move_parts : (m n : Move) (us vs : List ℕ) → Coded m → Coded n → move_code m ++ us ≡ move_code n ++ vs → (m ≡ n) × (us ≡ vs)
 move_parts m n us vs h k e =
     let l : length m.flights ≡ length n.flights = head_same e in
     let t : (m.flights ++ tail m) ++ us ≡ (n.flights ++ tail n) ++ vs = tail_same e in
@@ -152,25 +151,46 @@ code_front (x ∷ xs) (y ∷ ys) more h k e =
     let f = code_front xs ys more h.1 k.1 r.1 in
     (f.0, ap₂ (λ z zs. z ∷ zs) r.0 f.1)
 
--- what is less than a longer word is less than its front, or begins with it
-pub less_cut : (w v z : List ℕ) → Less w (v ++ z) → Less w v ⊎ IsPrefix v w
-less_cut w [] z h = inr (w, refl)
-less_cut [] (y ∷ v) z h = inl tt
-less_cut (x ∷ w) (y ∷ v) z (inl h) = inl (inl h)
-less_cut (x ∷ w) (y ∷ v) z (inr (e, h)) = elim (less_cut w v z h) [
-  | inl l ↦ inl (inr (e, l))
-  | inr p ↦ inr (p.0, ap₂ (λ a l. a ∷ l) e p.1)
-]
+pub codes_same : (xs ys : List Move) → Each Coded xs → Each Coded ys → run_code xs ≡ run_code ys → xs ≡ ys
+codes_same [] [] h k e = refl
+codes_same [] (y ∷ ys) h k e = absurd (none e)
+  where
+    none : [] ≡ run_code (y ∷ ys) → ⊥
+    none e = cc
+codes_same (x ∷ xs) [] h k e = absurd (none e)
+  where
+    none : run_code (x ∷ xs) ≡ [] → ⊥
+    none e = cc
+codes_same (x ∷ xs) (y ∷ ys) h k e =
+    let r = move_parts x y (run_code xs) (run_code ys) h.0 k.0 e in
+    ap₂ (λ z zs. z ∷ zs) r.0 (codes_same xs ys h.1 k.1 r.1)
 
--- two words: one is less, or they are one
-pub less_total : (v w : List ℕ) → Less v w ⊎ ((v ≡ w) ⊎ Less w v)
-less_total [] [] = inr (inl refl)
-less_total [] (y ∷ w) = inl tt
-less_total (x ∷ v) [] = inr (inr tt)
-less_total (x ∷ v) (y ∷ w) = elim (cases_order x y) [
-  | inr o ↦ elim o [ inl lt ↦ inl (inl lt) | inr gt ↦ inr (inr (inl gt)) ]
-  | inl e ↦ elim (less_total v w) [
-    | inl l ↦ inl (inr (e, l))
-    | inr o ↦ elim o [ inl s ↦ inr (inl (ap₂ (λ a l. a ∷ l) e s)) | inr g ↦ inr (inr (inr (sym e, g))) ]
-  ]
+pub codes_joined : (xs ys : List Move) → run_code (xs ++ ys) ≡ run_code xs ++ run_code ys
+codes_joined [] ys = refl
+codes_joined (x ∷ xs) ys = ap (λ z. move_code x ++ z) (codes_joined xs ys) ∙ sym (append_assoc (move_code x) (run_code xs) (run_code ys))
+
+-- where the code of one move begins with that of another, they are one move
+pub move_front : (m n : Move) → Coded m → Coded n → IsPrefix (move_code m) (move_code n) → m ≡ n
+move_front m n h k (more, e) = (move_parts m n more [] h k (sym e ∙ sym (append-nil (move_code n)))).0
+
+numbers_decided : (xs ys : List ℕ) → (xs ≡ ys) ⊎ (xs ≡ ys → ⊥)
+numbers_decided [] [] = inl refl
+numbers_decided [] (y ∷ ys) = inr (λ e. cc)
+numbers_decided (x ∷ xs) [] = inr (λ e. cc)
+numbers_decided (x ∷ xs) (y ∷ ys) = elim (cases_eq x y) [
+  | inl e ↦ elim (numbers_decided xs ys) [ inl f ↦ inl (ap₂ (λ z zs. z ∷ zs) e f) | inr ne ↦ inr (λ h. ne (tail_same h)) ]
+  | inr ne ↦ inr (λ h. ne (head_same h))
+]
+  where
+    tail_same : x ∷ xs ≡ y ∷ ys → xs ≡ ys
+    tail_same h = cc
+
+    head_same : x ∷ xs ≡ y ∷ ys → x ≡ y
+    head_same h = cc
+
+-- codes of two single moves are equal, or neither is the front of the other
+pub moves_apart : (m n : Move) → Coded m → Coded n → (move_code m ≡ move_code n) ⊎ Apart (move_code m) (move_code n)
+moves_apart m n h k = elim (numbers_decided (move_code m) (move_code n)) [
+  | inl e ↦ inl e
+  | inr ne ↦ inr ((λ p. ne (ap move_code (move_front m n h k p))), (λ p. ne (sym (ap move_code (move_front n m k h p)))))
 ]

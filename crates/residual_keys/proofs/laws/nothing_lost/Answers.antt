@@ -1,0 +1,21 @@
+-- The theorems of their own files.
+use Rattle.std.specs.Prelude.{[]}
+use Rattle.residual_keys.proofs.NothingLost.{run_ticket, ticket_run, codes as code_is}
+use Rattle.residual_keys.proofs.OneNext.{same_completions}
+use Rattle.residual_keys.proofs.OneTicket.{ticket_one}
+use Rattle.residual_keys.proofs.laws.nothing_lost.Goals as goal
+
+pub returns-clause-runs : goal.returns-clause-runs
+returns-clause-runs c = run_ticket (record { labels = c.label_laws.ensures; units = c.unit_laws.ensures })
+
+pub returns-clause-tickets : goal.returns-clause-tickets
+returns-clause-tickets c = ticket_run (record { labels = c.label_laws.ensures; units = c.unit_laws.ensures })
+
+pub returns-clause-codes : goal.returns-clause-codes
+returns-clause-codes c = λ t. code_is [] t.components
+
+pub returns-clause-one : goal.returns-clause-one
+returns-clause-one c = ticket_one (record { labels = c.label_laws.ensures; units = c.unit_laws.ensures })
+
+pub returns-clause-same : goal.returns-clause-same
+returns-clause-same c = same_completions (record { labels = c.label_laws.ensures; units = c.unit_laws.ensures })

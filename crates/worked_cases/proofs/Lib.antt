@@ -1,0 +1,3 @@
+pub mod Tickets
+pub mod Trips
+pub mod Others
