@@ -1,4 +1,6 @@
-//! Residuals of a search, their moves, and what runs of moves are to the lawful tickets.
+//! Residuals of a search, which keep what the rest of a ticket depends on, and in `specs/` their moves and
+//! runs. The layers above make residuals of given parts, and call the laws: runs from the root are the
+//! lawful tickets, the least runs are the best tickets, runs are short, residuals are ordered.
 #![tactic(auto)]
 
 mod kept;
