@@ -8,7 +8,7 @@ ghost use Rattle.rule_route.specs.Permits.{permits_stop, StopsOnlyAt};
 
 use fare_law::{Carrier, Flight, Place, Rule, StopRule};
 
-/// A longer gap between two flights is a stopover, in minutes.
+/// The longest gap of a transfer, in minutes; a longer one is a stopover.
 const LONGEST_TRANSFER: i64 = 1440;
 
 /// The connections of at most four flights that are stopovers: those with a gap of over a day.
@@ -97,7 +97,7 @@ fn stops_only_at(places: &[Place], flights: &[Flight]) -> bool
     permits_each_stop(places, flights)
 }
 
-/// What each two neighbouring flights are found to do.
+/// Whether each two neighbouring flights do not stop over, or do so at one of the places.
 fn permits_each_stop(places: &[Place], flights: &[Flight]) -> bool
     requires { All IsTimed flights.now }
     ensures { result ≡ list_all (λ p. permits_stop places.now p.0 p.1) (zip flights.now (drop 1 flights.now)) }

@@ -6,6 +6,8 @@
 mod connections;
 mod extras;
 mod named_flights;
+#[cfg(test)]
+mod tests;
 
 pub use connections::{stopovers, stopovers_ok, transfers_ok};
 pub use extras::{charge, surcharge};
