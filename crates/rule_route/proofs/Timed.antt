@@ -1,5 +1,5 @@
 -- What the tests hand in meets the conditions.
-use Rattle.std.proofs.Common.{List, [], ◌∷◌, ◌++◌, ◌≤◌}
+use Rattle.std.proofs.Common.{[], ◌∷◌, ◌≤◌}
 use Rattle.std.specs.List.{All}
 use Rattle.std.proofs.lemmas.List.Elements.{All-nil, All-cons}
 use Rattle.fare_law.specs.declared.flights.Flight.{Flight}

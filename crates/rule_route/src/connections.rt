@@ -1,7 +1,7 @@
 //! Categories 8 and 9: where a component's passengers stop over, and where they change planes.
-ghost use Rattle.std.specs.Prelude.{◌≡◌, ◌↔◌, ◌≤◌, true, length, IsTrue, IfSome, All, Contains, drop};
+ghost use Rattle.std.specs.Prelude.{◌≡◌, ◌↔◌, ◌≤◌, length, IsTrue, IfSome, All, drop};
 ghost use Rattle.std.specs.List.{count_by, list_all, zip};
-ghost use Rattle.fare_law.specs.Lists.{EachPair, OnFirst};
+ghost use Rattle.fare_law.specs.Lists.{OnFirst};
 ghost use Rattle.fare_law.specs.Parts.{is_stopover, stopovers, transfers, StopoversHold, TransfersHold};
 ghost use Rattle.rule_route.specs.Limits.{IsTimed};
 ghost use Rattle.rule_route.specs.Permits.{permits_stop, StopsOnlyAt};

@@ -1,5 +1,5 @@
 //! What a component costs beside its fare: a charge for each stopover, and surcharges.
-ghost use Rattle.std.specs.Prelude.{◌≡◌, ◌≤◌, ◌+◌, ◌*◌, length, cond, sum_by, All};
+ghost use Rattle.std.specs.Prelude.{◌≡◌, ◌≤◌, length, cond, sum_by, All};
 ghost use Rattle.fare_law.specs.Parts.{fits, stopover_charge, surcharges};
 ghost use Rattle.rule_route.specs.Limits.{IsTimed, HasLowCharge, HasLowSurcharges, IsLow};
 
