@@ -1,0 +1,4 @@
+pub mod Neighbours
+pub mod StopPlaces
+pub mod Sums
+pub mod Timed
