@@ -1,1 +1,2 @@
 pub mod OpenUnits
+pub mod Ranges

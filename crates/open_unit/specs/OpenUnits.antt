@@ -1,13 +1,12 @@
 -- What is kept of a unit that is open, and the parts that a component may have in it.
-use Rattle.std.specs.Prelude.{◌≡◌, ◌≢◌, ◌⊎◌, ℕ, ℤ, Bool, true, ◌==◌, pos, max, ◌+◌, ◌≤◌, ◌+ℤ◌, ◌≤ℤ◌, List, IfSome, Option, Some, None, cond, bit_and}
-use Rattle.std.specs.Int.{int_max, int_min, bit_at}
-use Rattle.std.specs.List.{list_any}
+use Rattle.std.specs.Prelude.{◌≡◌, ◌≢◌, ◌⊎◌, ℕ, ℤ, true, ◌==◌, max, ◌+◌, ◌≤◌, cond, bit_and}
 use Rattle.fare_law.specs.declared.names.Carrier.{Carrier}
 use Rattle.fare_law.specs.declared.tickets.Piece.{Piece}
 use Rattle.fare_law.specs.declared.rules.UnitKind.{UnitKind}
 use Rattle.fare_law.specs.declared.rules.UnitKind.TheVariants.{OneWay, RoundTrip, OpenJaw, Circle}
 use Rattle.fare_law.specs.Book.{same_carrier}
-use Rattle.rule_unit.specs.Demands.{AtLeast, AtMost, later_of, earlier_of, least_stay, greatest_stay, by_day, has_kind, kinds_of, partner_of}
+use Rattle.rule_unit.specs.declared.demand.UnitDemand.{UnitDemand}
+use Rattle.rule_unit.specs.Demands.{AtLeast, AtMost, later_of, earlier_of, least_stay, greatest_stay, by_day, has_kind, kinds_of, partner_of, demand_of, met}
 use Rattle.fare_law.specs.Units.{Forward, Reverse, MayStand, SeasonHolds, AdvanceHolds, TravelHolds}
 use Rattle.unit_labels.specs.UnitRuns.{Steps}
 use Rattle.open_unit.specs.declared.marks.CarrierMark.{CarrierMark}
@@ -71,6 +70,14 @@ pub record MayOpen (p : Piece) : Type 0 where
   pub stands : MayStand p.fare.kind RoundTrip
   pub kind : bit_and (kinds_of p.rule.cat10) 14 ≢ 0
   pub days : DaysHold p.first_day p
+
+-- what the fares of an open unit ask of it so far
+abbrev pub demand_so_far : OpenUnit → UnitDemand
+demand_so_far u = record { min_return = u.least; max_return = u.greatest; by = u.by; kinds = u.kinds; partner = u.partner }
+
+-- the demand in which an open unit and the fare of one more component meet
+abbrev pub demand_with : OpenUnit → Piece → UnitDemand
+demand_with u p = met (demand_so_far u) (demand_of p.rule u.first_day)
 
 abbrev pub partner_with : OpenUnit → Piece → ℕ
 partner_with u p = max u.partner (partner_of p.rule.cat10)

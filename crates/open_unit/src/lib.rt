@@ -1,8 +1,15 @@
-//! What is kept of a unit that is open, and the four roles that a component may have in a unit.
-//! The layers above ask by these calls and by the definitions in `specs/` alone.
+//! What is kept of a unit that is open, and the four roles that a component may have in a unit:
+//! it stands alone, opens a unit, goes on in an open one, or closes it. The layers above ask by
+//! these calls and by the definitions in `specs/` alone.
 #![tactic(auto)]
 
+mod fares;
+mod joined;
+mod kinds;
 mod marks;
+mod roles;
+#[cfg(test)]
+mod tests;
 mod units;
 
 pub use fare_law::Piece;

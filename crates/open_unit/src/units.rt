@@ -1,6 +1,11 @@
 //! Open units.
+ghost use Rattle.std.specs.Prelude.{◌≡◌};
+ghost use Rattle.open_unit.specs.OpenUnits as OpenUnits;
+ghost use Rattle.open_unit.specs.Ranges.{PieceInRanges, UnitInRanges};
+
 use crate::{CarrierMark, RuleMark};
-use fare_law::Place;
+use fare_law::{Piece, Place};
+use rule_unit::UnitDemand;
 
 /// What is kept of a unit that is open. Ordered field by field, absent before present.
 #[derive(Clone, Copy, PartialEq, Eq, PartialOrd, Ord, Hash, Debug)]
@@ -25,4 +30,44 @@ pub struct OpenUnit {
     pub carrier: CarrierMark,
     /// Mixed where the carrier is mixed.
     pub rule: RuleMark,
+}
+
+/// All kinds but one way.
+const SEVERAL_COMPONENTS: u8 = 14;
+
+impl OpenUnit {
+    /// The unit that this component opens.
+    pub(crate) fn opened_by(piece: &Piece) -> OpenUnit
+        requires { PieceInRanges piece.now }
+        ensures unit { result ≡ OpenUnits.opened piece.now }
+        ensures in_ranges { UnitInRanges result }
+    {
+        let demand = UnitDemand::of(&piece.rule, piece.first_day);
+        OpenUnit {
+            origin: piece.begin,
+            end: piece.end,
+            count: 1,
+            first_day: piece.first_day,
+            least: demand.min_return,
+            greatest: demand.max_return,
+            by: demand.by,
+            kinds: demand.kinds & SEVERAL_COMPONENTS,
+            partner: demand.partner,
+            carrier: CarrierMark::One(piece.fare.key.carrier),
+            rule: RuleMark::One(piece.fare.rule),
+        }
+    }
+
+    /// What its fares ask of it so far.
+    pub(crate) fn demand(&self) -> UnitDemand
+        ensures { result ≡ OpenUnits.demand_so_far self.now }
+    {
+        UnitDemand {
+            min_return: self.least,
+            max_return: self.greatest,
+            by: self.by,
+            kinds: self.kinds,
+            partner: self.partner,
+        }
+    }
 }

@@ -1,0 +1,4 @@
+pub mod DayLemmas
+pub mod KindLemmas
+pub mod MeetingLemmas
+pub mod RangeLemmas

@@ -1,5 +1,5 @@
 -- What a fare's rule demands of its unit: the days of return, the last day, the kinds, the partners.
-use Rattle.std.specs.Prelude.{◌≡◌, ℕ, ℤ, Bool, ◌==◌, pos, ◌+◌, ◌+ℤ◌, ◌≤ℤ◌, List, IfSome, Option, Some, None, cond}
+use Rattle.std.specs.Prelude.{ℕ, ℤ, Bool, ◌==◌, pos, max, ◌+◌, ◌+ℤ◌, ◌≤ℤ◌, List, IfSome, Option, Some, None, cond, bit_and}
 use Rattle.std.specs.Int.{int_max, int_min, bit_at}
 use Rattle.std.specs.List.{list_any}
 use Rattle.fare_law.specs.declared.rules.CombineRule.{CombineRule}
@@ -9,11 +9,15 @@ use Rattle.fare_law.specs.declared.rules.Partners.{Partners}
 use Rattle.fare_law.specs.declared.rules.Partners.TheVariants.{Any, SameCarrier, SameRule}
 use Rattle.fare_law.specs.declared.rules.UnitKind.{UnitKind}
 use Rattle.fare_law.specs.declared.rules.UnitKind.TheVariants.{OneWay, RoundTrip, OpenJaw, Circle}
+use Rattle.fare_law.specs.declared.rules.Rule.{Rule}
 use Rattle.fare_law.specs.Days.{first_sunday_after}
+use Rattle.rule_unit.specs.declared.demand.UnitDemand.{UnitDemand}
 
+-- the day is at least the least one, where there is one
 abbrev pub AtLeast : Option ℤ → ℤ → Type 0
 AtLeast least day = IfSome least (λ l. l ≤ℤ day)
 
+-- the day is at most the greatest one, where there is one
 abbrev pub AtMost : Option ℤ → ℤ → Type 0
 AtMost most day = IfSome most (λ m. day ≤ℤ m)
 
@@ -69,3 +73,27 @@ partner_number SameRule = 2
 abbrev pub partner_of : Option CombineRule → ℕ
 partner_of None = 0
 partner_of (Some c) = partner_number c.partners
+
+-- what a rule asks of a unit whose first flight departs on this day
+abbrev pub demand_of : Rule → ℤ → UnitDemand
+demand_of r first = record {
+  min_return = least_stay r.cat6 first;
+  max_return = greatest_stay r.cat7 first;
+  by = by_day r.cat14;
+  kinds = kinds_of r.cat10;
+  partner = partner_of r.cat10;
+}
+
+-- two demands meet in the greater least day, the smaller greatest day, the smaller by, the common kinds and the greater partner
+abbrev pub met : UnitDemand → UnitDemand → UnitDemand
+met d e = record {
+  min_return = later_of d.min_return e.min_return;
+  max_return = earlier_of d.max_return e.max_return;
+  by = earlier_of d.by e.by;
+  kinds = bit_and d.kinds e.kinds;
+  partner = max d.partner e.partner;
+}
+
+-- the unit may return on this day
+abbrev pub MayReturn : UnitDemand → ℤ → Type 0
+MayReturn d day = AtLeast d.min_return day × AtMost d.max_return day

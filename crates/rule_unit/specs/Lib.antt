@@ -1,1 +1,3 @@
 pub mod Demands
+pub mod Meeting
+pub mod Ranges

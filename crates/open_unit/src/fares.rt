@@ -1,0 +1,36 @@
+//! What a fare asks of its place in a unit and of the unit's first day.
+ghost use Rattle.std.specs.Prelude.{◌↔◌, pos, ◌≤ℤ◌, IsTrue};
+ghost use Rattle.fare_law.specs.Units.{MayStand};
+ghost use Rattle.open_unit.specs.OpenUnits.{DaysHold};
+
+use fare_law::{FareKind, Piece, UnitKind};
+use rule_days::{advance_ok, season_ok, travel_ok};
+
+// Whether a fare of this kind may stand in a unit of this kind.
+fn may_stand(fare: FareKind, unit: UnitKind) -> bool
+    ensures { IsTrue result ↔ MayStand fare unit }
+{
+    match fare {
+        FareKind::O => true,
+        FareKind::R => !matches!(unit, UnitKind::OneWay),
+        FareKind::S => matches!(unit, UnitKind::OneWay),
+    }
+}
+
+/// Whether the fare of a component may stand in a unit of this kind and first day.
+pub fn fits(piece: &Piece, unit: UnitKind, first_day: i32) -> bool
+    requires { piece.now.sale ≤ℤ pos 99000 }
+    ensures { IsTrue result ↔ (MayStand piece.now.fare.kind unit × DaysHold first_day piece.now) }
+{
+    may_stand(piece.fare.kind, unit) && days_hold(piece, first_day)
+}
+
+// Whether categories 3 and 5 and the ranges of category 14 hold on the unit's first day.
+fn days_hold(piece: &Piece, first_day: i32) -> bool
+    requires { piece.now.sale ≤ℤ pos 99000 }
+    ensures { IsTrue result ↔ DaysHold first_day piece.now }
+{
+    season_ok(&piece.rule, first_day)
+        && advance_ok(&piece.rule, piece.sale, first_day)
+        && travel_ok(&piece.rule, first_day)
+}
