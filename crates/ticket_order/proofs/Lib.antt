@@ -1,2 +1,4 @@
 pub mod Words
 pub mod Codes
+pub mod CharacterPlaces
+pub mod Comparing
