@@ -103,5 +103,5 @@ fn slot_number(before: &[u8], unit: u8, after: &[u8]) -> u8
 fn comes_in(unit: u8, labels: &[u8]) -> bool
     ensures { result ≡ comes_in unit labels.now }
 {
-    labels.iter().any(|label| unit == *label)
+    labels.contains(&unit)
 }
