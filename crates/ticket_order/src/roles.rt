@@ -39,7 +39,7 @@ fn labels_of(components: &[Component]) -> ArrayVec<u8, 18>
 }
 
 /// Whether each label is one of those before it, or one more than the greatest of them.
-fn is_numbered(labels: &[u8]) -> bool
+pub fn is_numbered(labels: &[u8]) -> bool
     ensures { IsTrue result ↔ Numbered 0 labels.now }
 {
     let mut count = 0;
@@ -71,7 +71,7 @@ fn move_of(before: &[u8], component: &Component, after: &[u8]) -> Move
 }
 
 /// The role of a component of this unit between these labels.
-fn role_of(before: &[u8], unit: u8, after: &[u8]) -> Role
+pub fn role_of(before: &[u8], unit: u8, after: &[u8]) -> Role
     ensures { result ≡ role_of before.now unit after.now }
 {
     match (comes_in(unit, before), comes_in(unit, after)) {
@@ -84,7 +84,7 @@ fn role_of(before: &[u8], unit: u8, after: &[u8]) -> Role
 
 /// How many units with a smaller label have a component before and one after, or 0 for a unit that
 /// has none before.
-fn slot_number(before: &[u8], unit: u8, after: &[u8]) -> u8
+pub fn slot_number(before: &[u8], unit: u8, after: &[u8]) -> u8
     ensures { result ≡ slot_number before.now unit after.now }
 {
     if !comes_in(unit, before) {
