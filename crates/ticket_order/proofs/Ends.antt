@@ -1,9 +1,11 @@
 -- Where flights begin and end, read one after another.
-use Rattle.std.proofs.Common.{◌≡◌, ℕ, List, [], ◌∷◌, slice_get, Option, Some, None, option_and_then, refl, sym, ap, ap₂, ◌∙◌, subst}
+use Rattle.std.proofs.Common.{◌≡◌, ℕ, ◌+◌, ◌≤◌, ◌<◌, List, [], ◌∷◌, length, drop, get_or, slice_get, IfSome, Option, Some, None, option_and_then, refl, sym, ap, ap₂, ◌∙◌, subst}
 use Rattle.fare_law.specs.declared.flights.Flight.{Flight}
 use Rattle.fare_law.specs.declared.names.Place.{Place}
 use Rattle.fare_law.specs.Lists.{Matched, OnFirst, OnLast}
+use Rattle.std.proofs.lemmas.List.{drop_all}
 use Rattle.ticket_order.specs.Tickets.{LeadFrom}
+use Rattle.ticket_order.proofs.TicketMoves.{rest_at}
 
 -- the ends with one more flight
 abbrev pub further : Option (Place × Place) → Flight → Place × Place
@@ -67,3 +69,21 @@ lead_some flights (n ∷ ns) r h = let t = found flights None (n ∷ ns) r h in 
       where
         same : {a : Place × Place} → ends_after flights None (n ∷ ns) ≡ Some a → a ≡ r
         same k = cc
+
+pub ends_next : (flights : List Flight) (ns : List ℕ) (i : ℕ) (ends more : Option (Place × Place)) (f : Flight) (whole : Option (Place × Place)) → i < length ns → Some f ≡ slice_get flights (get_or ns i 0)
+    → more ≡ Some (further ends f) → ends_after flights ends (drop i ns) ≡ whole → ends_after flights more (drop (i + 1) ns) ≡ whole
+ends_next flights ns i ends more f whole lt e m h =
+    ap (λ z. ends_after flights z (drop (i + 1) ns)) m
+    ∙ ap (option_and_then (λ g. ends_after flights (Some (further ends g)) (drop (i + 1) ns))) e
+    ∙ sym (ap (ends_after flights ends) (rest_at ns i 0 lt)) ∙ h
+
+pub ends_lost : (flights : List Flight) (ns : List ℕ) (i : ℕ) (ends whole : Option (Place × Place)) → i < length ns → slice_get flights (get_or ns i 0) ≡ None → ends_after flights ends (drop i ns) ≡ whole → whole ≡ None
+ends_lost flights ns i ends whole lt e h =
+    sym h ∙ ap (ends_after flights ends) (rest_at ns i 0 lt) ∙ ap (option_and_then (λ g. ends_after flights (Some (further ends g)) (drop (i + 1) ns))) e
+
+pub ends_all : (flights : List Flight) (ns : List ℕ) (i : ℕ) (ends : Option (Place × Place)) → length ns ≤ i → ends_after flights ends (drop i ns) ≡ ends_after flights None ns → ends ≡ ends_after flights None ns
+ends_all flights ns i ends le h = sym (ap (ends_after flights ends) (drop_all i ns le)) ∙ h
+
+pub lead_all : (flights : List Flight) (ns : List ℕ) (ends : Option (Place × Place)) → ends ≡ ends_after flights None ns → IfSome ends (λ r. LeadFrom flights ns r.0 r.1)
+lead_all flights ns None h = tt
+lead_all flights ns (Some r) h = lead_some flights ns r (sym h)

@@ -6,3 +6,4 @@ pub mod TicketMoves
 pub mod OpenLabels
 pub mod ReadLabels
 pub mod Ends
+pub mod TicketParts

@@ -1,5 +1,5 @@
 //! The ticket of moves.
-ghost use Rattle.std.specs.Prelude.{◌≡◌, ℕ, ◌≤◌, List, length, IfSome, IfNone};
+ghost use Rattle.std.specs.Prelude.{◌≡◌, ℕ, ◌≤◌, List, length, slice_get, IfSome, IfNone};
 ghost use Rattle.fare_law.specs.declared.names.Place.{Place};
 ghost use Rattle.fare_law.specs.declared.tickets.Component.{Component};
 ghost use Rattle.fare_law.specs.declared.tickets.Ticket.{Ticket};
@@ -81,11 +81,18 @@ fn ends_of(numbers: &[u32], flights: &[Flight]) -> Option<(Place, Place)>
 {
     let mut ends = None;
     for number in numbers {
-        let flight = flights.get(*number as usize)?;
+        let flight = flight_at(flights, *number)?;
         ends = match ends {
             Some((begin, _)) => Some((begin, flight.to)),
             None => Some((flight.from, flight.to)),
         };
     }
     ends
+}
+
+/// The flight of a number.
+fn flight_at(flights: &[Flight], number: u32) -> Option<Flight>
+    ensures { result ≡ slice_get flights.now number }
+{
+    flights.get(number as usize).copied()
 }
