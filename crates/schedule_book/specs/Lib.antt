@@ -1,1 +1,4 @@
 pub mod Plan
+pub mod Days
+pub mod Expansions
+pub mod Faults

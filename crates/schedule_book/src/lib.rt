@@ -2,6 +2,10 @@
 //! least connect times of its places.
 #![tactic(auto)]
 
+mod dated;
+mod faults;
+mod row_days;
 mod schedule;
 
+pub use faults::SchedFault;
 pub use schedule::Schedule;
