@@ -1,1 +1,3 @@
 pub mod RowDays
+pub mod Rows
+pub mod PlaceRows

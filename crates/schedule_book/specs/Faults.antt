@@ -78,3 +78,14 @@ HasCause places rows (ArrivesBefore line) = Fault places rows (ArrivesBefore lin
 HasCause places rows (Twice line) = Fault places rows (Twice line)
 HasCause places rows (TooMany line) = Fault places rows (TooMany line)
 HasCause places rows Mem = Unit {0}
+
+-- what the place rows alone can be refused for
+abbrev pub PlaceCause : List PlaceRow → SchedFault → Type 0
+PlaceCause places (PlaceTwice line) = PlaceFault places (PlaceTwice line)
+PlaceCause places (UnknownPlace line) = ⊥
+PlaceCause places (SamePlace line) = ⊥
+PlaceCause places (BadPeriod line) = ⊥
+PlaceCause places (ArrivesBefore line) = ⊥
+PlaceCause places (Twice line) = ⊥
+PlaceCause places (TooMany line) = ⊥
+PlaceCause places Mem = Unit {0}

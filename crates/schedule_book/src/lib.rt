@@ -4,6 +4,7 @@
 
 mod dated;
 mod faults;
+mod places;
 mod row_days;
 mod schedule;
 
