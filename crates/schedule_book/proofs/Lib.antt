@@ -1,3 +1,5 @@
 pub mod RowDays
 pub mod Rows
 pub mod PlaceRows
+pub mod Numbers
+pub mod RowFlights

@@ -24,3 +24,11 @@ pub record AddsRow (row : FlightRow) (old new : List Flight) : Type 0 where
   pub joined : new ≡ old ++ more
   pub are : (f : Flight) → IsIn f more ↔ Dated row f
   pub many : length more ≡ named_days row
+
+-- a flight of the same number is among these
+abbrev pub IsAmong : Flight → List Flight → Type 0
+IsAmong flight flights = (f : Flight) × IsIn f flights × (number_of f ≡ number_of flight)
+
+-- the row stands for a flight whose number is among these
+abbrev pub RepeatsOne : FlightRow → List Flight → Type 0
+RepeatsOne row flights = (g : Flight) × Dated row g × IsAmong g flights

@@ -3,6 +3,7 @@
 #![tactic(auto)]
 
 mod dated;
+mod expansion;
 mod faults;
 mod places;
 mod row_days;

@@ -1,0 +1,52 @@
+//! The dated flights of rows, one row after another.
+ghost use Rattle.std.specs.Prelude.{◌≡◌, ◌⊎◌, ◌≤ℤ◌, ◌<ℤ◌, ◌+ℤ◌, pos, IfOk, OnOk, IfErr, ◌++◌, ◌∷◌, []};
+ghost use Rattle.std.specs.Bool.{MatchBool, OnTrue};
+ghost use Rattle.schedule_book.specs.Expansions.{AddsRow, IsAmong, RepeatsOne, Seen};
+
+use crate::SchedFault;
+use crate::dated::DatedNumber;
+use crate::row_days::{flight_on, names, number_of};
+use fare_law::{Flight, FlightRow};
+use std::collections::HashSet;
+
+/// Adds the flights that a row stands for to those so far.
+pub fn add_row(
+    flights: &mut Vec<Flight>,
+    seen: &mut HashSet<DatedNumber>,
+    row: &FlightRow,
+) -> Result<(), SchedFault>
+    requires first { row.now.first ≤ℤ row.now.last }
+    requires last { row.now.last ≤ℤ (row.now.first +ℤ pos 365) }
+    requires seen { Seen ⟦<DatedNumber as PartialEq>⟧.eq flights.old.items seen.old }
+    ensures added { OnOk result (AddsRow row.now flights.old.items flights.new.items) }
+    ensures seen { OnOk result (Seen ⟦<DatedNumber as PartialEq>⟧.eq flights.new.items seen.new) }
+    ensures fault { IfErr result (λ e. (e ≡ SchedFault.Mem) ⊎ ((e ≡ SchedFault.Twice row.now.line) × RepeatsOne row.now flights.old.items)) }
+{
+    for day in row.first..=row.last {
+        if names(row, day) {
+            let flight = flight_on(row, day);
+            if !add_flight(flights, seen, flight)? {
+                return Err(SchedFault::Twice { line: row.line });
+            }
+        }
+    }
+    Ok(())
+}
+
+/// Adds a flight where no flight has its carrier, number, origin and day.
+fn add_flight(
+    flights: &mut Vec<Flight>,
+    seen: &mut HashSet<DatedNumber>,
+    flight: Flight,
+) -> Result<bool, SchedFault>
+    requires { Seen ⟦<DatedNumber as PartialEq>⟧.eq flights.old.items seen.old }
+    ensures added { IfOk result (λ added. MatchBool added (flights.new.items ≡ flights.old.items ++ flight ∷ []) (IsAmong flight flights.old.items)) }
+    ensures seen { IfOk result (λ added. OnTrue added (Seen ⟦<DatedNumber as PartialEq>⟧.eq flights.new.items seen.new)) }
+    ensures fault { IfErr result (λ e. e ≡ SchedFault.Mem) }
+{
+    let added = seen.insert(number_of(&flight))?;
+    if added {
+        flights.push(flight)?;
+    }
+    Ok(added)
+}
