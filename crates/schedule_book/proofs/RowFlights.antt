@@ -153,3 +153,18 @@ far_repeated row day old new flight h e (f, i, s) = elim (in_either f old h.more
   where
     never : f.day ≡ day → f.day <ℤ day → ⊥
     never a b = omega (arith, ints)
+
+pub far_first : (row : FlightRow) (old : List Flight) → SoFar row (row.first +ℤ pos 0) old old
+far_first row old = subst (λ d. SoFar row d old old) same (far_none row old)
+  where
+    same : row.first ≡ row.first +ℤ pos 0
+    same = omega (arith, ints)
+
+pub far_next : (row : FlightRow) (offset : ℕ) (old new : List Flight) → SoFar row ((row.first +ℤ pos offset) +ℤ pos 1) old new → SoFar row (row.first +ℤ pos (offset + 1)) old new
+far_next row offset old new h = subst (λ d. SoFar row d old new) same h
+  where
+    same : ((row.first +ℤ pos offset) +ℤ pos 1) ≡ row.first +ℤ pos (offset + 1)
+    same = omega (arith, ints)
+
+pub far_end : (row : FlightRow) (offset days : ℕ) (old new : List Flight) → row.first ≤ℤ row.last → row.last ≤ℤ (row.first +ℤ pos 365) → (row.first +ℤ pos days) ≡ (row.last +ℤ pos 1) → offset ≡ days → SoFar row (row.first +ℤ pos offset) old new → AddsRow row old new
+far_end row offset days old new low high e s h = far_all row (row.first +ℤ pos offset) old new low high (ap (λ n. row.first +ℤ pos n) s ∙ e) h

@@ -1,5 +1,5 @@
 //! The dated flights of rows, one row after another.
-ghost use Rattle.std.specs.Prelude.{◌≡◌, ◌⊎◌, ◌≤ℤ◌, ◌<ℤ◌, ◌+ℤ◌, pos, IfOk, OnOk, IfErr, ◌++◌, ◌∷◌, []};
+ghost use Rattle.std.specs.Prelude.{◌≡◌, ◌⊎◌, ◌≤ℤ◌, ◌<ℤ◌, ◌+ℤ◌, ◌^◌, pos, IfOk, OnOk, IfErr, ◌++◌, ◌∷◌, []};
 ghost use Rattle.std.specs.Bool.{MatchBool, OnTrue};
 ghost use Rattle.schedule_book.specs.Expansions.{AddsRow, IsAmong, RepeatsOne, Seen};
 
@@ -22,7 +22,8 @@ pub fn add_row(
     ensures seen { OnOk result (Seen ⟦<DatedNumber as PartialEq>⟧.eq flights.new.items seen.new) }
     ensures fault { IfErr result (λ e. (e ≡ SchedFault.Mem) ⊎ ((e ≡ SchedFault.Twice row.now.line) × RepeatsOne row.now flights.old.items)) }
 {
-    for day in row.first..=row.last {
+    for offset in 0..day_count(row) {
+        let day = day_after(row.first, offset);
         if names(row, day) {
             let flight = flight_on(row, day);
             if !add_flight(flights, seen, flight)? {
@@ -49,4 +50,21 @@ fn add_flight(
         flights.push(flight)?;
     }
     Ok(added)
+}
+
+/// How many days the period of a row has.
+fn day_count(row: &FlightRow) -> u16
+    requires first { row.now.first ≤ℤ row.now.last }
+    requires last { row.now.last ≤ℤ (row.now.first +ℤ pos 365) }
+    ensures { (row.now.first +ℤ pos result) ≡ (row.now.last +ℤ pos 1) }
+{
+    (i64::from(row.last) - i64::from(row.first) + 1) as u16
+}
+
+/// The day some days after a day.
+fn day_after(first: i32, offset: u16) -> i32
+    requires { (first +ℤ pos offset) <ℤ pos (2 ^ 31) }
+    ensures { result ≡ (first +ℤ pos offset) }
+{
+    first + i32::from(offset)
 }
