@@ -3,3 +3,4 @@ pub mod Rows
 pub mod PlaceRows
 pub mod Numbers
 pub mod RowFlights
+pub mod OwnFaults

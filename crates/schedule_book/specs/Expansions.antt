@@ -1,5 +1,5 @@
 -- The dated flights of rows, before they are put in order.
-use Rattle.std.specs.Prelude.{◌≡◌, ◌↔◌, ℕ, Bool, List, ◌++◌, length, map}
+use Rattle.std.specs.Prelude.{◌≡◌, ◌↔◌, ℕ, Bool, List, ◌++◌, length, map, sum_by}
 use Rattle.std.specs.HashSet.{HashSet, contains}
 use Rattle.std.specs.List.{IsDistinct, list_any}
 use Rattle.fare_law.specs.declared.flights.Flight.{Flight}
@@ -32,3 +32,9 @@ IsAmong flight flights = (f : Flight) × IsIn f flights × (number_of f ≡ numb
 -- the row stands for a flight whose number is among these
 abbrev pub RepeatsOne : FlightRow → List Flight → Type 0
 RepeatsOne row flights = (g : Flight) × Dated row g × IsAmong g flights
+
+-- these are the flights of the rows, each once
+pub record Expands (eq : DatedNumber → DatedNumber → Bool) (rows : List FlightRow) (flights : List Flight) : Type 0 where
+  pub are : (f : Flight) → IsIn f flights ↔ ((row : FlightRow) × IsIn row rows × Dated row f)
+  pub many : length flights ≡ sum_by named_days rows
+  pub differ : IsDistinct eq (map number_of flights)

@@ -89,3 +89,22 @@ PlaceCause places (ArrivesBefore line) = ⊥
 PlaceCause places (Twice line) = ⊥
 PlaceCause places (TooMany line) = ⊥
 PlaceCause places Mem = Unit {0}
+
+-- the first fault of a row by itself
+abbrev pub OwnFault : List PlaceRow → FlightRow → SchedFault → Type 0
+OwnFault places row fault = (before : List FlightRow) → HasFault places before row fault × ((other : SchedFault) → HasFault places before row other → fault_number fault ≤ fault_number other)
+
+-- a row by itself has no fault
+abbrev pub NoOwnFault : List PlaceRow → FlightRow → Type 0
+NoOwnFault places row = (before : List FlightRow) (other : SchedFault) → HasFault places before row other → 6 ≤ fault_number other
+
+-- what the flight rows alone can be refused for
+abbrev pub RowCause : List PlaceRow → List FlightRow → SchedFault → Type 0
+RowCause places rows (PlaceTwice line) = ⊥
+RowCause places rows (UnknownPlace line) = RowFault places rows (UnknownPlace line)
+RowCause places rows (SamePlace line) = RowFault places rows (SamePlace line)
+RowCause places rows (BadPeriod line) = RowFault places rows (BadPeriod line)
+RowCause places rows (ArrivesBefore line) = RowFault places rows (ArrivesBefore line)
+RowCause places rows (Twice line) = RowFault places rows (Twice line)
+RowCause places rows (TooMany line) = RowFault places rows (TooMany line)
+RowCause places rows Mem = Unit {0}

@@ -1,13 +1,20 @@
 //! The dated flights of rows, one row after another.
 ghost use Rattle.std.specs.Prelude.{◌≡◌, ◌⊎◌, ◌≤ℤ◌, ◌<ℤ◌, ◌+ℤ◌, ◌^◌, pos, IfOk, OnOk, IfErr, ◌++◌, ◌∷◌, []};
 ghost use Rattle.std.specs.Bool.{MatchBool, OnTrue};
-ghost use Rattle.schedule_book.specs.Expansions.{AddsRow, IsAmong, RepeatsOne, Seen};
+ghost use Rattle.schedule_book.specs.Expansions.{AddsRow, Expands, IsAmong, RepeatsOne, Seen};
+ghost use Rattle.schedule_book.specs.Faults.{RowCause, RowsRight};
 
 use crate::SchedFault;
 use crate::dated::DatedNumber;
+use crate::places::Places;
 use crate::row_days::{flight_on, names, number_of};
+use crate::row_faults::own_fault;
 use fare_law::{Flight, FlightRow};
+use std::alloc::Global;
 use std::collections::HashSet;
+
+/// How many dated flights a timetable may have.
+const MOST: usize = 200_000;
 
 /// Adds the flights that a row stands for to those so far.
 pub fn add_row(
@@ -67,4 +74,28 @@ fn day_after(first: i32, offset: u16) -> i32
     ensures { result ≡ (first +ℤ pos offset) }
 {
     first + i32::from(offset)
+}
+
+/// The dated flights of rows, in the order of the rows.
+pub fn expand(
+    alloc: Global,
+    rows: &[FlightRow],
+    places: &Places,
+) -> Result<Vec<Flight>, SchedFault>
+    ensures expansion { IfOk result (λ v. Expands ⟦<DatedNumber as PartialEq>⟧.eq rows.now v.items) }
+    ensures right { OnOk result (RowsRight places.now rows.now) }
+    ensures fault { IfErr result (RowCause places.now rows.now) }
+{
+    let mut flights = Vec::new(alloc);
+    let mut seen = HashSet::new(alloc);
+    for row in rows {
+        if let Some(fault) = own_fault(row, places) {
+            return Err(fault);
+        }
+        add_row(&mut flights, &mut seen, row)?;
+        if flights.len() > MOST {
+            return Err(SchedFault::TooMany { line: row.line });
+        }
+    }
+    Ok(flights)
 }

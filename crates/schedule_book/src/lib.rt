@@ -7,6 +7,7 @@ mod expansion;
 mod faults;
 mod places;
 mod row_days;
+mod row_faults;
 mod schedule;
 
 pub use faults::SchedFault;
