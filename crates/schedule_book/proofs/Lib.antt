@@ -4,3 +4,5 @@ pub mod PlaceRows
 pub mod Numbers
 pub mod RowFlights
 pub mod OwnFaults
+pub mod Expanding
+pub mod Sorting

@@ -1,5 +1,5 @@
 -- The rows of places and what is found of them by place.
-use Rattle.std.proofs.Common.{◌≡◌, ℕ, ◌+◌, ◌<◌, ◌||◌, Bool, true, false, cond, List, [], ◌∷◌, ◌++◌, length, take, drop, get_or, find, Option, Some, None, option_map, is_some, refl, sym, ap, ap₂, ◌∙◌, subst, inl, inr}
+use Rattle.std.proofs.Common.{◌≡◌, ◌⊎◌, ℕ, ◌+◌, ◌<◌, ◌||◌, Bool, true, false, cond, List, [], ◌∷◌, ◌++◌, length, take, drop, get_or, find, Option, Some, None, option_map, is_some, refl, sym, ap, ap₂, ◌∙◌, subst, inl, inr}
 use Rattle.std.proofs.lemmas.Bool.{cases_Bool}
 use Rattle.fare_law.specs.declared.names.Place.{Place}
 use Rattle.fare_law.specs.declared.rows.PlaceRow.{PlaceRow}
@@ -107,3 +107,10 @@ known_told q rows (Some n) e t = some_known q rows n (sym e)
 pub none_told : (o : Option ℕ) → is_some o ≡ false → o ≡ None
 none_told None f = refl
 none_told (Some n) f = absurd (cc)
+
+pub known_decided : (q : Place) (rows : List PlaceRow) → IsKnown q rows ⊎ (IsKnown q rows → ⊥)
+known_decided q rows = by (connect_of rows q) refl
+  where
+    by : (o : Option ℕ) → connect_of rows q ≡ o → IsKnown q rows ⊎ (IsKnown q rows → ⊥)
+    by None e = inr (λ k. known_some q rows k e)
+    by (Some n) e = inl (some_known q rows n e)

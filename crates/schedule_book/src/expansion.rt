@@ -92,7 +92,9 @@ pub fn expand(
         if let Some(fault) = own_fault(row, places) {
             return Err(fault);
         }
-        add_row(&mut flights, &mut seen, row)?;
+        if let Err(fault) = add_row(&mut flights, &mut seen, row) {
+            return Err(fault);
+        }
         if flights.len() > MOST {
             return Err(SchedFault::TooMany { line: row.line });
         }

@@ -5,6 +5,7 @@
 mod dated;
 mod expansion;
 mod faults;
+mod numbering;
 mod places;
 mod row_days;
 mod row_faults;

@@ -47,7 +47,7 @@ fn stays(row: &FlightRow) -> bool
 fn has_period(row: &FlightRow) -> bool
     ensures { IsTrue result ↔ ((row.now.first ≤ℤ row.now.last) × (row.now.last ≤ℤ (row.now.first +ℤ pos 365))) }
 {
-    row.first <= row.last && i64::from(row.last) <= i64::from(row.first) + 365
+    row.first <= row.last && day_number(row.last) <= year_after(row.first)
 }
 
 /// Whether a flight of the row arrives later than it departs.
@@ -55,4 +55,18 @@ fn arrives_later(row: &FlightRow) -> bool
     ensures { IsTrue result ↔ (instant row.now.first row.now.dep row.now.dep_offset <ℤ instant (row.now.first +ℤ row.now.shift) row.now.arr row.now.arr_offset) }
 {
     departure(row, row.first) < arrival(row, row.first)
+}
+
+/// A day as a wider number.
+fn day_number(day: i32) -> i64
+    ensures { result ≡ day }
+{
+    i64::from(day)
+}
+
+/// The day 365 days after a day.
+fn year_after(day: i32) -> i64
+    ensures { result ≡ (day +ℤ pos 365) }
+{
+    i64::from(day) + 365
 }
