@@ -6,3 +6,4 @@ pub mod RowFlights
 pub mod OwnFaults
 pub mod Expanding
 pub mod Sorting
+pub mod Building
