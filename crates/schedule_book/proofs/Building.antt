@@ -1,8 +1,9 @@
 -- From the expansion of rows to the flights of a timetable.
-use Rattle.std.proofs.Common.{◌≡◌, ◌⊎◌, ◌↔◌, ℕ, zero, suc, ◌+◌, ◌<◌, ◌≤◌, List, [], ◌∷◌, length, get_or, refl, sym, ap, ◌∙◌, subst, inl, inr, arith}
+use Rattle.std.proofs.Common.{◌≡◌, ◌⊎◌, ◌↔◌, ℕ, zero, suc, ◌+◌, ◌<◌, ◌≤◌, List, [], ◌∷◌, ◌++◌, length, take, drop, get_or, append-nil, refl, sym, ap, ◌∙◌, subst, inl, inr, arith}
 use Rattle.std.specs.List.{Contains}
 use Rattle.std.specs.List.Sorted.{IsPermutation}
-use Rattle.std.proofs.lemmas.List.Sorted.{Contains-permutation, IsPermutation-sym}
+use Rattle.std.proofs.lemmas.List.Sorted.{Contains-permutation, IsPermutation-sym, length_permutation}
+use Rattle.std.proofs.lemmas.List.{drop_all, take_all}
 use Rattle.fare_law.specs.declared.flights.Flight.{Flight}
 use Rattle.fare_law.specs.declared.rows.FlightRow.{FlightRow}
 use Rattle.fare_law.specs.declared.rows.PlaceRow.{PlaceRow}
@@ -42,3 +43,11 @@ has_cause places rows d (ArrivesBefore line) h = inr (d, h)
 has_cause places rows d (Twice line) h = inr (d, h)
 has_cause places rows d (TooMany line) h = inr (d, h)
 has_cause places rows d Mem h = tt
+
+-- what a vector has after its slice was written
+pub written : (n : ℕ) (old new : List Flight) → n ≡ length old → length new ≡ length old → take n (new ++ drop (length new) old) ≡ new
+written n old new e l =
+    ap (λ xs. take n (new ++ xs)) (drop_all (length new) old (omega (arith, l))) ∙ ap (take n) (append-nil new) ∙ take_all n new (omega (arith, e, l))
+
+pub sorted_length : (old new : List Flight) → IsPermutation old new → length new ≡ length old
+sorted_length old new p = length_permutation old new p

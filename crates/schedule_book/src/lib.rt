@@ -13,3 +13,6 @@ mod schedule;
 
 pub use faults::SchedFault;
 pub use schedule::Schedule;
+
+#[cfg(test)]
+mod tests;
