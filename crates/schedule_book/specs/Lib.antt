@@ -1,0 +1,5 @@
+pub mod Plan
+pub mod Connects
+pub mod Days
+pub mod Expansions
+pub mod Faults

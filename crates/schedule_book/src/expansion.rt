@@ -1,0 +1,103 @@
+//! The dated flights of rows, one row after another.
+ghost use Rattle.std.specs.Prelude.{◌≡◌, ◌⊎◌, ◌≤ℤ◌, ◌<ℤ◌, ◌+ℤ◌, ◌^◌, pos, IfOk, OnOk, IfErr, ◌++◌, ◌∷◌, []};
+ghost use Rattle.std.specs.Bool.{MatchBool, OnTrue};
+ghost use Rattle.schedule_book.specs.Expansions.{AddsRow, Expands, IsAmong, RepeatsOne, Seen};
+ghost use Rattle.schedule_book.specs.Faults.{RowCause, RowsRight};
+
+use crate::SchedFault;
+use crate::dated::DatedNumber;
+use crate::places::Places;
+use crate::row_days::{flight_on, names, number_of};
+use crate::row_faults::own_fault;
+use fare_law::{Flight, FlightRow};
+use std::alloc::Global;
+use std::collections::HashSet;
+
+/// How many dated flights a timetable may have.
+const MOST: usize = 200_000;
+
+/// Adds the flights that a row stands for to those so far.
+pub fn add_row(
+    flights: &mut Vec<Flight>,
+    seen: &mut HashSet<DatedNumber>,
+    row: &FlightRow,
+) -> Result<(), SchedFault>
+    requires first { row.now.first ≤ℤ row.now.last }
+    requires last { row.now.last ≤ℤ (row.now.first +ℤ pos 365) }
+    requires seen { Seen ⟦<DatedNumber as PartialEq>⟧.eq flights.old.items seen.old }
+    ensures added { OnOk result (AddsRow row.now flights.old.items flights.new.items) }
+    ensures seen { OnOk result (Seen ⟦<DatedNumber as PartialEq>⟧.eq flights.new.items seen.new) }
+    ensures fault { IfErr result (λ e. (e ≡ SchedFault.Mem) ⊎ ((e ≡ SchedFault.Twice row.now.line) × RepeatsOne row.now flights.old.items)) }
+{
+    for offset in 0..day_count(row) {
+        let day = day_after(row.first, offset);
+        if names(row, day) {
+            let flight = flight_on(row, day);
+            if !add_flight(flights, seen, flight)? {
+                return Err(SchedFault::Twice { line: row.line });
+            }
+        }
+    }
+    Ok(())
+}
+
+/// Adds a flight where no flight has its carrier, number, origin and day.
+fn add_flight(
+    flights: &mut Vec<Flight>,
+    seen: &mut HashSet<DatedNumber>,
+    flight: Flight,
+) -> Result<bool, SchedFault>
+    requires { Seen ⟦<DatedNumber as PartialEq>⟧.eq flights.old.items seen.old }
+    ensures added { IfOk result (λ added. MatchBool added (flights.new.items ≡ flights.old.items ++ flight ∷ []) (IsAmong flight flights.old.items)) }
+    ensures seen { IfOk result (λ added. OnTrue added (Seen ⟦<DatedNumber as PartialEq>⟧.eq flights.new.items seen.new)) }
+    ensures fault { IfErr result (λ e. e ≡ SchedFault.Mem) }
+{
+    let added = seen.insert(number_of(&flight))?;
+    if added {
+        flights.push(flight)?;
+    }
+    Ok(added)
+}
+
+/// How many days the period of a row has.
+fn day_count(row: &FlightRow) -> u16
+    requires first { row.now.first ≤ℤ row.now.last }
+    requires last { row.now.last ≤ℤ (row.now.first +ℤ pos 365) }
+    ensures { (row.now.first +ℤ pos result) ≡ (row.now.last +ℤ pos 1) }
+{
+    (i64::from(row.last) - i64::from(row.first) + 1) as u16
+}
+
+/// The day some days after a day.
+fn day_after(first: i32, offset: u16) -> i32
+    requires { (first +ℤ pos offset) <ℤ pos (2 ^ 31) }
+    ensures { result ≡ (first +ℤ pos offset) }
+{
+    first + i32::from(offset)
+}
+
+/// The dated flights of rows, in the order of the rows.
+pub fn expand(
+    alloc: Global,
+    rows: &[FlightRow],
+    places: &Places,
+) -> Result<Vec<Flight>, SchedFault>
+    ensures expansion { IfOk result (λ v. Expands ⟦<DatedNumber as PartialEq>⟧.eq rows.now v.items) }
+    ensures right { OnOk result (RowsRight places.now rows.now) }
+    ensures fault { IfErr result (RowCause places.now rows.now) }
+{
+    let mut flights = Vec::new(alloc);
+    let mut seen = HashSet::new(alloc);
+    for row in rows {
+        if let Some(fault) = own_fault(row, places) {
+            return Err(fault);
+        }
+        if let Err(fault) = add_row(&mut flights, &mut seen, row) {
+            return Err(fault);
+        }
+        if flights.len() > MOST {
+            return Err(SchedFault::TooMany { line: row.line });
+        }
+    }
+    Ok(flights)
+}

@@ -1,0 +1,18 @@
+//! The dated flights of a timetable: numbered by departure, found by origin and by time, and the
+//! least connect times of its places.
+#![tactic(auto)]
+
+mod dated;
+mod expansion;
+mod faults;
+mod numbering;
+mod places;
+mod row_days;
+mod row_faults;
+mod schedule;
+
+pub use faults::SchedFault;
+pub use schedule::Schedule;
+
+#[cfg(test)]
+mod tests;

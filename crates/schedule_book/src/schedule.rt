@@ -1,0 +1,73 @@
+//! The schedule of a timetable.
+ghost use Rattle.std.specs.Prelude.{◌≡◌, IfErr, IfOk, OnOk};
+ghost use Rattle.fare_law.specs.Flights.{AreFlights, Earlier};
+ghost use Rattle.fare_law.specs.Lists.{EachPair};
+ghost use Rattle.schedule_book.specs.Connects.{connect_of};
+ghost use Rattle.schedule_book.specs.Faults.{HasCause, PlacesDiffer, RowsRight};
+
+use crate::SchedFault;
+use crate::expansion::expand;
+use crate::numbering::put_in_order;
+use crate::places::Places;
+use fare_law::{Flight, FlightRow, List, Place, PlaceRow};
+use std::alloc::Global;
+use std::marker::Model;
+
+/// The places and the dated flights of a timetable. A flight's number is its place in the order of
+/// departure, carrier, number, origin and day.
+#[derive(Drop)]
+pub struct Schedule {
+    places: Places,
+    flights: List<Flight>,
+}
+
+impl Model for Schedule {
+    ghost use Rattle.fare_law.specs.Flights.{Earlier};
+    ghost use Rattle.fare_law.specs.Lists.{EachPair};
+    ghost use Rattle.schedule_book.specs.Plan.{Plan};
+
+    ghost Value = { Plan };
+
+    ghost view = { λ s. record { places = s.places; flights = s.flights } };
+
+    ghost invariant = { λ s. EachPair Earlier s.flights };
+}
+
+impl Schedule {
+    /// The schedule of these rows: each flight row stands for one dated flight for each day of its
+    /// period whose weekday is named. The first row with a fault decides, place rows first.
+    pub fn build(
+        alloc: Global,
+        places: &[PlaceRow],
+        rows: &[FlightRow],
+    ) -> Result<Schedule, SchedFault>
+        ensures places { IfOk result (λ s. s.places ≡ places.now) }
+        ensures flights { IfOk result (λ s. AreFlights rows.now s.flights) }
+        ensures right { OnOk result (PlacesDiffer places.now × RowsRight places.now rows.now) }
+        ensures fault { IfErr result (HasCause places.now rows.now) }
+    {
+        let places = Places::of(alloc, places)?;
+        let mut flights = match expand(alloc, rows, &places) {
+            Ok(flights) => flights,
+            Err(fault) => return Err(fault),
+        };
+        put_in_order(flights.as_mut_slice());
+        let flights = List::from_vec(flights);
+        Ok(Schedule { places, flights })
+    }
+
+    /// All flights, in order.
+    pub fn flights(&self) -> &[Flight]
+        ensures flights { result.now ≡ self.now.flights }
+        ensures order { EachPair Earlier self.now.flights }
+    {
+        self.flights.as_slice()
+    }
+
+    /// The least connect time of a place, in minutes. None where the place is unknown.
+    pub fn connect(&self, place: Place) -> Option<u16>
+        ensures { result ≡ connect_of self.now.places place }
+    {
+        self.places.connect(place)
+    }
+}
