@@ -7,6 +7,8 @@ mod asked;
 mod fault;
 mod limits;
 mod reading;
+#[cfg(test)]
+mod tests;
 
 pub use asked::{Asked, AskedSlice, Terms};
 pub use fault::RequestFault;
