@@ -4,6 +4,8 @@
 
 mod cases;
 mod finder;
+mod laws;
 
 pub use cases::OneWayCase;
 pub use finder::cheapest;
+pub use laws::component_is_the_fare;
