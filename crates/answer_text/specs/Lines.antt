@@ -32,8 +32,8 @@ direction_word true = codes "reverse"
 abbrev pub component_line : ℕ → ℕ → UnitKind → Bool → FareKey → ℕ → List ℕ
 component_line number unit kind reverse fare price =
     line (codes "component") (
-      decimal number ∷ codes "unit" ∷ decimal unit ∷ kind_word kind ∷ direction_word reverse
-      ∷ fare.carrier.0 ∷ fare.from.0 ∷ fare.to.0 ∷ fare.basis.0 ∷ decimal price ∷ [])
+    decimal number ∷ codes "unit" ∷ decimal unit ∷ kind_word kind ∷ direction_word reverse
+    ∷ fare.carrier.0 ∷ fare.from.0 ∷ fare.to.0 ∷ fare.basis.0 ∷ decimal price ∷ [])
 
 -- The text is a flight's line: its carrier and number, the date of its departure, where it departs and arrives.
 pub record FlightLine (f : Flight) (text : List ℕ) : Type 0 where

@@ -35,11 +35,7 @@ impl ComponentLine {
     fn direction_name(&self) -> &[u8]
         ensures { result.now ≡ direction_word self.now.reverse }
     {
-        if self.reverse {
-            b"reverse"
-        } else {
-            b"forward"
-        }
+        if self.reverse { b"reverse" } else { b"forward" }
     }
 }
 

@@ -1,5 +1,5 @@
 //! The answer's text of the smallest case.
-ghost use Rattle.std.specs.Prelude.{◌≡◌, ◌++◌, IfOk, IfSome, OnOk, OnSome};
+ghost use Rattle.std.specs.Prelude.{◌≡◌, [], ◌∷◌, IfOk, IfSome, OnOk, OnSome};
 ghost use Rattle.fare_law.specs.Order.{Costs};
 ghost use Rattle.market_time.specs.Dates.{IsInCentury};
 ghost use Rattle.one_way.specs.OneWay.{IsOneWay, HasTicket, book_of, ticket_of, tickets_in};
@@ -27,11 +27,24 @@ pub fn one_way_answer(
     ensures { IfOk result (AnswerText (book_of case.now) case.now.request (tickets_in found.now)) }
 {
     let mut text = Vec::new(alloc);
-    push_tickets(&mut text, usize::from(found.is_some()))?;
-    if let Some(found) = found {
-        push_only_ticket(&mut text, case, found.price)?;
+    match found {
+        None => push_tickets(&mut text, 0)?,
+        Some(found) => push_one(&mut text, case, found.price)?,
     }
     Ok(List::from_vec(text))
+}
+
+// Adds the text of the answer with the one ticket.
+fn push_one(text: &mut Vec<u8>, case: &OneWayCase, price: u64) -> Result<(), Mem>
+    requires form { IsOneWay case.now }
+    requires century { IsInCentury case.now.flight.day }
+    requires price { Costs (ticket_of case.now) (book_of case.now) case.now.request price }
+    requires sells { HasTicket case.now }
+    ensures { OnOk result (Adds (AnswerText (book_of case.now) case.now.request (ticket_of case.now ∷ []))
+        text.old.items text.new.items) }
+{
+    push_tickets(text, 1)?;
+    push_only_ticket(text, case, price)
 }
 
 // Adds the text of the one ticket.

@@ -11,7 +11,7 @@ whole_line : (old name : List ℕ) (words : List (Bor (List ℕ))) (n : ℕ) (be
     → before ≡ old ++ (name ++ spaced (take n words)) → after ≡ before ++ 10 ∷ [] → after ≡ old ++ line name (map (λ w. w.now) words)
 whole_line old name words n before after all so_far last =
     let words_are : spaced (take n words) ≡ flat_map (λ word. 32 ∷ word) (map (λ w. w.now) words) =
-          ap spaced (take_all n words all) ∙ sym (flat_map-map (λ word. 32 ∷ word) (λ w. w.now) words) in
+    ap spaced (take_all n words all) ∙ sym (flat_map-map (λ word. 32 ∷ word) (λ w. w.now) words) in
     last ∙ ap (λ t. t ++ 10 ∷ []) so_far ∙ append_assoc old (name ++ spaced (take n words)) (10 ∷ [])
     ∙ ap (λ t. old ++ t) (append_assoc name (spaced (take n words)) (10 ∷ []))
     ∙ ap (λ t. old ++ (name ++ (t ++ 10 ∷ []))) words_are
