@@ -1,4 +1,8 @@
 //! The texts of worked cases.
+ghost use Rattle.std.specs.Prelude.{◌≡◌, ◌≢◌, ◌≤◌, length, pos};
+ghost use Rattle.fare_law.specs.declared.fares.FareKind.TheVariants.{R};
+ghost use Rattle.one_way.specs.OneWay.{IsOneWay};
+
 use crate::one_way_answer;
 use fare_law::{
     ArrayVec, Basis, Carrier, Fare, FareKey, FareKind, Flight, List, Place, Request, SeatRow, Slice,
@@ -13,7 +17,10 @@ const NEW_YORK: Place = Place(*b"NYC");
 const CARRIER: Carrier = Carrier(*b"QX");
 
 // The flight of 2031-03-03 from London to New York at 10:00, a fare of 20000, and the seats of all days.
-fn case(alloc: Global, party: u8, seats: u8) -> OneWayCase {
+fn case(alloc: Global, party: u8, seats: u8) -> OneWayCase
+    ensures form { IsOneWay result }
+    ensures day { result.flight.day ≡ pos 22341 }
+{
     OneWayCase {
         places: List::new(alloc),
         flight: Flight {
@@ -45,7 +52,10 @@ fn seat_row(seats: u8) -> SeatRow {
     }
 }
 
-fn fare() -> Fare {
+fn fare() -> Fare
+    ensures rule { result.rule ≡ 0 }
+    ensures kind { result.kind ≢ R }
+{
     let mut basis = ArrayVec::new();
     basis.push(b'Y');
     basis.push(b'1');
@@ -63,7 +73,10 @@ fn fare() -> Fare {
     }
 }
 
-fn request(party: u8) -> Request {
+fn request(party: u8) -> Request
+    ensures slice { length result.slices ≡ 1 }
+    ensures best { 1 ≤ result.best }
+{
     let mut slices = ArrayVec::new();
     slices.push(Slice {
         from: LONDON,
