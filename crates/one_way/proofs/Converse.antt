@@ -10,17 +10,16 @@ use Rattle.fare_law.specs.declared.filings.Action.TheVariants.{PutFare}
 use Rattle.fare_law.specs.declared.names.Carrier.{Carrier}
 use Rattle.fare_law.specs.declared.requests.Slice.{Slice}
 use Rattle.fare_law.specs.declared.rules.UnitKind.TheVariants.{OneWay}
-use Rattle.fare_law.specs.declared.tickets.Piece.{Piece}
 use Rattle.fare_law.specs.declared.tickets.Ticket.{Ticket}
 use Rattle.fare_law.specs.Book.{live_fare, live_rule, seats, free_rule, same_key, fare_put}
 use Rattle.fare_law.specs.Journey.{FliesSlice, FliesFrom}
-use Rattle.fare_law.specs.Lawful.{Part, IsPart, Lawful, AtMostTwoStraddle}
-use Rattle.fare_law.specs.Lists.{OnFirst}
+use Rattle.fare_law.specs.Lawful.{IsPart, Lawful, AtMostTwoStraddle}
+use Rattle.fare_law.specs.Lists.{Matched, OnFirst}
 use Rattle.fare_law.specs.Order.{Best, Costs}
-use Rattle.fare_law.specs.Parts.{share}
+use Rattle.fare_law.specs.Parts.{price_of, share}
 use Rattle.fare_law.specs.Units.{MayStand}
 use Rattle.one_way.specs.declared.cases.OneWayCase.{OneWayCase}
-use Rattle.one_way.specs.OneWay.{book_of, IsOneWay, HasTicket, ticket_of, Sells}
+use Rattle.one_way.specs.OneWay.{book_of, IsOneWay, HasTicket, ticket_of, Sells, part_of}
 use Rattle.one_way.proofs.OnlyTicket.{lawful_sells}
 
 same_self : (k : FareKey) → same_key k k ≡ true
@@ -37,12 +36,6 @@ free_here : (c : OneWayCase) (carrier : Carrier) (n : ℕ) → n ≡ 0 → live_
 unfolding live_rule
 free_here c carrier zero e = refl
 free_here c carrier (suc n) e = cc
-
-abbrev piece_of : OneWayCase → Piece
-piece_of c = record { begin = c.flight.from; end = c.flight.to; fare = c.fare; rule = free_rule; reverse = false; first_day = c.flight.day; last_day = c.flight.day; sale = c.request.sale }
-
-abbrev part_of : OneWayCase → Part
-part_of c = record { flights = c.flight ∷ []; piece = piece_of c; unit = 1 }
 
 is_part : (c : OneWayCase) {s : Slice} → IsOneWay c → Sells c s → IsPart (book_of c) c.request (record { flights = 0 ∷ []; fare = c.fare.key; unit = 1 }) (part_of c)
 is_part c form h = record {
@@ -109,7 +102,11 @@ share_whole O h amount = refl
 share_whole R h amount = absurd (h refl)
 share_whole S h amount = refl
 
--- its price is the fare's amount
+-- the part costs the fare's amount
+pub part_costs : (c : OneWayCase) → IsOneWay c → price_of (part_of c).flights (part_of c).piece ≡ c.fare.amount
+part_costs c form = omega (arith, share_whole c.fare.kind form.kind c.fare.amount)
+
+-- the ticket's price is the fare's amount
 pub sells_costs : (c : OneWayCase) (s : Slice) → IsOneWay c → Sells c s → Costs (ticket_of c) (book_of c) c.request c.fare.amount
 sells_costs c s form h = (part_of c ∷ [], (is_part c form h, tt), omega (arith, share_whole c.fare.kind form.kind c.fare.amount))
 
@@ -147,6 +144,13 @@ found_costs c form h t same = subst (λ t. Costs t (book_of c) c.request c.fare.
     go : (ss : List Slice) → OnFirst (Sells c) ss → Costs (ticket_of c) (book_of c) c.request c.fare.amount
     go [] h = absurd h
     go (s ∷ ss) h = sells_costs c s form h
+
+pub found_part : (c : OneWayCase) → IsOneWay c → HasTicket c → Matched (IsPart (book_of c) c.request) (ticket_of c).components (part_of c ∷ [])
+found_part c form h = go c.request.slices h
+  where
+    go : (ss : List Slice) → OnFirst (Sells c) ss → Matched (IsPart (book_of c) c.request) (ticket_of c).components (part_of c ∷ [])
+    go [] h = absurd h
+    go (s ∷ ss) h = (is_part c form h, tt)
 
 pub none_best : (c : OneWayCase) → IsOneWay c → (HasTicket c → ⊥) → Best (book_of c) c.request []
 none_best c form none = go c.request.slices refl form.slice none

@@ -1,15 +1,17 @@
 -- The smallest case with a ticket: one dated flight, one fare on the rule with no category, one slice.
-use Rattle.std.specs.Prelude.{◌≡◌, ◌≢◌, ◌≤◌, ℤ, Bool, true, ◌==◌, ◌&&◌, List, [], ◌∷◌, length, Option, Some, None}
+use Rattle.std.specs.Prelude.{◌≡◌, ◌≢◌, ◌≤◌, ℤ, Bool, true, false, ◌==◌, ◌&&◌, List, [], ◌∷◌, length, Option, Some, None}
 use Rattle.fare_law.specs.declared.fares.FareKind.TheVariants.{R}
 use Rattle.fare_law.specs.declared.filings.Action.TheVariants.{PutFare}
 use Rattle.fare_law.specs.declared.flights.Flight.{Flight}
 use Rattle.fare_law.specs.declared.rows.SeatRow.{SeatRow}
 use Rattle.std.specs.Ordering.{int_eq}
 use Rattle.fare_law.specs.declared.requests.Slice.{Slice}
+use Rattle.fare_law.specs.declared.tickets.Piece.{Piece}
 use Rattle.fare_law.specs.declared.tickets.Priced.{Priced}
 use Rattle.fare_law.specs.declared.tickets.Ticket.{Ticket}
-use Rattle.fare_law.specs.Book.{Book, seats, same_carrier, same_place}
+use Rattle.fare_law.specs.Book.{Book, seats, free_rule, same_carrier, same_place}
 use Rattle.fare_law.specs.Journey.{InWindow}
+use Rattle.fare_law.specs.Lawful.{Part}
 use Rattle.fare_law.specs.Lists.{OnFirst}
 use Rattle.one_way.specs.declared.cases.OneWayCase.{OneWayCase}
 
@@ -50,6 +52,14 @@ pub record Sells (c : OneWayCase) (s : Slice) : Type 0 where
 -- the case has its ticket
 abbrev pub HasTicket : OneWayCase → Type 0
 HasTicket c = OnFirst (Sells c) c.request.slices
+
+-- what that ticket's component is: the fare from the flight's beginning to its end
+abbrev pub piece_of : OneWayCase → Piece
+piece_of c = record { begin = c.flight.from; end = c.flight.to; fare = c.fare; rule = free_rule; reverse = false; first_day = c.flight.day; last_day = c.flight.day; sale = c.request.sale }
+
+-- the component with its flight
+abbrev pub part_of : OneWayCase → Part
+part_of c = record { flights = c.flight ∷ []; piece = piece_of c; unit = 1 }
 
 -- the tickets of an answer
 abbrev pub tickets_in : Option Priced → List Ticket

@@ -1,5 +1,5 @@
 //! The one ticket.
-ghost use Rattle.std.specs.Prelude.{◌≡◌, ◌↔◌, IsTrue, IfSome, length, slice_index, cond};
+ghost use Rattle.std.specs.Prelude.{◌≡◌, ◌↔◌, IsTrue, IfSome, OnSome, length, slice_index, cond};
 ghost use Rattle.fare_law.specs.Order.{Best, Costs};
 ghost use Rattle.fare_law.specs.Book.{seats as seats_in};
 ghost use Rattle.fare_law.specs.Journey.{InWindow};
@@ -14,6 +14,7 @@ pub fn cheapest(case: &OneWayCase) -> Option<Priced>
     ensures best { Best (book_of case.now) case.now.request (tickets_in result) }
     ensures price { IfSome result (λ p. Costs p.ticket (book_of case.now) case.now.request p.price) }
     ensures ticket { IfSome result (λ p. p.ticket ≡ ticket_of case.now) }
+    ensures sells { OnSome result (HasTicket case.now) }
 {
     if has_ticket(case) {
         Some(Priced {

@@ -5,7 +5,9 @@
 mod cases;
 mod dated_flights;
 mod finder;
+mod laws;
 
 pub use cases::OneWayCase;
 pub use dated_flights::{dated, flights_of_one_day, is_one_day};
 pub use finder::cheapest;
+pub use laws::component_is_the_fare;
