@@ -7,7 +7,7 @@ use Rattle.fare_law.specs.declared.fares.FareKey.{FareKey}
 use Rattle.fare_law.specs.declared.fares.FareKind.{FareKind}
 use Rattle.fare_law.specs.declared.fares.FareKind.TheVariants.{O, R, S}
 use Rattle.json_form.specs.Members.{has_members, text_at, between_at, place_at, carrier_at, basis_at, class_at}
-use Rattle.json_form.specs.Names.{IsClass, IsPlace}
+use Rattle.name_text.specs.Names.{IsClass, IsPlace}
 
 -- one thing after another, as long as each is there
 infixl 10 ◌>>=◌

@@ -5,7 +5,8 @@ use std::test::Fail;
 
 #[test]
 fn reads_a_lone_fare(rt: HostRuntime) -> Result<(), Fail> {
-    let text = br#"{"actions":[{"put_fare":{"carrier":"QX","from":"LON","to":"NYC","basis":"Y1","class":"Y","kind":"O","amount":20000,"rule":0}}]}"#;
+    let text =
+        br#"{"actions":[{"put_fare":{"carrier":"QX","from":"LON","to":"NYC","basis":"Y1","class":"Y","kind":"O","amount":20000,"rule":0}}]}"#;
     let mut basis = ArrayVec::new();
     basis.push(b'Y');
     basis.push(b'1');

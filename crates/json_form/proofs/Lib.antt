@@ -1,4 +1,3 @@
 pub mod MemberLemmas
 pub mod ItemLemmas
-pub mod NameLemmas
 pub mod SpelledLemmas

@@ -1,4 +1,3 @@
 pub mod Spelled
-pub mod Names
 pub mod Members
 pub mod Items

@@ -6,7 +6,7 @@ use Rattle.fare_law.specs.declared.names.Place.{Place}
 use Rattle.fare_law.specs.declared.names.Carrier.{Carrier}
 use Rattle.fare_law.specs.declared.names.Basis.{Basis}
 use Rattle.market_time.specs.Dates.{day_spelled}
-use Rattle.json_form.specs.Names.{place_of, carrier_of, basis_of, class_of}
+use Rattle.name_text.specs.Names.{place_of, carrier_of, basis_of, class_of}
 
 abbrev pub member_count : Members → ℕ
 member_count no_members = 0

@@ -1,17 +1,15 @@
 //! Values that JSON spells: the value of a text, the members of an object by their names, the items
-//! of a list, and the names of the trade that a text spells. What isn't of its form is `None`; how a
+//! of a list. What isn't of its form is `None`; how a
 //! request or a filing is put together from these is for the crates above.
 #![tactic(auto)]
 
 mod items;
 mod members;
-mod names;
 mod source;
 
 pub use items::{FromJson, each, only_item};
 pub use members::{
-    basis_at, between_at, carrier_at, class_at, date_at, has_members, items_at, place_at, sole_member,
-    text_at, whole_at,
+    basis_at, between_at, carrier_at, class_at, date_at, has_members, items_at, place_at,
+    sole_member, text_at, whole_at,
 };
-pub use names::{basis_of, carrier_of, class_of, place_of};
 pub use source::read_value;

@@ -5,11 +5,11 @@ ghost use Rattle.std.specs.Int.{IsInRange};
 ghost use Rattle.fare_law.specs.Order.{IsBasis, IsCarrier};
 ghost use Rattle.market_time.specs.Dates.{IsInCentury};
 ghost use Rattle.json_form.specs.Members as Members;
-ghost use Rattle.json_form.specs.Names.{IsClass, IsPlace};
+ghost use Rattle.name_text.specs.Names.{IsClass, IsPlace};
 
-use crate::names::{basis_of, carrier_of, class_of, place_of};
 use fare_law::{Basis, Carrier, Class, Place};
 use market_time::day_of;
+use name_text::{basis_of, carrier_of, class_of, place_of};
 use serde_json::Value;
 
 /// Whether the value is an object of so many members. An object has each name once: where `count`

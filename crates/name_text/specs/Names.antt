@@ -1,7 +1,8 @@
 -- The names of the trade that a text spells.
-use Rattle.std.specs.Prelude.{ℕ, ◌-◌, List, length, slice_index, Bool, ◌==◌, ◌&&◌, ◌||◌, nat_le, if◌then◌else◌, Option, Some, None}
+use Rattle.std.specs.Prelude.{◌≡◌, ◌≤◌, ℕ, ◌-◌, List, length, slice_index, Bool, ◌==◌, ◌&&◌, ◌||◌, nat_le, if◌then◌else◌, Option, Some, None}
 use Rattle.std.specs.Char.{is_ascii_digit, is_ascii_uppercase}
 use Rattle.std.specs.List.{list_all}
+use Rattle.fare_law.specs.Lists.{Each}
 use Rattle.fare_law.specs.declared.names.Place.{Place}
 use Rattle.fare_law.specs.declared.names.Carrier.{Carrier}
 use Rattle.fare_law.specs.declared.names.Basis.{Basis}
@@ -9,6 +10,17 @@ use Rattle.fare_law.specs.declared.names.Basis.{Basis}
 -- a capital letter or a digit
 abbrev pub is_character : ℕ → Bool
 is_character c = is_ascii_uppercase c || is_ascii_digit c
+
+abbrev pub IsCapital : ℕ → Type 0
+IsCapital c = (65 ≤ c) × (c ≤ 90)
+
+-- a place of three capital letters
+abbrev pub IsPlace : Place → Type 0
+IsPlace p = (length p.0 ≡ 3) × Each IsCapital p.0
+
+-- the class of a capital letter
+abbrev pub IsClass : ℕ → Type 0
+IsClass class = class ≤ 25
 
 -- three capital letters
 unfoldable pub place_of : List ℕ → Option Place

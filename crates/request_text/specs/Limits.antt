@@ -9,7 +9,7 @@ use Rattle.fare_law.specs.declared.requests.Slice.{Slice}
 use Rattle.fare_law.specs.declared.requests.Why.{Why}
 use Rattle.fare_law.specs.declared.requests.Why.TheVariants.{Slices, Party, Best, Window, SamePlace}
 use Rattle.market_time.specs.Dates.{IsInCentury}
-use Rattle.json_form.specs.Names.{IsPlace}
+use Rattle.name_text.specs.Names.{IsPlace}
 use Rattle.request_text.specs.declared.asked.Asked.{Asked}
 use Rattle.request_text.specs.declared.asked.AskedSlice.{AskedSlice}
 
@@ -43,7 +43,7 @@ allowed a = if nat_le 1 (length a.slices) && nat_le (length a.slices) 6 then (do
   best ← ok_or (between 1 1000 a.terms.best) Best
   slices ← ok_or (each_windowed a.slices) Window
   if list_any stays slices then Err SamePlace
-    else Ok (record { sale = a.terms.sale; party = party; best = best; slices = slices })) else Err Slices
+      else Ok (record { sale = a.terms.sale; party = party; best = best; slices = slices })) else Err Slices
 
 -- a slice between places, on days of the century, with a window of 1 to 7 days
 pub record HasWindow (s : Slice) : Type 0 where

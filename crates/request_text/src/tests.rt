@@ -11,7 +11,11 @@ fn seen(request: &Request) -> (i32, u8, u16, Option<i32>) {
 
 #[test]
 fn reads_requests(rt: HostRuntime) -> Result<(), Fail> {
-    let cases: [(&str, &[u8], Result<(i32, u8, u16, Option<i32>), RequestFault>); 12] = [
+    let cases: [(
+        &str,
+        &[u8],
+        Result<(i32, u8, u16, Option<i32>), RequestFault>,
+    ); 12] = [
         (
             "a request of all members",
             br#"{"sale":"2031-02-01","party":1,"best":3,"slices":[{"from":"LON","to":"NYC","first":"2031-03-03","days":1}]}"#,

@@ -8,4 +8,5 @@ use Rattle.json_form.proofs.items.each.Given as goal
 abbrev pub invariant-loop-item : goal.invariant-loop-item
 invariant-loop-item g l = record {
   rest : after l.found (each_item g.T.FromJson.form (items_view (drop l.item-index l.items))) ≡ each_item g.T.FromJson.form (items_view l.items);
-  holds : Each g.T.FromJson.holds l.found }
+  holds : Each g.T.FromJson.holds l.found;
+}

@@ -8,4 +8,5 @@ abbrev pub invariant-loop-slice : goal.invariant-loop-slice
 invariant-loop-slice l = record {
   rest : after l.found (each_windowed (drop l.slice-index l.slices)) ≡ each_windowed l.slices;
   windows : Each HasWindow l.found;
-  count : length l.found ≡ l.slice-index }
+  count : length l.found ≡ l.slice-index;
+}
