@@ -1,1 +1,3 @@
 pub mod WindowLemmas
+pub mod TextLemmas
+pub mod AgainLemmas

@@ -1,3 +1,4 @@
 pub mod Form
 pub mod Limits
 pub mod Reading
+pub mod Text

@@ -79,3 +79,19 @@ fn reads_requests(rt: HostRuntime) -> Result<(), Fail> {
     }
     Ok(())
 }
+
+#[test]
+fn writes_a_request(rt: HostRuntime) -> Result<(), Fail> {
+    let text = br#"{"slices":[{"from":"LON","to":"NYC","first":"2031-03-03","days":1}],"party":1,"sale":"2031-02-01","best":3}"#;
+    let request = match read_request(rt.alloc(), text) {
+        Ok(request) => request,
+        Err(fault) => {
+            assert_eq!(rt; Some(fault), None);
+            return Ok(());
+        }
+    };
+    let written = request_text(rt.alloc(), &request)?;
+    let expected = br#"{"best":3,"party":1,"sale":"2031-02-01","slices":[{"days":1,"first":"2031-03-03","from":"LON","to":"NYC"}]}"#;
+    assert_eq!(rt; written.as_slice(), expected.as_slice());
+    Ok(())
+}

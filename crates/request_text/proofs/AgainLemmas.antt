@@ -1,0 +1,127 @@
+-- A request within its limits that was written is read again as itself.
+use Rattle.std.proofs.Common.{◌≡◌, ◌≢◌, ◌≤◌, ◌+◌, ℕ, zero, suc, max, pos, nat_le, eq-eqb, Bool, true, false, ◌||◌, List, [], ◌∷◌, length, map, Option, Some, None, Ok, refl, arith, sym, subst, ap}
+use Rattle.std.specs.Char.{is_ascii_uppercase}
+use Rattle.std.specs.Int.{IsInRange}
+use Rattle.std.specs.List.{list_all, list_any}
+use Rattle.std.specs.Str.{IsUtf8}
+use Rattle.std.proofs.lemmas.Bool.Decides.{nat_tests}
+use Rattle.std.proofs.lemmas.List.{length-map}
+use Rattle.std.proofs.lemmas.Slice.Eq.{bytes_eq-Decides}
+use Rattle.std.proofs.lemmas.Str.{is_utf8-from_IsUtf8}
+use Rattle.serde_json.specs.Data.{Data, Items, no_items, item, depth, items_depth, array}
+use Rattle.serde_json.specs.Read.{read, max_depth}
+use Rattle.serde_json.specs.Written.{has_float, items_have_float}
+use Rattle.fare_law.specs.Lists.{Each}
+use Rattle.fare_law.specs.declared.names.Place.{Place}
+use Rattle.fare_law.specs.declared.requests.Request.{Request}
+use Rattle.fare_law.specs.declared.requests.Slice.{Slice}
+use Rattle.json_form.specs.Items.{each_item}
+use Rattle.json_form.specs.Names.{IsCapital, IsPlace, place_of}
+use Rattle.json_form.specs.Spelled.{spelled}
+use Rattle.request_text.specs.declared.asked.Asked.{Asked}
+use Rattle.request_text.specs.declared.asked.AskedSlice.{AskedSlice}
+use Rattle.request_text.specs.Form.{asked, slice_form}
+use Rattle.request_text.specs.Limits.{allowed, between, each_windowed, windowed, stays, HasWindow, Departs, IsRequest}
+use Rattle.request_text.specs.Reading.{request_of, request_spelled}
+use Rattle.request_text.specs.Text.{slice_members, request_members, WritesSlice, WritesSlices, WritesRequest}
+
+le_true : (a b : ℕ) → a ≤ b → nat_le a b ≡ true
+le_true a b h = grind (arith, nat_tests)
+
+capital_again : (c : ℕ) → IsCapital c → is_ascii_uppercase c ≡ true
+capital_again c h = grind (arith, nat_tests)
+
+capitals_again : (cs : List ℕ) → Each IsCapital cs → list_all is_ascii_uppercase cs ≡ true
+capitals_again [] h = refl
+capitals_again (c ∷ cs) h = rw (capital_again c h.0) (capitals_again cs h.1)
+
+place_again : (p : Place) → IsPlace p → place_of p.0 ≡ Some p
+unfolding place_of
+place_again p h = rw (eq-eqb (length p.0) 3 h.0, capitals_again p.0 h.1) refl
+
+between_again : (low high n : ℕ) → IsInRange low high n → between low high (pos n) ≡ Some n
+between_again low high n h = rw (le_true low n h.0, le_true n high h.1) refl
+
+-- a slice and a request as they are asked for
+
+abbrev as_asked : Slice → AskedSlice
+as_asked s = record { from = s.from; to = s.to; first = s.first; days = pos s.days }
+
+abbrev all_asked : Request → Asked
+all_asked q = record { terms = record { sale = q.sale; party = pos q.party; best = pos q.best }; slices = map as_asked q.slices }
+
+slice_again : (s : Slice) (d : Data) → HasWindow s → WritesSlice s d → slice_form d ≡ Some (as_asked s)
+slice_again s d h w =
+    let P = λ (x : Data). slice_form x ≡ Some (as_asked s) in
+    subst P (sym w.written) (rw (place_again s.from h.from, place_again s.to h.to, w.day) refl)
+
+slices_again : (ss : List Slice) (ds : Items) → Each HasWindow ss → WritesSlices ss ds → each_item slice_form ds ≡ Some (map as_asked ss)
+slices_again [] no_items h w = refl
+slices_again [] (item d ds) h w = absurd w
+slices_again (s ∷ ss) no_items h w = absurd w
+slices_again (s ∷ ss) (item d ds) h w = rw (slice_again s d h.0 w.0, slices_again ss ds h.1 w.1) refl
+
+asked_again : (q : Request) (d : Data) → IsRequest q → WritesRequest q d → asked d ≡ Some (all_asked q)
+unfolding asked
+asked_again q d h w =
+    let P = λ (x : Data). asked x ≡ Some (all_asked q) in
+    subst P (sym w.written) (rw (w.day, slices_again q.slices w.items h.windows w.slices) refl)
+
+windows_again : (ss : List Slice) → Each HasWindow ss → each_windowed (map as_asked ss) ≡ Some ss
+windows_again [] h = refl
+windows_again (s ∷ ss) h = rw (le_true 1 s.days h.0.days.0, le_true s.days 7 h.0.days.1, windows_again ss h.1) refl
+
+not_true : (b : Bool) → (b ≡ true → ⊥) → b ≡ false
+not_true true h = absurd (h refl)
+not_true false h = refl
+
+leaves : (s : Slice) → Departs s → stays s ≡ false
+leaves s h = not_true (stays s) (λ e. h (ap {B = Place} (λ x. record { 0 = x }) ((bytes_eq-Decides s.from.0 s.to.0).0 e)))
+
+none_stays : (ss : List Slice) → Each Departs ss → list_any stays ss ≡ false
+none_stays [] h = refl
+none_stays (s ∷ ss) h = rw (leaves s h.0) (none_stays ss h.1)
+
+allowed_again : (q : Request) → IsRequest q → allowed (all_asked q) ≡ Ok q
+unfolding allowed
+allowed_again q h =
+    rw (length-map, le_true 1 (length q.slices) h.count.0, le_true (length q.slices) 6 h.count.1,
+      le_true 1 q.party h.party.0, le_true q.party 9 h.party.1, le_true 1 q.best h.best.0, le_true q.best 1000 h.best.1,
+      windows_again q.slices h.windows, none_stays q.slices h.departs) refl
+
+request_again : (q : Request) (d : Data) → IsRequest q → WritesRequest q d → request_spelled d ≡ Ok q
+request_again q d h w = rw (asked_again q d h w, allowed_again q h) refl
+
+spelled_again : (text : List ℕ) (d : Data) → IsUtf8 text → read text ≡ Some d → spelled text ≡ Some d
+unfolding spelled
+spelled_again text d utf8 e = rw (is_utf8-from_IsUtf8 text utf8, e) refl
+
+-- text that reads as such JSON is read as the request
+pub text_again : (q : Request) (d : Data) (text : List ℕ) → IsRequest q → WritesRequest q d → IsUtf8 text → read text ≡ Some d → request_of text ≡ Ok q
+text_again q d text h w utf8 e = rw (spelled_again text d utf8 e) (request_again q d h w)
+
+-- such JSON has no float, and two levels below its own
+
+floats_in_slices : (ss : List Slice) (ds : Items) → WritesSlices ss ds → items_have_float ds ≡ false
+floats_in_slices [] no_items w = refl
+floats_in_slices [] (item d ds) w = absurd w
+floats_in_slices (s ∷ ss) no_items w = absurd w
+floats_in_slices (s ∷ ss) (item d ds) w =
+    let P = λ (x : Data). (has_float x || items_have_float ds) ≡ false in subst P (sym w.0.written) (floats_in_slices ss ds w.1)
+
+pub no_float : (q : Request) (d : Data) → WritesRequest q d → has_float d ≡ false
+no_float q d w =
+    let P = λ (x : Data). has_float x ≡ false in subst P (sym w.written) (rw (floats_in_slices q.slices w.items w.slices) refl)
+
+depth_of_slices : (ss : List Slice) (ds : Items) → WritesSlices ss ds → items_depth ds ≤ 1
+depth_of_slices [] no_items w = omega arith
+depth_of_slices [] (item d ds) w = absurd w
+depth_of_slices (s ∷ ss) no_items w = absurd w
+depth_of_slices (s ∷ ss) (item d ds) w =
+    let P = λ (x : Data). max (depth x) (items_depth ds) ≤ 1 in
+    subst P (sym w.0.written) (let h = depth_of_slices ss ds w.1 in omega arith)
+
+pub shallow : (q : Request) (d : Data) → WritesRequest q d → depth d ≤ max_depth
+shallow q d w =
+    let P = λ (x : Data). depth x ≤ max_depth in
+    subst P (sym w.written) (let h = depth_of_slices q.slices w.items w.slices in omega arith)

@@ -1,0 +1,45 @@
+-- What is written for a request has no float, is shallow, and reads as the request.
+use Rattle.std.proofs.Common.{◌≡◌, ◌<◌, ◌≤◌, ◌+◌, ℕ, zero, suc, Bool, true, false, ◌||◌, List, [], ◌∷◌, ◌++◌, length, take, get_or, refl, arith, subst, rules}
+use Rattle.std.specs.Str.{IsAscii, IsUtf8}
+use Rattle.std.proofs.lemmas.List.{take_all, take_more}
+use Rattle.std.proofs.lemmas.Str.{IsUtf8-from_ascii}
+use Rattle.serde_json.specs.Data.{Data}
+use Rattle.serde_json.specs.View.{view, items_view}
+use Rattle.serde_json.specs.declared.value.Value.{Value}
+use Rattle.fare_law.specs.Lists.{Each}
+use Rattle.fare_law.specs.declared.requests.Slice.{Slice}
+use Rattle.fare_law.specs.declared.names.Place.{Place}
+use Rattle.json_form.specs.Names.{IsPlace, IsCapital}
+use Rattle.request_text.specs.Limits.{HasWindow}
+use Rattle.request_text.specs.Text.{WritesSlice, WritesSlices}
+
+pub ascii_is_utf8 : (bs : List ℕ) → IsAscii bs → IsUtf8 bs
+ascii_is_utf8 = IsUtf8-from_ascii
+
+capitals_are_ascii : (cs : List ℕ) → Each IsCapital cs → IsAscii cs
+capitals_are_ascii [] h i = omega arith
+capitals_are_ascii (c ∷ cs) h zero = omega arith
+capitals_are_ascii (c ∷ cs) h (suc i) = capitals_are_ascii cs h.1 i
+
+pub place_is_ascii : (p : Place) → IsPlace p → IsAscii p.0
+place_is_ascii p h = capitals_are_ascii p.0 h.1
+
+grows : (ss : List Slice) (vs : List Value) (s : Slice) (v : Value) → WritesSlices ss (items_view vs) → WritesSlice s (view v) → WritesSlices (ss ++ s ∷ []) (items_view (vs ++ v ∷ []))
+grows [] [] s v h w = (w, tt)
+grows [] (x ∷ vs) s v h w = absurd h
+grows (t ∷ ss) [] s v h w = absurd h
+grows (t ∷ ss) (x ∷ vs) s v h w = (h.0, grows ss vs s v h.1 w)
+
+pub slices_grow : (ss : List Slice) (vs : List Value) (i : ℕ) (d : Slice) (v : Value) → i < length ss → WritesSlices (take i ss) (items_view vs) → WritesSlice (get_or ss i d) (view v) → WritesSlices (take (i + 1) ss) (items_view (vs ++ v ∷ []))
+slices_grow ss vs i d v l h w = rw (take_more ss i d l) (grows (take i ss) vs (get_or ss i d) v h w)
+
+pub slices_whole : (ss : List Slice) (vs : List Value) (i : ℕ) → length ss ≤ i → WritesSlices (take i ss) (items_view vs) → WritesSlices ss (items_view vs)
+slices_whole ss vs i l h = let e = take_all i ss l in subst (λ (xs : List Slice). WritesSlices xs (items_view vs)) e h
+
+-- what each slice has, the one at this place has
+pub window_at : (ss : List Slice) (i : ℕ) (d : Slice) → i < length ss → Each HasWindow ss → HasWindow (get_or ss i d)
+window_at [] i d l h = absurd (omega arith)
+window_at (s ∷ ss) zero d l h = h.0
+window_at (s ∷ ss) (suc i) d l h = window_at ss i d (omega arith) h.1
+
+pub ruleset slice_steps = (slices_grow, slices_whole, window_at)

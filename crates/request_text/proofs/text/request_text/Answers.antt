@@ -1,0 +1,24 @@
+use Rattle.std.proofs.Common.{sym, subst, ◌∙◌, List, ℕ, ◌≡◌, string_bytes, ap, Ok}
+use Rattle.std.proofs.lemmas.Str.{IsUtf8-string_bytes}
+use Rattle.serde_json.specs.View.{view}
+use Rattle.request_text.specs.Reading.{request_of}
+use Rattle.request_text.proofs.AgainLemmas.{text_again, no_float, shallow}
+use Rattle.request_text.proofs.text.request_text.Goals as goal
+
+pub returns-clause-text : goal.returns-clause-text
+returns-clause-text c =
+    let w = c.in_ok-value.ensures in
+    let e : c.from_vec.result ≡ string_bytes c.in_ok-text.text = c.from_vec.ensures ∙ ap (λ v. v.items) c.into_bytes.ensures.value in
+    record {
+      json = view c.in_ok-value.value;
+      request = w;
+      compact = e ∙ c.in_ok-text.ensures.text (no_float c.args.request.now (view c.in_ok-value.value) w) }
+
+pub returns-clause-again : goal.returns-clause-again
+returns-clause-again c =
+    let q = c.args.request.now in
+    let d = view c.in_ok-value.value in
+    let w = c.in_ok-value.ensures in
+    let e : c.from_vec.result ≡ string_bytes c.in_ok-text.text = c.from_vec.ensures ∙ ap (λ v. v.items) c.into_bytes.ensures.value in
+    subst (λ (text : List ℕ). request_of text ≡ Ok q) (sym e)
+      (text_again q d (string_bytes c.in_ok-text.text) c.requires w (IsUtf8-string_bytes c.in_ok-text.text) (c.in_ok-text.ensures.reads_back (shallow q d w)))
