@@ -77,11 +77,7 @@ fn day_after(first: i32, offset: u16) -> i32
 }
 
 /// The dated flights of rows, in the order of the rows.
-pub fn expand(
-    alloc: Global,
-    rows: &[FlightRow],
-    places: &Places,
-) -> Result<Vec<Flight>, SchedFault>
+pub fn expand(alloc: Global, rows: &[FlightRow], places: &Places) -> Result<Vec<Flight>, SchedFault>
     ensures expansion { IfOk result (λ v. Expands ⟦<DatedNumber as PartialEq>⟧.eq rows.now v.items) }
     ensures few { IfOk result (λ v. length v.items ≤ 200000) }
     ensures right { OnOk result (RowsRight places.now rows.now) }

@@ -1,4 +1,4 @@
-use Rattle.std.proofs.Common.{◌≡◌, ℤ, int_lt, count_by, rules, sym, ap, subst, ◌∙◌, arith, length}
+use Rattle.std.proofs.Common.{int_lt, count_by, rules, sym, ap, subst, ◌∙◌, arith, length}
 use Rattle.std.proofs.lemmas.Fn.{always_returns_same}
 use Rattle.fare_law.specs.declared.flights.Flight.{Flight}
 use Rattle.fare_law.specs.Flights.{Earlier}
