@@ -10,6 +10,7 @@ use std::cmp::Ordering;
 use std::test::Fail;
 
 const LON: Place = Place(*b"LON");
+
 const NYC: Place = Place(*b"NYC");
 
 fn basis(text: [u8; 2]) -> Basis {
@@ -97,7 +98,10 @@ fn gives_the_code_of_a_move(rt: HostRuntime) {
         slot: 0,
     };
     let code = code(&[alone]);
-    assert_eq!(rt; code.as_slice(), [1, 0, 1033, 3327747152473, 0, 0].as_slice());
+    assert_eq!(rt;
+        code.as_slice(),
+        [1, 0, 1033, 3327747152473, 0, 0].as_slice()
+    );
 }
 
 fn word(numbers: [u64; 2]) -> Code {
@@ -119,7 +123,11 @@ fn compares_by_price_then_code(rt: HostRuntime) {
         ("same", 5, [2, 1], 5, [2, 1], Ordering::Equal),
     ];
     for (name, a_price, a, b_price, b, order) in cases {
-        assert_eq!(rt; cmp_key(a_price, &word(a), b_price, &word(b)), order, "{name}");
+        assert_eq!(rt;
+            cmp_key(a_price, &word(a), b_price, &word(b)),
+            order,
+            "{name}"
+        );
     }
 }
 
@@ -129,9 +137,21 @@ fn reads_moves_and_gives_the_ticket_back(rt: HostRuntime) -> Result<(), Fail> {
     let (alone, opens, goes_on, closes) = (Role::Alone, Role::Opens, Role::GoesOn, Role::Closes);
     let cases = [
         ("four one ways", [1, 2, 3, 4], [(alone, 0); 4]),
-        ("round trip inside", [1, 2, 2, 1], [(opens, 0), (opens, 0), (closes, 1), (closes, 0)]),
-        ("crossing", [1, 2, 1, 2], [(opens, 0), (opens, 0), (closes, 0), (closes, 0)]),
-        ("circle", [1, 1, 1, 1], [(opens, 0), (goes_on, 0), (goes_on, 0), (closes, 0)]),
+        (
+            "round trip inside",
+            [1, 2, 2, 1],
+            [(opens, 0), (opens, 0), (closes, 1), (closes, 0)],
+        ),
+        (
+            "crossing",
+            [1, 2, 1, 2],
+            [(opens, 0), (opens, 0), (closes, 0), (closes, 0)],
+        ),
+        (
+            "circle",
+            [1, 1, 1, 1],
+            [(opens, 0), (goes_on, 0), (goes_on, 0), (closes, 0)],
+        ),
     ];
     for (name, units, marks) in cases {
         let [a, b, c, d] = units;
