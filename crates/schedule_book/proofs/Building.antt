@@ -1,5 +1,5 @@
 -- From the expansion of rows to the flights of a timetable.
-use Rattle.std.proofs.Common.{◌≡◌, ◌⊎◌, ◌↔◌, ℕ, zero, suc, ◌+◌, ◌<◌, ◌≤◌, List, [], ◌∷◌, ◌++◌, length, take, drop, get_or, append-nil, refl, sym, ap, ◌∙◌, subst, inl, inr, arith}
+use Rattle.std.proofs.Common.{◌≡◌, ℕ, zero, suc, ◌<◌, List, [], ◌∷◌, ◌++◌, length, take, drop, get_or, append-nil, sym, ap, ◌∙◌, inl, inr, arith}
 use Rattle.std.specs.List.{Contains}
 use Rattle.std.specs.List.Sorted.{IsPermutation}
 use Rattle.std.proofs.lemmas.List.Sorted.{Contains-permutation, IsPermutation-sym, length_permutation}
@@ -7,7 +7,7 @@ use Rattle.std.proofs.lemmas.List.{drop_all, take_all}
 use Rattle.fare_law.specs.declared.flights.Flight.{Flight}
 use Rattle.fare_law.specs.declared.rows.FlightRow.{FlightRow}
 use Rattle.fare_law.specs.declared.rows.PlaceRow.{PlaceRow}
-use Rattle.fare_law.specs.Flights.{AreFlights, Dated, Earlier}
+use Rattle.fare_law.specs.Flights.{AreFlights, Earlier}
 use Rattle.fare_law.specs.Lists.{EachPair, IsIn}
 use Rattle.schedule_book.specs.declared.faults.SchedFault.{SchedFault}
 use Rattle.schedule_book.specs.declared.faults.SchedFault.TheVariants.{PlaceTwice, UnknownPlace, SamePlace, BadPeriod, ArrivesBefore, Twice, TooMany, Mem}

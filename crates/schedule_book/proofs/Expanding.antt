@@ -1,5 +1,5 @@
 -- The dated flights of rows, row by row, and the first row with a fault.
-use Rattle.std.proofs.Common.{◌≡◌, ◌⊎◌, ◌↔◌, ℕ, ◌+◌, ◌<◌, ◌≤◌, List, [], ◌∷◌, ◌++◌, length, map, sum_by, take, drop, get_or, refl, sym, ap, ap₂, ◌∙◌, subst, inl, inr, arith, length-append}
+use Rattle.std.proofs.Common.{◌≡◌, ◌⊎◌, ℕ, ◌+◌, ◌<◌, ◌≤◌, List, [], ◌∷◌, ◌++◌, length, map, sum_by, take, drop, get_or, refl, sym, ap, ap₂, ◌∙◌, subst, inl, inr, arith, length-append}
 use Rattle.std.specs.HashSet.{HashSet}
 use Rattle.std.specs.List.{IsDistinct, list_any}
 use Rattle.std.proofs.lemmas.List.Sums.{sum_by-append, sum_by-cons}
@@ -12,7 +12,7 @@ use Rattle.schedule_book.specs.declared.faults.SchedFault.{SchedFault}
 use Rattle.schedule_book.specs.declared.faults.SchedFault.TheVariants.{PlaceTwice, UnknownPlace, SamePlace, BadPeriod, ArrivesBefore, Twice, TooMany, Mem}
 use Rattle.schedule_book.specs.declared.dated.DatedNumber.{DatedNumber}
 use Rattle.schedule_book.specs.Days.{named_days}
-use Rattle.schedule_book.specs.Expansions.{AddsRow, Expands, IsAmong, RepeatsOne, Seen, number_of}
+use Rattle.schedule_book.specs.Expansions.{AddsRow, Expands, RepeatsOne, Seen, number_of}
 use Rattle.schedule_book.specs.Faults.{HasFault, IsRepeated, NoOwnFault, OwnFault, RowCause, RowFault, RowsRight, SameDated, fault_number}
 use Rattle.schedule_book.proofs.Numbers.{same, parts_differ}
 use Rattle.schedule_book.proofs.Rows.{front_is, split_is, split_push, split_none, in_left, in_right, in_either}

@@ -7,3 +7,4 @@ pub mod OwnFaults
 pub mod Expanding
 pub mod Sorting
 pub mod Building
+pub mod Lower

@@ -1,5 +1,5 @@
 -- The days that a row names, and its flights on them.
-use Rattle.std.proofs.Common.{◌≡◌, ◌≢◌, ℕ, ℤ, pos, ◌-◌, ◌^◌, ◌&&◌, ◌==◌, ◌≤ℤ◌, Bool, true, false, not, int_le, bit_and, IsBitSet, refl, sym, ap, ◌∙◌, subst, arith}
+use Rattle.std.proofs.Common.{◌≡◌, ℤ, ◌-◌, ◌^◌, ◌&&◌, ◌==◌, ◌≤ℤ◌, Bool, true, false, not, int_le, bit_and, IsBitSet, refl, arith}
 use Rattle.std.proofs.lemmas.Int.{ints}
 use Rattle.std.proofs.lemmas.Bool.{eqb-false, ne_eqb}
 use Rattle.fare_law.specs.declared.rows.FlightRow.{FlightRow}

@@ -1,13 +1,13 @@
 -- The flights of one row, day by day.
-use Rattle.std.proofs.Common.{◌≡◌, ◌⊎◌, ◌↔◌, ℕ, zero, suc, ℤ, pos, ◌+◌, ◌-◌, ◌+ℤ◌, ◌-ℤ◌, ◌≤ℤ◌, ◌<ℤ◌, ◌≤◌, Bool, true, false, cond, List, [], ◌∷◌, ◌++◌, length, refl, sym, ap, ap₂, ◌∙◌, subst, inl, inr, arith, append_assoc, append-nil, length-append}
+use Rattle.std.proofs.Common.{◌≡◌, ◌↔◌, ℕ, zero, suc, ℤ, pos, ◌+◌, ◌-◌, ◌+ℤ◌, ◌≤ℤ◌, ◌<ℤ◌, ◌≤◌, Bool, true, false, cond, List, [], ◌∷◌, ◌++◌, length, refl, sym, ap, ap₂, ◌∙◌, subst, inl, inr, arith, append_assoc, append-nil, length-append}
 use Rattle.std.proofs.lemmas.Int.{ints, by_lt_z}
 use Rattle.std.proofs.lemmas.Bool.{cases_Bool}
 use Rattle.fare_law.specs.declared.flights.Flight.{Flight}
 use Rattle.fare_law.specs.declared.rows.FlightRow.{FlightRow}
 use Rattle.fare_law.specs.Flights.{Dated, instant}
 use Rattle.fare_law.specs.Lists.{IsIn}
-use Rattle.schedule_book.specs.Days.{names, named_of, named_days}
-use Rattle.schedule_book.specs.Expansions.{AddsRow, IsAmong, number_of}
+use Rattle.schedule_book.specs.Days.{names, named_of}
+use Rattle.schedule_book.specs.Expansions.{AddsRow, IsAmong}
 use Rattle.schedule_book.proofs.RowDays.{names_told, named_true}
 use Rattle.schedule_book.proofs.Rows.{in_left, in_right, in_either}
 

@@ -1,5 +1,5 @@
 -- The dated flights of rows, before they are put in order.
-use Rattle.std.specs.Prelude.{◌≡◌, ◌↔◌, ℕ, Bool, List, ◌++◌, length, map, sum_by}
+use Rattle.std.specs.Prelude.{◌≡◌, ◌↔◌, Bool, List, ◌++◌, length, map, sum_by}
 use Rattle.std.specs.HashSet.{HashSet, contains}
 use Rattle.std.specs.List.{IsDistinct, list_any}
 use Rattle.fare_law.specs.declared.flights.Flight.{Flight}

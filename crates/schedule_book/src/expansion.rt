@@ -1,5 +1,5 @@
 //! The dated flights of rows, one row after another.
-ghost use Rattle.std.specs.Prelude.{◌≡◌, ◌⊎◌, ◌≤ℤ◌, ◌<ℤ◌, ◌+ℤ◌, ◌^◌, pos, IfOk, OnOk, IfErr, ◌++◌, ◌∷◌, []};
+ghost use Rattle.std.specs.Prelude.{◌≡◌, ◌⊎◌, ◌≤ℤ◌, ◌<ℤ◌, ◌+ℤ◌, ◌^◌, ◌≤◌, length, pos, IfOk, OnOk, IfErr, ◌++◌, ◌∷◌, []};
 ghost use Rattle.std.specs.Bool.{MatchBool, OnTrue};
 ghost use Rattle.schedule_book.specs.Expansions.{AddsRow, Expands, IsAmong, RepeatsOne, Seen};
 ghost use Rattle.schedule_book.specs.Faults.{RowCause, RowsRight};
@@ -77,12 +77,9 @@ fn day_after(first: i32, offset: u16) -> i32
 }
 
 /// The dated flights of rows, in the order of the rows.
-pub fn expand(
-    alloc: Global,
-    rows: &[FlightRow],
-    places: &Places,
-) -> Result<Vec<Flight>, SchedFault>
+pub fn expand(alloc: Global, rows: &[FlightRow], places: &Places) -> Result<Vec<Flight>, SchedFault>
     ensures expansion { IfOk result (λ v. Expands ⟦<DatedNumber as PartialEq>⟧.eq rows.now v.items) }
+    ensures few { IfOk result (λ v. length v.items ≤ 200000) }
     ensures right { OnOk result (RowsRight places.now rows.now) }
     ensures fault { IfErr result (RowCause places.now rows.now) }
 {

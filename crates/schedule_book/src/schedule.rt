@@ -1,5 +1,5 @@
 //! The schedule of a timetable.
-ghost use Rattle.std.specs.Prelude.{◌≡◌, IfErr, IfOk, OnOk};
+ghost use Rattle.std.specs.Prelude.{◌≡◌, int_lt, count_by, IfErr, IfOk, OnOk};
 ghost use Rattle.fare_law.specs.Flights.{AreFlights, Earlier};
 ghost use Rattle.fare_law.specs.Lists.{EachPair};
 ghost use Rattle.schedule_book.specs.Connects.{connect_of};
@@ -22,6 +22,7 @@ pub struct Schedule {
 }
 
 impl Model for Schedule {
+    ghost use Rattle.std.specs.Prelude.{◌≤◌, length};
     ghost use Rattle.fare_law.specs.Flights.{Earlier};
     ghost use Rattle.fare_law.specs.Lists.{EachPair};
     ghost use Rattle.schedule_book.specs.Plan.{Plan};
@@ -30,7 +31,7 @@ impl Model for Schedule {
 
     ghost view = { λ s. record { places = s.places; flights = s.flights } };
 
-    ghost invariant = { λ s. EachPair Earlier s.flights };
+    ghost invariant = { λ s. (EachPair Earlier s.flights) × (length s.flights ≤ 200000) };
 }
 
 impl Schedule {
@@ -69,5 +70,12 @@ impl Schedule {
         ensures { result ≡ connect_of self.now.places place }
     {
         self.places.connect(place)
+    }
+
+    /// The number of flights that depart before an instant.
+    pub fn lower(&self, at: i64) -> u32
+        ensures { result ≡ count_by (λ f. int_lt f.dep at) self.now.flights }
+    {
+        self.flights.as_slice().partition_point(|f| f.dep < at) as u32
     }
 }

@@ -4,7 +4,9 @@ use fare_law::{Carrier, FlightRow, Place, PlaceRow};
 use std::test::Fail;
 
 const LON: Place = Place(*b"LON");
+
 const DUB: Place = Place(*b"DUB");
+
 const NYC: Place = Place(*b"NYC");
 
 const PLACES: [PlaceRow; 3] = [
@@ -47,12 +49,51 @@ fn row(line: u32, carrier: [u8; 2], number: u16, from: Place, to: Place) -> Flig
 #[test]
 fn numbers_flights_by_departure(rt: HostRuntime) -> Result<(), Fail> {
     let rows = [
-        FlightRow { dep: 660, arr: 840, arr_offset: -300, ..row(6, *b"BX", 11, LON, NYC) },
-        FlightRow { dep: 420, arr: 495, ..row(7, *b"EX", 201, LON, DUB) },
-        FlightRow { dep: 600, arr: 750, arr_offset: -300, ..row(8, *b"EX", 101, DUB, NYC) },
-        FlightRow { dep: 1140, dep_offset: -240, arr: 390, shift: 1, first: 22350, last: 22350, days: 4, ..row(9, *b"BX", 12, NYC, LON) },
-        FlightRow { dep: 1050, dep_offset: -240, arr: 285, shift: 1, first: 22350, last: 22350, days: 4, ..row(10, *b"EX", 102, NYC, DUB) },
-        FlightRow { dep: 390, arr: 465, first: 22351, last: 22351, days: 8, ..row(11, *b"EX", 202, DUB, LON) },
+        FlightRow {
+            dep: 660,
+            arr: 840,
+            arr_offset: -300,
+            ..row(6, *b"BX", 11, LON, NYC)
+        },
+        FlightRow {
+            dep: 420,
+            arr: 495,
+            ..row(7, *b"EX", 201, LON, DUB)
+        },
+        FlightRow {
+            dep: 600,
+            arr: 750,
+            arr_offset: -300,
+            ..row(8, *b"EX", 101, DUB, NYC)
+        },
+        FlightRow {
+            dep: 1140,
+            dep_offset: -240,
+            arr: 390,
+            shift: 1,
+            first: 22350,
+            last: 22350,
+            days: 4,
+            ..row(9, *b"BX", 12, NYC, LON)
+        },
+        FlightRow {
+            dep: 1050,
+            dep_offset: -240,
+            arr: 285,
+            shift: 1,
+            first: 22350,
+            last: 22350,
+            days: 4,
+            ..row(10, *b"EX", 102, NYC, DUB)
+        },
+        FlightRow {
+            dep: 390,
+            arr: 465,
+            first: 22351,
+            last: 22351,
+            days: 8,
+            ..row(11, *b"EX", 202, DUB, LON)
+        },
     ];
     let schedule = Schedule::build(rt.alloc(), &PLACES, &rows)?;
     let numbers = schedule
@@ -69,7 +110,11 @@ fn numbers_flights_by_departure(rt: HostRuntime) -> Result<(), Fail> {
 #[test]
 fn orders_equal_instants_by_carrier(rt: HostRuntime) -> Result<(), Fail> {
     let rows = [
-        FlightRow { last: 22342, days: 3, ..row(6, *b"QX", 5, LON, DUB) },
+        FlightRow {
+            last: 22342,
+            days: 3,
+            ..row(6, *b"QX", 5, LON, DUB)
+        },
         row(7, *b"AX", 9, LON, DUB),
     ];
     let schedule = Schedule::build(rt.alloc(), &PLACES, &rows)?;
@@ -86,18 +131,73 @@ fn orders_equal_instants_by_carrier(rt: HostRuntime) -> Result<(), Fail> {
 fn refuses_the_first_row_with_a_fault(rt: HostRuntime) -> Result<(), Fail> {
     let good = row(6, *b"QX", 5, LON, DUB);
     let cases = [
-        ("unknown", FlightRow { to: Place(*b"PAR"), line: 7, ..good }, SchedFault::UnknownPlace { line: 7 }),
-        ("round", FlightRow { to: LON, line: 7, ..good }, SchedFault::SamePlace { line: 7 }),
-        ("backwards", FlightRow { last: 22340, line: 7, ..good }, SchedFault::BadPeriod { line: 7 }),
-        ("long", FlightRow { last: 22707, line: 7, ..good }, SchedFault::BadPeriod { line: 7 }),
-        ("early", FlightRow { arr: 600, line: 7, ..good }, SchedFault::ArrivesBefore { line: 7 }),
-        ("again", FlightRow { dep: 610, line: 7, ..good }, SchedFault::Twice { line: 7 }),
+        (
+            "unknown",
+            FlightRow {
+                to: Place(*b"PAR"),
+                line: 7,
+                ..good
+            },
+            SchedFault::UnknownPlace { line: 7 },
+        ),
+        (
+            "round",
+            FlightRow {
+                to: LON,
+                line: 7,
+                ..good
+            },
+            SchedFault::SamePlace { line: 7 },
+        ),
+        (
+            "backwards",
+            FlightRow {
+                last: 22340,
+                line: 7,
+                ..good
+            },
+            SchedFault::BadPeriod { line: 7 },
+        ),
+        (
+            "long",
+            FlightRow {
+                last: 22707,
+                line: 7,
+                ..good
+            },
+            SchedFault::BadPeriod { line: 7 },
+        ),
+        (
+            "early",
+            FlightRow {
+                arr: 600,
+                line: 7,
+                ..good
+            },
+            SchedFault::ArrivesBefore { line: 7 },
+        ),
+        (
+            "again",
+            FlightRow {
+                dep: 610,
+                line: 7,
+                ..good
+            },
+            SchedFault::Twice { line: 7 },
+        ),
     ];
     for (name, bad, fault) in cases {
         let answer = Schedule::build(rt.alloc(), &PLACES, &[good, bad]);
         assert!(rt; matches!(&answer, Err(found) if *found == fault), "{name}");
     }
-    let twice = [PLACES[0], PLACES[1], PlaceRow { line: 5, ..PLACES[0] }];
+    let twice = [
+        PLACES[0],
+        PLACES[1],
+        PlaceRow {
+            line: 5,
+            ..PLACES[0]
+        },
+    ];
     let answer = Schedule::build(rt.alloc(), &twice, &[good]);
     assert!(rt; matches!(&answer, Err(SchedFault::PlaceTwice { line: 5 })));
     Ok(())

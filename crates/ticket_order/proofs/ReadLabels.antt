@@ -109,8 +109,11 @@ turn before rest l m ms count opened r few long = record { begin = begin r.numbe
       where
         both : true ≡ false → ⊥
         both q = cc
-    begin (inr h) e = (h.0, λ small. reads_step before rest l m ms count (suc count) opened r small long h.1
-        (λ u. ap₂ (λ a b. a || (u == b)) (r.seen u) h.0 ∙ seen_more u count))
+    begin (inr h) e = (
+      h.0,
+      λ small. reads_step before rest l m ms count (suc count) opened r small long h.1
+          (λ u. ap₂ (λ a b. a || (u == b)) (r.seen u) h.0 ∙ seen_more u count),
+    )
 
     go_on : Numbered count (l ∷ rest) → begins m.role ≡ false → (l < 19) × (get_or opened l false ≡ true) × (ones (take l opened) ≡ m.slot) × Reads (before ++ l ∷ []) rest ms count (set opened l (stays_open m.role))
     go_on (inr h) e = let c : (nat_le 1 l && nat_le l count) ≡ false = beyond h.0 in absurd (both (sym e ∙ told ∙ ap not (r.seen l ∙ c)))
@@ -164,8 +167,7 @@ read_begin moves labels m ms count opened h few long b ls n a =
     let k = h ls n a in
     let t = next_read ls labels k.0 m ms count opened k.1 k.2 (omega arith) long in
     let r = t.3.begin b in
-    let same : t.0 ≡ count + 1 = next t.0 r.0 in
-    (
+    let same : t.0 ≡ count + 1 = next t.0 r.0 in (
       t.1,
       t.2 ∙ ap (λ l. (labels ++ l ∷ []) ++ t.1) same,
       subst (λ new. Reads (labels ++ (count + 1) ∷ []) t.1 ms new (set opened (count + 1) (stays_open m.role))) more
@@ -191,8 +193,7 @@ read_go_on moves labels m ms count opened label h few long b found ls n a =
     let k = h ls n a in
     let t = next_read ls labels k.0 m ms count opened k.1 k.2 few long in
     let r = t.3.go_on b in
-    let same : t.0 ≡ label = back t.0 (found t.0 r.1 r.2) in
-    (
+    let same : t.0 ≡ label = back t.0 (found t.0 r.1 r.2) in (
       t.1,
       t.2 ∙ ap (λ l. (labels ++ l ∷ []) ++ t.1) same,
       subst (λ l. Reads (labels ++ l ∷ []) t.1 ms count (set opened l (stays_open m.role))) same r.3,

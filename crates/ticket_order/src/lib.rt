@@ -1,4 +1,6 @@
-//! Codes of tickets and the order by price and code.
+//! The moves and the code of a ticket, the order by price and code, and the ticket of moves: what a
+//! search chooses step by step is read off a ticket, compared, and made into the ticket again.
+//! The laws of codes and of their order stand as functions without parameters.
 #![tactic(auto)]
 
 mod keys;
@@ -13,3 +15,6 @@ pub use laws::{codes_tell, order_laws};
 pub use numbers::code;
 pub use roles::moves_of;
 pub use tickets::ticket_of;
+
+#[cfg(test)]
+mod tests;

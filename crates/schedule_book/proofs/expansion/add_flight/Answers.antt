@@ -1,4 +1,4 @@
-use Rattle.std.proofs.Common.{◌≡◌, ◌++◌, ◌∷◌, [], Bool, true, false, not, sym, ap, subst, ◌∙◌}
+use Rattle.std.proofs.Common.{◌≡◌, ◌++◌, ◌∷◌, [], true, false, sym, ap, subst, ◌∙◌}
 use Rattle.std.specs.Bool.{OnTrue, MatchBool}
 use Rattle.std.specs.HashSet.{contains}
 use Rattle.std.proofs.lemmas.Bool.{not-true, not-false}
@@ -18,6 +18,6 @@ pub returns-else-added-clause-added : goal.returns-else-added-clause-added
 returns-else-added-clause-added c =
     let f = c.args.flight in
     let found : contains same c.args.seen.now (number_of f) ≡ true =
-        ap (contains same c.args.seen.now) (sym c.number_of.ensures) ∙ not-false (contains same c.args.seen.now c.number_of.result) (sym c.in_ok-added.ensures.added ∙ c.if-added.false) in
+    ap (contains same c.args.seen.now) (sym c.number_of.ensures) ∙ not-false (contains same c.args.seen.now c.number_of.result) (sym c.in_ok-added.ensures.added ∙ c.if-added.false) in
     subst (λ b. MatchBool b (c.args.flights.now.items ≡ c.args.flights.now.items ++ f ∷ []) (IsAmong f c.args.flights.now.items)) (sym c.if-added.false)
     (seen_among c.args.flights.now.items f c.args.seen.now c.requires found)

@@ -1,10 +1,10 @@
-use Rattle.std.proofs.Common.{◌≡◌, rules, ℤ, pos, ◌+◌, ◌++◌, ◌∷◌, [], ◌+ℤ◌, ◌≤ℤ◌, ◌<ℤ◌, w32, to_z, of_z, Bool, true, false, refl, sym, ap, subst, ◌∙◌, inl, inr, arith}
+use Rattle.std.proofs.Common.{◌≡◌, rules, ℤ, pos, ◌++◌, ◌∷◌, [], ◌+ℤ◌, w32, to_z, of_z, true, false, refl, sym, ap, subst, ◌∙◌, inr, arith}
 use Rattle.std.specs.Bool.{MatchBool, OnTrue}
 use mir.Val.{SFits}
-use Rattle.std.proofs.lemmas.Int.{ints, to_z-of_z}
+use Rattle.std.proofs.lemmas.Int.{to_z-of_z}
 use Rattle.fare_law.specs.Flights.{Dated}
 use Rattle.schedule_book.specs.Days.{names}
-use Rattle.schedule_book.specs.Expansions.{Seen, AddsRow, IsAmong}
+use Rattle.schedule_book.specs.Expansions.{Seen, IsAmong}
 use Rattle.schedule_book.proofs.Numbers.{same}
 use Rattle.schedule_book.proofs.RowFlights.{SoFar, far_first, far_named, far_unnamed, far_next, far_end, far_repeated}
 use Rattle.schedule_book.proofs.expansion.add_row.Goals as goal
@@ -41,16 +41,14 @@ loop-offset-preserved c =
           let dated : Dated row f = w.flight_on-flight.ensures.flight (sym c.names.ensures ∙ w.if-names.true) in
           let pushed : w.add_flight.new.flights.items ≡ before ++ f ∷ [] = subst (λ b. MatchBool b (w.add_flight.new.flights.items ≡ before ++ f ∷ []) (IsAmong f before)) w.if-not-branch.false w.in_ok-add_flight.ensures.added in
           let items : c.if-names.flights.items ≡ w.add_flight.new.flights.items = ap (λ v. v.items) w.flights-is in
-          let kept = subst (λ b. OnTrue b (Seen same w.add_flight.new.flights.items w.add_flight.new.seen)) w.if-not-branch.false w.in_ok-add_flight.ensures.seen in
-          (
+          let kept = subst (λ b. OnTrue b (Seen same w.add_flight.new.flights.items w.add_flight.new.seen)) w.if-not-branch.false w.in_ok-add_flight.ensures.seen in (
             far_next row c.loop-offset.offset old c.if-names.flights.items
                 (far_named row day old before c.if-names.flights.items f c.loop-offset.invariant.0 named dated (w.flight_on-flight.ensures.day ∙ raw_is) (items ∙ pushed)),
             subst (λ fs. Seen same fs c.if-names.seen) (sym items) (subst (Seen same w.add_flight.new.flights.items) (sym w.seen-is) kept),
           )
       | else-names w ↦
           let unnamed : names row day ≡ false = subst (λ d. names row d ≡ false) raw_is (sym c.names.ensures ∙ w.if-names.false) in
-          let items : c.if-names.flights.items ≡ before = ap (λ v. v.items) w.flights-is in
-          (
+          let items : c.if-names.flights.items ≡ before = ap (λ v. v.items) w.flights-is in (
             far_next row c.loop-offset.offset old c.if-names.flights.items (subst (SoFar row (day +ℤ pos 1) old) (sym items) (far_unnamed row day old before c.loop-offset.invariant.0 unnamed)),
             subst (λ fs. Seen same fs c.if-names.seen) (sym items) (subst (Seen same before) (sym w.seen-is) c.loop-offset.invariant.1),
           )

@@ -1,12 +1,9 @@
-use Rattle.std.proofs.Common.{◌≡◌, ◌+◌, pos, ℕ, List, [], take, length, get_or, Result, Ok, Err, IfErr, IfNone, refl, sym, ap, subst, ◌∙◌, arith}
+use Rattle.std.proofs.Common.{pos, [], get_or, refl, subst, arith}
 use Rattle.std.proofs.lemmas.List.{take_all}
 use Rattle.fare_law.specs.declared.rows.FlightRow.{FlightRow}
-use Rattle.schedule_book.specs.declared.faults.SchedFault.{SchedFault}
-use Rattle.schedule_book.specs.Expansions.{Expands, Seen}
-use Rattle.schedule_book.specs.Faults.{NoOwnFault, RowCause, RowsRight}
-use Rattle.schedule_book.proofs.Numbers.{same}
+use Rattle.schedule_book.specs.Faults.{RowsRight}
 use Rattle.schedule_book.proofs.OwnFaults.{own_period}
-use Rattle.schedule_book.proofs.Expanding.{Expanded, expanded_empty, seen_empty, own_cause, twice_cause, many_cause, expanded_next}
+use Rattle.schedule_book.proofs.Expanding.{expanded_empty, seen_empty, own_cause, twice_cause, many_cause, expanded_next}
 use Rattle.schedule_book.proofs.expansion.expand.Goals as goal
 
 abbrev no_row : FlightRow

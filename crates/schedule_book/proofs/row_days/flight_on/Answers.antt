@@ -1,4 +1,4 @@
-use Rattle.std.proofs.Common.{◌≡◌, ℤ, w32, w64, to_z, of_z, refl, sym, subst, ◌∙◌, arith}
+use Rattle.std.proofs.Common.{◌≡◌, w32, to_z, of_z, refl, sym, subst, arith}
 use Rattle.std.proofs.lemmas.Int.{ints, to_z-of_z}
 use Rattle.schedule_book.proofs.RowDays.{names_told, Named}
 use Rattle.schedule_book.proofs.row_days.flight_on.Goals as goal

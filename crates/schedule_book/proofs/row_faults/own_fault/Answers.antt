@@ -1,6 +1,5 @@
-use Rattle.std.proofs.Common.{◌≡◌, ◌⊎◌, ℕ, ◌≤◌, Bool, true, false, refl, sym, ◌∙◌, inl, inr, arith}
-use Rattle.std.proofs.lemmas.Bool.{cases_Bool}
-use Rattle.schedule_book.proofs.OwnFaults.{Passed, at_least, not_later, HasPlaces, HasPeriod, ArrivesLater}
+use Rattle.std.proofs.Common.{◌≡◌, ◌⊎◌, Bool, true, false, refl, inl, inr, arith}
+use Rattle.schedule_book.proofs.OwnFaults.{at_least, not_later}
 use Rattle.schedule_book.proofs.PlaceRows.{known_decided}
 use Rattle.schedule_book.specs.Faults.{IsKnown}
 use Rattle.schedule_book.proofs.row_faults.own_fault.Goals as goal

@@ -9,8 +9,7 @@ pub returns-then-not-is_label : goal.returns-then-not-is_label
 returns-then-not-is_label c =
     let ls = c.args.labels.now in
     let ms = c.args.moves.now in
-    let t = tested ls ms c.loop-i.i c.index-moves-i.result (omega arith) c.loop-i-test.true c.index-moves-i.is c.is_label.result c.is_label.ensures in
-    (
+    let t = tested ls ms c.loop-i.i c.index-moves-i.result (omega arith) c.loop-i-test.true c.index-moves-i.is c.is_label.result c.is_label.ensures in (
       λ t. absurd (cc),
       λ h.
           let r = right_next ls ms c.loop-i.i c.index-moves-i.result (omega arith) c.loop-i-test.true c.index-moves-i.is (c.loop-i.invariant.1 h) in
@@ -21,8 +20,7 @@ pub loop-i-preserved : goal.loop-i-preserved
 loop-i-preserved c =
     let ls = c.args.labels.now in
     let ms = c.args.moves.now in
-    let t = tested ls ms c.loop-i.i c.index-moves-i.result (omega arith) c.loop-i-test.true c.index-moves-i.is c.is_label.result c.is_label.ensures in
-    (
+    let t = tested ls ms c.loop-i.i c.index-moves-i.result (omega arith) c.loop-i-test.true c.index-moves-i.is c.is_label.result c.is_label.ensures in (
       λ h. c.loop-i.invariant.0 (right_before ls ms c.loop-i.i c.index-moves-i.result (omega arith) c.loop-i-test.true c.index-moves-i.is (t.0 c.if-not-is_label.false) h),
       λ h. (right_next ls ms c.loop-i.i c.index-moves-i.result (omega arith) c.loop-i-test.true c.index-moves-i.is (c.loop-i.invariant.1 h)).1,
     )

@@ -26,11 +26,11 @@ returns-in_err-components-clause-none c =
     let ms = c.args.moves.now in
     subst (λ r. IfNone r ((t : Ticket) → TicketOf fs ms t → ⊥)) (sym c.from_residual-in_err-components.ensures)
     (λ t h.
-        let e = c.in_ok-labels.ensures.only (labels t.components) h.numbered (ticket_labels fs ms t h) in
-        let u : labels t.components ≡ c.as_slice.result.now = cc in
-        let parts = subst (λ x. Matched (IsComponent x) ms t.components) (sym c.flights.ensures) (ticket_parts fs ms t h) in
-        let k = c.in_err-components.ensures.only t.components parts u in
-        absurd (cc))
+    let e = c.in_ok-labels.ensures.only (labels t.components) h.numbered (ticket_labels fs ms t h) in
+    let u : labels t.components ≡ c.as_slice.result.now = cc in
+    let parts = subst (λ x. Matched (IsComponent x) ms t.components) (sym c.flights.ensures) (ticket_parts fs ms t h) in
+    let k = c.in_err-components.ensures.only t.components parts u in
+    absurd (cc))
 
 pub returns-clause-ticket : goal.returns-clause-ticket
 returns-clause-ticket c =

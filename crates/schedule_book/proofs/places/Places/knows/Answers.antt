@@ -1,4 +1,4 @@
-use Rattle.std.proofs.Common.{◌≡◌, Option, Some, None, is_some, true, false, refl, sym, ◌∙◌}
+use Rattle.std.proofs.Common.{is_some, sym, ◌∙◌}
 use Rattle.std.proofs.lemmas.Bool.{true_from_ne_false}
 use Rattle.schedule_book.proofs.PlaceRows.{known_told, none_told, known_some}
 use Rattle.schedule_book.proofs.places.Places.knows.Goals as goal

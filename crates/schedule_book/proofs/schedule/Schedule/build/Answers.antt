@@ -1,7 +1,7 @@
-use Rattle.std.proofs.Common.{◌≡◌, sym, ap, subst, ◌∙◌, arith}
+use Rattle.std.proofs.Common.{sym, subst, ◌∙◌, arith}
 use Rattle.std.specs.List.Sorted.{IsPermutation}
 use Rattle.fare_law.specs.Flights.{AreFlights}
-use Rattle.schedule_book.specs.Faults.{HasCause, RowCause}
+use Rattle.schedule_book.specs.Faults.{RowCause}
 use Rattle.schedule_book.proofs.Building.{flights_are, has_cause, written, sorted_length}
 use Rattle.schedule_book.proofs.schedule.Schedule.build.Goals as goal
 
