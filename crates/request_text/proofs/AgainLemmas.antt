@@ -16,7 +16,7 @@ use Rattle.fare_law.specs.declared.names.Place.{Place}
 use Rattle.fare_law.specs.declared.requests.Request.{Request}
 use Rattle.fare_law.specs.declared.requests.Slice.{Slice}
 use Rattle.json_form.specs.Items.{each_item}
-use Rattle.json_form.specs.Names.{IsCapital, IsPlace, place_of}
+use Rattle.name_text.specs.Names.{IsCapital, IsPlace, place_of}
 use Rattle.json_form.specs.Spelled.{spelled}
 use Rattle.request_text.specs.declared.asked.Asked.{Asked}
 use Rattle.request_text.specs.declared.asked.AskedSlice.{AskedSlice}
@@ -85,9 +85,17 @@ none_stays (s ∷ ss) h = rw (leaves s h.0) (none_stays ss h.1)
 allowed_again : (q : Request) → IsRequest q → allowed (all_asked q) ≡ Ok q
 unfolding allowed
 allowed_again q h =
-    rw (length-map, le_true 1 (length q.slices) h.count.0, le_true (length q.slices) 6 h.count.1,
-      le_true 1 q.party h.party.0, le_true q.party 9 h.party.1, le_true 1 q.best h.best.0, le_true q.best 1000 h.best.1,
-      windows_again q.slices h.windows, none_stays q.slices h.departs) refl
+    rw (
+      length-map,
+      le_true 1 (length q.slices) h.count.0,
+      le_true (length q.slices) 6 h.count.1,
+      le_true 1 q.party h.party.0,
+      le_true q.party 9 h.party.1,
+      le_true 1 q.best h.best.0,
+      le_true q.best 1000 h.best.1,
+      windows_again q.slices h.windows,
+      none_stays q.slices h.departs,
+    ) refl
 
 request_again : (q : Request) (d : Data) → IsRequest q → WritesRequest q d → request_spelled d ≡ Ok q
 request_again q d h w = rw (asked_again q d h w, allowed_again q h) refl

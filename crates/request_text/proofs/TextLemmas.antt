@@ -9,7 +9,7 @@ use Rattle.serde_json.specs.declared.value.Value.{Value}
 use Rattle.fare_law.specs.Lists.{Each}
 use Rattle.fare_law.specs.declared.requests.Slice.{Slice}
 use Rattle.fare_law.specs.declared.names.Place.{Place}
-use Rattle.json_form.specs.Names.{IsPlace, IsCapital}
+use Rattle.name_text.specs.Names.{IsPlace, IsCapital}
 use Rattle.request_text.specs.Limits.{HasWindow}
 use Rattle.request_text.specs.Text.{WritesSlice, WritesSlices}
 

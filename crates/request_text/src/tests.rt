@@ -82,7 +82,8 @@ fn reads_requests(rt: HostRuntime) -> Result<(), Fail> {
 
 #[test]
 fn writes_a_request(rt: HostRuntime) -> Result<(), Fail> {
-    let text = br#"{"slices":[{"from":"LON","to":"NYC","first":"2031-03-03","days":1}],"party":1,"sale":"2031-02-01","best":3}"#;
+    let text =
+        br#"{"slices":[{"from":"LON","to":"NYC","first":"2031-03-03","days":1}],"party":1,"sale":"2031-02-01","best":3}"#;
     let request = match read_request(rt.alloc(), text) {
         Ok(request) => request,
         Err(fault) => {
@@ -91,7 +92,8 @@ fn writes_a_request(rt: HostRuntime) -> Result<(), Fail> {
         }
     };
     let written = request_text(rt.alloc(), &request)?;
-    let expected = br#"{"best":3,"party":1,"sale":"2031-02-01","slices":[{"days":1,"first":"2031-03-03","from":"LON","to":"NYC"}]}"#;
+    let expected =
+        br#"{"best":3,"party":1,"sale":"2031-02-01","slices":[{"days":1,"first":"2031-03-03","from":"LON","to":"NYC"}]}"#;
     assert_eq!(rt; written.as_slice(), expected.as_slice());
     Ok(())
 }

@@ -4,7 +4,7 @@ ghost use Rattle.std.specs.Str.{IsAscii};
 ghost use Rattle.serde_json.specs.Data.{object};
 ghost use Rattle.serde_json.specs.View.{view, items_view};
 ghost use Rattle.fare_law.specs.Lists.{Each};
-ghost use Rattle.json_form.specs.Names.{IsPlace};
+ghost use Rattle.name_text.specs.Names.{IsPlace};
 ghost use Rattle.request_text.specs.Limits.{HasWindow, IsRequest};
 ghost use Rattle.request_text.specs.Reading.{request_of};
 ghost use Rattle.request_text.specs.Text as Text;

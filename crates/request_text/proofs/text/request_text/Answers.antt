@@ -12,7 +12,8 @@ returns-clause-text c =
     record {
       json = view c.in_ok-value.value;
       request = w;
-      compact = e ∙ c.in_ok-text.ensures.text (no_float c.args.request.now (view c.in_ok-value.value) w) }
+      compact = e ∙ c.in_ok-text.ensures.text (no_float c.args.request.now (view c.in_ok-value.value) w);
+    }
 
 pub returns-clause-again : goal.returns-clause-again
 returns-clause-again c =
@@ -21,4 +22,4 @@ returns-clause-again c =
     let w = c.in_ok-value.ensures in
     let e : c.from_vec.result ≡ string_bytes c.in_ok-text.text = c.from_vec.ensures ∙ ap (λ v. v.items) c.into_bytes.ensures.value in
     subst (λ (text : List ℕ). request_of text ≡ Ok q) (sym e)
-      (text_again q d (string_bytes c.in_ok-text.text) c.requires w (IsUtf8-string_bytes c.in_ok-text.text) (c.in_ok-text.ensures.reads_back (shallow q d w)))
+    (text_again q d (string_bytes c.in_ok-text.text) c.requires w (IsUtf8-string_bytes c.in_ok-text.text) (c.in_ok-text.ensures.reads_back (shallow q d w)))

@@ -1,0 +1,26 @@
+//! The program: the words and the standard streams go to the top call, whose status it ends with.
+#![tactic(auto)]
+
+use fare_io::{StdSink, StdSource};
+use lowfare::run;
+use std::env;
+use std::process::ExitCode;
+
+/// Memory for the words is wanting.
+const OUT_OF_MEMORY: u8 = 5;
+
+/// The words can't be had from the system for another cause.
+const NO_WORDS: u8 = 9;
+
+fn main(rt: HostRuntime) -> ExitCode {
+    let Ok(all) = env::args(&rt) else {
+        return ExitCode::from(NO_WORDS);
+    };
+    let Ok(words) = all.skip(1).collect::<Vec<String>>(rt.alloc()) else {
+        return ExitCode::from(OUT_OF_MEMORY);
+    };
+    let mut source = StdSource::new(rt.stdin());
+    let mut sink = StdSink::new(rt.stdout());
+    let status = run(rt.alloc(), words.as_slice(), &mut source, &mut sink);
+    ExitCode::from(status.number())
+}
