@@ -3,6 +3,8 @@
 
 mod program;
 mod status;
+#[cfg(test)]
+mod tests;
 
 pub use program::run;
 pub use status::Status;
