@@ -1,0 +1,104 @@
+use Rattle.std.proofs.Common.{◌≡◌, ◌≤◌, Some, None, MatchOption, ◌∙◌, subst, sym, refl, ap, arith}
+use Rattle.best_k.specs.declared.lattice.Choice.TheVariants.{Pair}
+use Rattle.best_k.specs.Parts.{Inside, inside}
+use Rattle.best_k.specs.Tables.{HeldBy, CanTellParts, IsDrawn, count}
+use Rattle.best_k.proofs.Places.{drawn_counts}
+use Rattle.best_k.proofs.Ways.{drawn_rank, leaf_way, alone_way, pair_way, pair_small, no_alone, no_first, no_second}
+use Rattle.best_k.proofs.table.way_at.Goals as goal
+
+pub overflow_add-result : goal.overflow_add-result
+overflow_add-result g c =
+    let l = g.L.Lattice.shape c.args.lattice.now in
+    let laws = g.met.L.Lattice.laws c.args.lattice.now in
+    let p = c.in-Pair-default-Some in
+    let is : l.choice c.args.node c.args.at ≡ Pair p.one (Some p.other) = sym c.choice.ensures ∙ p.is ∙ ap (λ z. Pair p.one z) p.rest-is in
+    let small = subst (λ z. Inside c.args.node z) is (inside l laws c.args.node c.args.at c.requires.node c.requires.at) in
+    let s = pair_small l laws c.args.node c.args.at p.one p.other c.args.first c.args.rest c.in-Some-Some.part c.in-Some-Some.more c.requires.node c.requires.at is
+    (drawn_rank l c.args.table.now c.args.node p.one c.args.first c.in-Some-Some.part c.requires.table small.0 c.in-Some-Some.ensures)
+    (drawn_rank l c.args.table.now c.args.node p.other c.args.rest c.in-Some-Some.more c.requires.table small.1 c.in-Some-Some.ensures') in
+    omega (arith, s.0)
+
+pub overflow_add-result-in-Some-Some : goal.overflow_add-result-in-Some-Some
+overflow_add-result-in-Some-Some g c =
+    let l = g.L.Lattice.shape c.args.lattice.now in
+    let laws = g.met.L.Lattice.laws c.args.lattice.now in
+    let p = c.in-Pair-default-Some in
+    let is : l.choice c.args.node c.args.at ≡ Pair p.one (Some p.other) = sym c.choice.ensures ∙ p.is ∙ ap (λ z. Pair p.one z) p.rest-is in
+    let small = subst (λ z. Inside c.args.node z) is (inside l laws c.args.node c.args.at c.requires.node c.requires.at) in
+    let s = pair_small l laws c.args.node c.args.at p.one p.other c.args.first c.args.rest c.in-Some-Some.part c.in-Some-Some.more c.requires.node c.requires.at is
+    (drawn_rank l c.args.table.now c.args.node p.one c.args.first c.in-Some-Some.part c.requires.table small.0 c.in-Some-Some.ensures)
+    (drawn_rank l c.args.table.now c.args.node p.other c.args.rest c.in-Some-Some.more c.requires.table small.1 c.in-Some-Some.ensures') in
+    omega (arith, s.1)
+
+pub returns-then-rest-eq0-clause-way : goal.returns-then-rest-eq0-clause-way
+returns-then-rest-eq0-clause-way g c =
+    (refl, refl, refl, leaf_way (g.L.Lattice.shape c.args.lattice.now) (g.met.L.Lattice.laws c.args.lattice.now) c.args.node c.args.at c.in-Leaf.price c.in-Leaf.word _ c.requires.node c.requires.at (sym c.choice.ensures ∙ c.in-Leaf.is) refl c.if-first-eq0.true c.if-rest-eq0.true refl c.len-length.ensures.value)
+
+pub returns-in-Some-clause-way : goal.returns-in-Some-clause-way
+returns-in-Some-clause-way g c =
+    let l = g.L.Lattice.shape c.args.lattice.now in
+    let laws = g.met.L.Lattice.laws c.args.lattice.now in
+    let p = c.in-Pair-default-None in
+    let is : l.choice c.args.node c.args.at ≡ Pair p.one None = sym c.choice.ensures ∙ p.is ∙ ap (λ z. Pair p.one z) p.rest-is in
+    let small = subst (λ z. Inside c.args.node z) is (inside l laws c.args.node c.args.at c.requires.node c.requires.at) in (
+      refl,
+      refl,
+      refl,
+      alone_way l laws c.args.node c.args.at p.one _ c.in-Some.part c.requires.node c.requires.at is
+          (drawn_rank l c.args.table.now c.args.node p.one c.args.first c.in-Some.part c.requires.table small c.in-Some.ensures) refl c.if-rest-eq0-2.true refl refl,
+    )
+
+pub returns-in-Some-clause-held : goal.returns-in-Some-clause-held
+returns-in-Some-clause-held g c =
+    let l = g.L.Lattice.shape c.args.lattice.now in
+    let p = c.in-Pair-default-None in
+    let is : l.choice c.args.node c.args.at ≡ Pair p.one None = sym c.choice.ensures ∙ p.is ∙ ap (λ z. Pair p.one z) p.rest-is in
+    subst (λ z. HeldBy c.args.table.now z c.args.first c.args.rest) (sym is) (drawn_counts c.args.table.now p.one c.args.first c.in-Some.part c.in-Some.ensures)
+
+pub returns-in_default-3-clause-way : goal.returns-in_default-3-clause-way
+returns-in_default-3-clause-way g c =
+    let l = g.L.Lattice.shape c.args.lattice.now in
+    let p = c.in-Pair-default-None in
+    let is : l.choice c.args.node c.args.at ≡ Pair p.one None = sym c.choice.ensures ∙ p.is ∙ ap (λ z. Pair p.one z) p.rest-is in
+    no_alone l c.args.table.now c.args.node c.args.at c.args.first c.args.rest p.one is (subst (λ z. CanTellParts l c.args.table.now z c.args.first c.args.rest) is c.requires.tells) c.in_default.ensures
+
+pub returns-in-Some-Some-clause-way : goal.returns-in-Some-Some-clause-way
+returns-in-Some-Some-clause-way g c =
+    let l = g.L.Lattice.shape c.args.lattice.now in
+    let laws = g.met.L.Lattice.laws c.args.lattice.now in
+    let p = c.in-Pair-default-Some in
+    let is : l.choice c.args.node c.args.at ≡ Pair p.one (Some p.other) = sym c.choice.ensures ∙ p.is ∙ ap (λ z. Pair p.one z) p.rest-is in
+    let small = subst (λ z. Inside c.args.node z) is (inside l laws c.args.node c.args.at c.requires.node c.requires.at) in (
+      refl,
+      refl,
+      refl,
+      pair_way l laws c.args.node c.args.at p.one p.other _ c.in-Some-Some.part c.in-Some-Some.more c.requires.node c.requires.at is
+          (drawn_rank l c.args.table.now c.args.node p.one c.args.first c.in-Some-Some.part c.requires.table small.0 c.in-Some-Some.ensures)
+          (drawn_rank l c.args.table.now c.args.node p.other c.args.rest c.in-Some-Some.more c.requires.table small.1 c.in-Some-Some.ensures') refl refl refl,
+    )
+
+pub returns-in-Some-Some-clause-held : goal.returns-in-Some-Some-clause-held
+returns-in-Some-Some-clause-held g c =
+    let l = g.L.Lattice.shape c.args.lattice.now in
+    let p = c.in-Pair-default-Some in
+    let is : l.choice c.args.node c.args.at ≡ Pair p.one (Some p.other) = sym c.choice.ensures ∙ p.is ∙ ap (λ z. Pair p.one z) p.rest-is in
+    subst (λ z. HeldBy c.args.table.now z c.args.first c.args.rest) (sym is)
+    (drawn_counts c.args.table.now p.one c.args.first c.in-Some-Some.part c.in-Some-Some.ensures, drawn_counts c.args.table.now p.other c.args.rest c.in-Some-Some.more c.in-Some-Some.ensures')
+
+pub returns-in_default-2-clause-way : goal.returns-in_default-2-clause-way
+returns-in_default-2-clause-way g c =
+    let l = g.L.Lattice.shape c.args.lattice.now in
+    let p = c.in-Pair-default-Some in
+    let is : l.choice c.args.node c.args.at ≡ Pair p.one (Some p.other) = sym c.choice.ensures ∙ p.is ∙ ap (λ z. Pair p.one z) p.rest-is in
+    let tells = subst (λ z. CanTellParts l c.args.table.now z c.args.first c.args.rest) is c.requires.tells in
+    no_second l c.args.table.now c.args.node c.args.at c.args.first c.args.rest p.one p.other is tells.1 c.in_default-2.ensures'
+
+pub returns-in_default-2-2-clause-way : goal.returns-in_default-2-2-clause-way
+returns-in_default-2-2-clause-way g c =
+    let l = g.L.Lattice.shape c.args.lattice.now in
+    let p = c.in-Pair-default-Some in
+    let is : l.choice c.args.node c.args.at ≡ Pair p.one (Some p.other) = sym c.choice.ensures ∙ p.is ∙ ap (λ z. Pair p.one z) p.rest-is in
+    let tells = subst (λ z. CanTellParts l c.args.table.now z c.args.first c.args.rest) is c.requires.tells in
+    let e = c.drawn-in-Pair-default-Some.ensures in
+    no_first l c.args.table.now c.args.node c.args.at c.args.first c.args.rest p.one p.other is tells.0
+    (subst (λ z. MatchOption z (count c.args.table.now p.one ≤ c.args.first) (IsDrawn c.args.table.now p.one c.args.first)) c.in_default-2.is-0 e)
