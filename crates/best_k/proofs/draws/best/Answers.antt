@@ -1,13 +1,10 @@
 use Rattle.std.proofs.Common.{◌≡◌, ◌⊎◌, ◌≤◌, ◌+◌, ◌++◌, ◌∷◌, [], length, sym, refl, ap, subst, inl, inr, arith, length-append}
 use Rattle.std.proofs.lemmas.Bool.{cases_lt}
 use Rattle.best_k.specs.declared.lattice.Derivation.{Derivation}
-use Rattle.best_k.specs.Ranks.{Nth}
-use Rattle.best_k.specs.Ranked.{ranked}
-use Rattle.best_k.specs.Tables.{IsDrawn, Usable, first_ranks_best}
-use Rattle.best_k.proofs.Places.{count_here}
-use Rattle.best_k.proofs.Ways.{drawn_rank}
-use Rattle.best_k.proofs.Readings.{drawn_held}
-use Rattle.best_k.proofs.Telling.{found_more}
+use Rattle.best_k.specs.Ranked.{Nth, ranked}
+use Rattle.best_k.specs.Tables.{IsDrawn, Usable}
+use Rattle.best_k.proofs.Tables.{count_here, drawn_rank, drawn_held}
+use Rattle.best_k.proofs.Answer.{first_ranks_best, found_more}
 use Rattle.best_k.proofs.draws.best.Goals as goal
 
 pub word_of-word-requires-clause-way : goal.word_of-word-requires-clause-way

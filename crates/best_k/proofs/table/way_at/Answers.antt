@@ -1,9 +1,9 @@
 use Rattle.std.proofs.Common.{◌≡◌, ◌≤◌, Some, None, MatchOption, ◌∙◌, subst, sym, refl, ap, arith}
 use Rattle.best_k.specs.declared.lattice.Choice.TheVariants.{Pair}
-use Rattle.best_k.specs.Parts.{Inside, inside}
 use Rattle.best_k.specs.Tables.{HeldBy, CanTellParts, IsDrawn, count}
-use Rattle.best_k.proofs.Places.{drawn_counts}
-use Rattle.best_k.proofs.Ways.{drawn_rank, leaf_way, alone_way, pair_way, pair_small, no_alone, no_first, no_second}
+use Rattle.best_k.proofs.Apart.{Inside, inside}
+use Rattle.best_k.proofs.Tables.{drawn_counts, drawn_rank}
+use Rattle.best_k.proofs.Making.{leaf_way, alone_way, pair_way, pair_small, no_alone, no_first, no_second}
 use Rattle.best_k.proofs.table.way_at.Goals as goal
 
 pub overflow_add-result : goal.overflow_add-result
