@@ -10,8 +10,6 @@ use Rattle.best_k.specs.Ways.{IsWay, HasRank}
 use Rattle.best_k.proofs.Places.{nth_in, in_nth, nth_short, nth_some, nth_one, nth_more}
 use Rattle.best_k.proofs.Ranks.{nth_under}
 use Rattle.best_k.proofs.Ranked.{ranked_ascending, ranked_are, ranked_has}
-use Rattle.best_k.proofs.Tables.{below}
-use Rattle.best_k.proofs.Making.{past}
 
 -- The k least derivations, from a list of those of the first ranks.
 pub first_ranks_best : (l : Shape) → LatticeLaws l → (node k : ℕ) (ds : List Derivation) → node < l.nodes → ((i : ℕ) (d : Derivation) → Nth ds i d → Nth (ranked l node) i d)

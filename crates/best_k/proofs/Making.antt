@@ -11,7 +11,6 @@ use Rattle.best_k.specs.Ways.{HasParts, IsWay, HasRank, Offered}
 use Rattle.best_k.specs.Tables.{count, CanTell}
 use Rattle.best_k.proofs.Places.{nth_short}
 use Rattle.best_k.proofs.Ways.{way_derives, way_ranked}
-use Rattle.best_k.proofs.Tables.{there}
 
 leaf_is : (l : Shape) (node at price : ℕ) (word : List ℕ) (w : Way) → at < l.choices node → l.choice node at ≡ Leaf price word → w.at ≡ at → w.first ≡ 0 → w.rest ≡ 0 → w.price ≡ price → w.length ≡ length word → IsWay l node w (record { price = price; word = word })
 leaf_is l node at price word w h c e f g p q = record {

@@ -1,4 +1,4 @@
--- The laws of the doubling lattice.
+-- The laws of the lattice of seven nodes. They stand here since an `impl` cites lemmas of `specs` alone.
 use Rattle.std.proofs.Common.{◌≡◌, ℕ, zero, suc, ◌<◌, ◌≤◌, List, [], ◌∷◌, length, sym, refl, ap, subst, arith, ◌+◌, ◌++◌, length-append, Option, Some, None, ◌∙◌, ◌*◌, MatchOption, lit≤}
 use Rattle.best_k.specs.declared.lattice.Choice.TheVariants.{Leaf, Pair}
 use Rattle.best_k.specs.Derivations.{DerivesBy, by_leaf, by_first, by_pair, IsPrefix, LatticeLaws}
