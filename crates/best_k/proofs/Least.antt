@@ -3,7 +3,7 @@ use Rattle.std.proofs.Common.{◌≡◌, ℕ, zero, suc, ◌<◌, ◌≤◌, ◌
 use Rattle.std.proofs.lemmas.Bool.{cases_eq, cases_lt}
 use Rattle.best_k.specs.declared.lattice.Choice.{Choice}
 use Rattle.best_k.specs.declared.lattice.Choice.TheVariants.{Leaf, Pair}
-use Rattle.best_k.specs.declared.table.Node.{Node}
+use Rattle.best_k.specs.declared.table.Progress.{Progress}
 use Rattle.best_k.specs.declared.table.Stage.{Stage}
 use Rattle.best_k.specs.declared.table.Stage.TheVariants.{Fresh, Open, Spent}
 use Rattle.best_k.specs.declared.table.Way.{Way}
@@ -11,31 +11,31 @@ use Rattle.best_k.specs.Derivations.{Shape, LatticeLaws}
 use Rattle.best_k.specs.Ranked.{ranked}
 use Rattle.best_k.specs.Ways.{HasRank, Offered}
 use Rattle.best_k.specs.Frontiers.{AreFirst}
-use Rattle.best_k.specs.Tables.{drawn_of, Held, AllHeld, Usable, CanTell, CanTellParts}
-use Rattle.best_k.specs.Drawing.{IsLesserWay, IsLeastWay, StateOk, NodeOk, TableOk}
+use Rattle.best_k.specs.Tables.{drawn_of, Held, AllHeld, Usable, IsDrawnTo, ArePartsDrawnTo}
+use Rattle.best_k.specs.Drawing.{IsLesserWay, IsLeastWay, IsStage, IsProgress, IsTable}
 use Rattle.best_k.proofs.Apart.{Inside, inside}
 use Rattle.best_k.proofs.Ways.{rank_one, rank_some, rank_short, rank_fewer}
 use Rattle.best_k.proofs.Leading.{leads_rank}
 use Rattle.best_k.proofs.Tables.{there}
 
-state_first : (l : Shape) (t : List Node) (node : ℕ) (drawn queue : List Way) (s : Stage) → StateOk l t node drawn queue s → (0 < length drawn) ⊎ (length drawn ≡ length (ranked l node))
-state_first l t node drawn queue Fresh (w, e, f, g, q) = inl (subst (λ z. 0 < length z) (sym e) (omega arith))
-state_first l t node drawn queue Open k = inl (omega (arith, k.0.1))
-state_first l t node drawn queue Spent k = inr k
+stage_first : (l : Shape) (t : List Progress) (node : ℕ) (drawn queue : List Way) (s : Stage) → IsStage l t node drawn queue s → (0 < length drawn) ⊎ (length drawn ≡ length (ranked l node))
+stage_first l t node drawn queue Fresh (w, e, f, g, q) = inl (subst (λ z. 0 < length z) (sym e) (omega arith))
+stage_first l t node drawn queue Open k = inl (omega (arith, k.last))
+stage_first l t node drawn queue Spent k = inr k
 
-tell_first : (l : Shape) (t : List Node) (n u : ℕ) → TableOk l t n → u < n → CanTell l t u 0
-tell_first l t n u ok h =
+drawn_first : (l : Shape) (t : List Progress) (n u : ℕ) → IsTable l t n → u < n → IsDrawnTo l t u 0
+drawn_first l t n u ok h =
     let x = there t u (omega (arith, ok.long)) in
-    subst (λ z. (0 < drawn_of z) ⊎ (drawn_of z ≡ length (ranked l u))) (sym x.1) (state_first l t u x.0.drawn.items x.0.queue.items x.0.stage (ok.nodes u x.0 h x.1).state)
+    subst (λ z. (0 < drawn_of z) ⊎ (drawn_of z ≡ length (ranked l u))) (sym x.1) (stage_first l t u x.0.drawn.items x.0.queue.items x.0.stage (ok.nodes u x.0 h x.1).state)
 
-tell_choice : (l : Shape) (t : List Node) (n : ℕ) (c : Choice) → TableOk l t n → Inside n c → CanTellParts l t c 0 0
-tell_choice l t n (Leaf price word) ok h = tt
-tell_choice l t n (Pair first None) ok h = tell_first l t n first ok h
-tell_choice l t n (Pair first (Some rest)) ok h = (tell_first l t n first ok h.0, tell_first l t n rest ok h.1)
+drawn_choice : (l : Shape) (t : List Progress) (n : ℕ) (c : Choice) → IsTable l t n → Inside n c → ArePartsDrawnTo l t c 0 0
+drawn_choice l t n (Leaf price word) ok h = tt
+drawn_choice l t n (Pair first None) ok h = drawn_first l t n first ok h
+drawn_choice l t n (Pair first (Some rest)) ok h = (drawn_first l t n first ok h.0, drawn_first l t n rest ok h.1)
 
--- Every node below tells its least way.
-pub tells_least : (l : Shape) → LatticeLaws l → (t : List Node) (node at : ℕ) → node < l.nodes → at < l.choices node → TableOk l t node → CanTellParts l t (l.choice node at) 0 0
-tells_least l laws t node at n k ok = tell_choice l t node (l.choice node at) ok (inside l laws node at n k)
+-- Every node below drawn its least way.
+pub least_drawn : (l : Shape) → LatticeLaws l → (t : List Progress) (node at : ℕ) → node < l.nodes → at < l.choices node → IsTable l t node → ArePartsDrawnTo l t (l.choice node at) 0 0
+least_drawn l laws t node at n k ok = drawn_choice l t node (l.choice node at) ok (inside l laws node at n k)
 
 pub lesser_first : (l : Shape) (node : ℕ) (least : Option Way) (way other : Way) (b : Bool) → least ≡ Some other → b ≡ true → ((r s : ℕ) → HasRank l node way r → HasRank l node other s → IsTrue b ↔ (r < s)) → IsLesserWay l node least way way
 lesser_first l node least way other b e t k = subst (λ z. IsLesserWay l node z way way) (sym e) (inl refl, λ r s u x y z. let a = rank_one l node way r u x z in let c = (k r s x y).0 t in (omega arith, omega arith))
@@ -48,18 +48,18 @@ lesser_second l node least way other b e t k = subst (λ z. IsLesserWay l node z
 )
 
 -- what is known of the least way among the choices below c
-abbrev pub LeastTo : Shape → List Node → ℕ → ℕ → Option Way → Type 0
+abbrev pub LeastTo : Shape → List Progress → ℕ → ℕ → Option Way → Type 0
 LeastTo l t node c None = (w : Way) (r : ℕ) → w.at < c → HasRank l node w r → ⊥
 LeastTo l t node c (Some w) = (w.first ≡ 0) × (w.rest ≡ 0) × Held l t node w × ((r : ℕ) × (HasRank l node w r × ((g : Way) (s : ℕ) → g.at < c → HasRank l node g s → r ≤ s)))
 
-pub least_usable : (l : Shape) (t : List Node) (node c : ℕ) (o : Option Way) → LeastTo l t node c o → IfSome o (Usable l t node)
+pub least_usable : (l : Shape) (t : List Progress) (node c : ℕ) (o : Option Way) → LeastTo l t node c o → IfSome o (Usable l t node)
 least_usable l t node c None h = tt
 least_usable l t node c (Some w) h = record { rank = h.3.0; ranked = h.3.1.0; held = h.2 }
 
-pub least_start : (l : Shape) (t : List Node) (node : ℕ) → LeastTo l t node 0 None
+pub least_start : (l : Shape) (t : List Progress) (node : ℕ) → LeastTo l t node 0 None
 least_start l t node w r h = absurd (omega arith)
 
-pub least_same : (l : Shape) → LatticeLaws l → (t : List Node) (node c : ℕ) (o p : Option Way) → node < l.nodes → p ≡ None → LeastTo l t node c o → Offered l node c 0 0 p → LeastTo l t node (c + 1) o
+pub least_same : (l : Shape) → LatticeLaws l → (t : List Progress) (node c : ℕ) (o p : Option Way) → node < l.nodes → p ≡ None → LeastTo l t node c o → Offered l node c 0 0 p → LeastTo l t node (c + 1) o
 least_same l laws t node c o p n e h k = go o h
   where
     never : (w : Way) (r : ℕ) → w.at ≡ c → HasRank l node w r → ⊥
@@ -69,7 +69,7 @@ least_same l laws t node c o p n e h k = go o h
     go None h = λ w r lt x. elim (cases_lt w.at c) [ inl less ↦ h w r less x | inr ge ↦ never w r (omega arith) x ]
     go (Some v) h = (h.0, h.1, h.2, (h.3.0, (h.3.1.0, λ w r lt x. elim (cases_lt w.at c) [ inl less ↦ h.3.1.1 w r less x | inr ge ↦ absurd (never w r (omega arith) x) ])))
 
-pub least_more : (l : Shape) → LatticeLaws l → (t : List Node) (node c : ℕ) (o p : Option Way) (w x : Way) → node < l.nodes → p ≡ Some w → LeastTo l t node c o → Offered l node c 0 0 p → IfSome p (Held l t node) → IsLesserWay l node o w x → LeastTo l t node (c + 1) (Some x)
+pub least_more : (l : Shape) → LatticeLaws l → (t : List Progress) (node c : ℕ) (o p : Option Way) (w x : Way) → node < l.nodes → p ≡ Some w → LeastTo l t node c o → Offered l node c 0 0 p → IfSome p (Held l t node) → IsLesserWay l node o w x → LeastTo l t node (c + 1) (Some x)
 least_more l laws t node c o p w x n e h k' held' less = go o h less
   where
     k : Offered l node c 0 0 (Some w)
@@ -91,7 +91,7 @@ least_more l laws t node c o p w x n e h k' held' less = go o h less
               subst (λ z. LeastTo l t node (c + 1) (Some z)) (sym same) (h.0, h.1, h.2, (h.3.0, (h.3.1.0, λ g s lt y. elim (cases_lt g.at c) [ inl b ↦ h.3.1.1 g s b y | inr ge ↦ let q = here g s (omega arith) y in omega (arith, r.0) ])))
         ]
 
-pub least_end : (l : Shape) → LatticeLaws l → (t : List Node) (node c : ℕ) (o : Option Way) → node < l.nodes → l.choices node ≤ c → LeastTo l t node c o → IsLeastWay l t node o
+pub least_end : (l : Shape) → LatticeLaws l → (t : List Progress) (node c : ℕ) (o : Option Way) → node < l.nodes → l.choices node ≤ c → LeastTo l t node c o → IsLeastWay l t node o
 least_end l laws t node c None n e h = elim (cases_eq (length (ranked l node)) 0) [
   | inl z ↦ z
   | inr ne ↦ let w = rank_some l laws node 0 n (omega arith) in absurd (h w.0 0 (omega (arith, w.1.is.there)) w.1)
@@ -103,26 +103,26 @@ least_end l laws t node c (Some w) n e h =
     (h.0, h.1, h.2, subst (λ r. HasRank l node w r) z h.3.1.0)
 
 -- a node with its least way
-pub fresh_one : (l : Shape) (t : List Node) (node : ℕ) (o : Option Way) (w : Way) (x : Node) → IsLeastWay l t node o → o ≡ Some w → x.drawn.items ≡ w ∷ [] → x.queue.items ≡ [] → x.stage ≡ Fresh → NodeOk l t node x
-fresh_one l t node o w x h' eo ed eq es =
+pub fresh_some : (l : Shape) (t : List Progress) (node : ℕ) (o : Option Way) (w : Way) (x : Progress) → IsLeastWay l t node o → o ≡ Some w → x.drawn.items ≡ w ∷ [] → x.queue.items ≡ [] → x.stage ≡ Fresh → IsProgress l t node x
+fresh_some l t node o w x h' eo ed eq es =
     let h = subst (λ z. IsLeastWay l t node z) eo h' in
     record {
       first = subst (λ z. AreFirst l node z) (sym ed) (first h.3);
       few = subst (λ z. length z < 2 ^ 64) (sym ed) (lit< tt);
       held = subst (λ z. AllHeld l t node z) (sym ed) (λ v i. elim i [ inl e ↦ subst (λ z. Held l t node z) (sym e) h.2 | inr n ↦ absurd n ]);
-      state = subst (λ z. StateOk l t node x.drawn.items x.queue.items z) (sym es) (w, ed, h.0, h.1, eq);
+      state = subst (λ z. IsStage l t node x.drawn.items x.queue.items z) (sym es) (w, ed, h.0, h.1, eq);
     }
   where
     first : HasRank l node w 0 → AreFirst l node (w ∷ [])
     first k zero v e = subst (λ z. HasRank l node z 0) (sym e) k
     first k (suc i) v e = absurd e
 
-pub fresh_none : (l : Shape) (t : List Node) (node : ℕ) (o : Option Way) (x : Node) → IsLeastWay l t node o → o ≡ None → x.drawn.items ≡ [] → x.stage ≡ Spent → NodeOk l t node x
+pub fresh_none : (l : Shape) (t : List Progress) (node : ℕ) (o : Option Way) (x : Progress) → IsLeastWay l t node o → o ≡ None → x.drawn.items ≡ [] → x.stage ≡ Spent → IsProgress l t node x
 fresh_none l t node o x h' eo ed es =
     let h = subst (λ z. IsLeastWay l t node z) eo h' in
     record {
       first = subst (λ z. AreFirst l node z) (sym ed) (λ i w k. absurd k);
       few = subst (λ z. length z < 2 ^ 64) (sym ed) (lit< tt);
       held = subst (λ z. AllHeld l t node z) (sym ed) (λ w i. absurd i);
-      state = subst (λ z. StateOk l t node x.drawn.items x.queue.items z) (sym es) (ap length ed ∙ sym h);
+      state = subst (λ z. IsStage l t node x.drawn.items x.queue.items z) (sym es) (ap length ed ∙ sym h);
     }

@@ -3,12 +3,12 @@ use Rattle.std.proofs.Common.{◌≡◌, ℕ, ◌<◌, ◌≤◌, List, length, 
 use Rattle.best_k.specs.declared.lattice.Choice.{Choice}
 use Rattle.best_k.specs.declared.lattice.Choice.TheVariants.{Leaf, Pair}
 use Rattle.best_k.specs.declared.lattice.Derivation.{Derivation}
-use Rattle.best_k.specs.declared.table.Node.{Node}
+use Rattle.best_k.specs.declared.table.Progress.{Progress}
 use Rattle.best_k.specs.declared.table.Way.{Way}
 use Rattle.best_k.specs.Derivations.{Shape, LatticeLaws}
 use Rattle.best_k.specs.Ranked.{Nth, join, ranked}
 use Rattle.best_k.specs.Ways.{HasParts, IsWay, HasRank, Offered}
-use Rattle.best_k.specs.Tables.{count, CanTell}
+use Rattle.best_k.specs.Tables.{count, IsDrawnTo}
 use Rattle.best_k.proofs.Places.{nth_short}
 use Rattle.best_k.proofs.Ways.{way_derives, way_ranked}
 
@@ -55,7 +55,7 @@ way_small l laws node r w n x =
     let s = laws.small node w.at _ _ n (way_derives l node w x.derivation x.is) in
     (subst (λ z. z < 2 ^ 63) (sym x.is.price) s.0, subst (λ z. z ≤ 162) (sym x.is.length) s.1)
 
-pub past : (l : Shape) (t : List Node) (u i : ℕ) (d : Derivation) → CanTell l t u i → count t u ≤ i → Nth (ranked l u) i d → ⊥
+pub past : (l : Shape) (t : List Progress) (u i : ℕ) (d : Derivation) → IsDrawnTo l t u i → count t u ≤ i → Nth (ranked l u) i d → ⊥
 past l t u i d (inl lt) le k = omega arith
 past l t u i d (inr e) le k = let s = nth_short (ranked l u) i d k in omega arith
 
@@ -72,11 +72,11 @@ no_leaf l node at i j price word c n w r e f g x = let p = parts_at l node at i 
 pub no_rest : (l : Shape) (node at i j one : ℕ) → l.choice node at ≡ Pair one None → (j ≡ 0 → ⊥) → Offered l node at i j None
 no_rest l node at i j one c n w r e f g x = let p = parts_at l node at i j r (Pair one None) w c e f g x in n p.0
 
-pub no_alone : (l : Shape) (t : List Node) (node at i j one : ℕ) → l.choice node at ≡ Pair one None → CanTell l t one i → count t one ≤ i → Offered l node at i j None
-no_alone l t node at i j one c tell le w r e f g x = let p = parts_at l node at i j r (Pair one None) w c e f g x in past l t one i x.derivation tell le p.1
+pub no_alone : (l : Shape) (t : List Progress) (node at i j one : ℕ) → l.choice node at ≡ Pair one None → IsDrawnTo l t one i → count t one ≤ i → Offered l node at i j None
+no_alone l t node at i j one c known le w r e f g x = let p = parts_at l node at i j r (Pair one None) w c e f g x in past l t one i x.derivation known le p.1
 
-pub no_first : (l : Shape) (t : List Node) (node at i j one other : ℕ) → l.choice node at ≡ Pair one (Some other) → CanTell l t one i → count t one ≤ i → Offered l node at i j None
-no_first l t node at i j one other c tell le w r e f g x = let p = parts_at l node at i j r (Pair one (Some other)) w c e f g x in past l t one i p.0 tell le p.2
+pub no_first : (l : Shape) (t : List Progress) (node at i j one other : ℕ) → l.choice node at ≡ Pair one (Some other) → IsDrawnTo l t one i → count t one ≤ i → Offered l node at i j None
+no_first l t node at i j one other c known le w r e f g x = let p = parts_at l node at i j r (Pair one (Some other)) w c e f g x in past l t one i p.0 known le p.2
 
-pub no_second : (l : Shape) (t : List Node) (node at i j one other : ℕ) → l.choice node at ≡ Pair one (Some other) → CanTell l t other j → count t other ≤ j → Offered l node at i j None
-no_second l t node at i j one other c tell le w r e f g x = let p = parts_at l node at i j r (Pair one (Some other)) w c e f g x in past l t other j p.1 tell le p.3
+pub no_second : (l : Shape) (t : List Progress) (node at i j one other : ℕ) → l.choice node at ≡ Pair one (Some other) → IsDrawnTo l t other j → count t other ≤ j → Offered l node at i j None
+no_second l t node at i j one other c known le w r e f g x = let p = parts_at l node at i j r (Pair one (Some other)) w c e f g x in past l t other j p.1 known le p.3

@@ -2,7 +2,7 @@
 use Rattle.std.proofs.Common.{◌≡◌, ℕ, zero, suc, ◌<◌, ◌≢◌, List, [], ◌∷◌, sym, refl, ap, subst, inl, inr, arith, ◌+◌, Option, Some, None, ◌∙◌, MatchOption}
 use Rattle.std.proofs.lemmas.Bool.{cases_order}
 use Rattle.fare_law.specs.Lists.{IsIn}
-use Rattle.best_k.specs.declared.table.Node.{Node}
+use Rattle.best_k.specs.declared.table.Progress.{Progress}
 use Rattle.best_k.specs.declared.table.Way.{Way}
 use Rattle.best_k.specs.Derivations.{Shape, LatticeLaws}
 use Rattle.best_k.specs.Ranked.{Nth}
@@ -70,5 +70,5 @@ begun l laws node least queue n h e0 e1 b = record {
     first zero w k = subst (λ z. HasRank l node z 0) (sym k) h
     first (suc i) w k = absurd k
 
-pub begun_offered : (l : Shape) → LatticeLaws l → (t : List Node) (node : ℕ) (least : Way) (c : ℕ) (queue queue' : List Way) → node < l.nodes → c ≢ least.at → BegunTo l node least c queue → IsOffered l t node c 0 0 queue queue' → BegunTo l node least (c + 1) queue'
+pub begun_offered : (l : Shape) → LatticeLaws l → (t : List Progress) (node : ℕ) (least : Way) (c : ℕ) (queue queue' : List Way) → node < l.nodes → c ≢ least.at → BegunTo l node least c queue → IsOffered l t node c 0 0 queue queue' → BegunTo l node least (c + 1) queue'
 begun_offered l laws t node least c queue queue' n ne b o = begun_more l laws node least c queue queue' o.way n ne b o.offered o.moves

@@ -1,6 +1,6 @@
 use Rattle.std.proofs.Common.{◌≡◌, ◌≤◌, Some, None, MatchOption, ◌∙◌, subst, sym, refl, ap, arith}
 use Rattle.best_k.specs.declared.lattice.Choice.TheVariants.{Pair}
-use Rattle.best_k.specs.Tables.{HeldBy, CanTellParts, IsDrawn, count}
+use Rattle.best_k.specs.Tables.{HeldBy, ArePartsDrawnTo, IsDrawn, count}
 use Rattle.best_k.proofs.Apart.{Inside, inside}
 use Rattle.best_k.proofs.Tables.{drawn_counts, drawn_rank}
 use Rattle.best_k.proofs.Making.{leaf_way, alone_way, pair_way, pair_small, no_alone, no_first, no_second}
@@ -60,7 +60,7 @@ returns-in_default-3-clause-way g c =
     let l = g.L.Lattice.shape c.args.lattice.now in
     let p = c.in-Pair-default-None in
     let is : l.choice c.args.node c.args.at ≡ Pair p.one None = sym c.choice.ensures ∙ p.is ∙ ap (λ z. Pair p.one z) p.rest-is in
-    no_alone l c.args.table.now c.args.node c.args.at c.args.first c.args.rest p.one is (subst (λ z. CanTellParts l c.args.table.now z c.args.first c.args.rest) is c.requires.tells) c.in_default.ensures
+    no_alone l c.args.table.now c.args.node c.args.at c.args.first c.args.rest p.one is (subst (λ z. ArePartsDrawnTo l c.args.table.now z c.args.first c.args.rest) is c.requires.parts) c.in_default.ensures
 
 pub returns-in-Some-Some-clause-way : goal.returns-in-Some-Some-clause-way
 returns-in-Some-Some-clause-way g c =
@@ -90,15 +90,15 @@ returns-in_default-2-clause-way g c =
     let l = g.L.Lattice.shape c.args.lattice.now in
     let p = c.in-Pair-default-Some in
     let is : l.choice c.args.node c.args.at ≡ Pair p.one (Some p.other) = sym c.choice.ensures ∙ p.is ∙ ap (λ z. Pair p.one z) p.rest-is in
-    let tells = subst (λ z. CanTellParts l c.args.table.now z c.args.first c.args.rest) is c.requires.tells in
-    no_second l c.args.table.now c.args.node c.args.at c.args.first c.args.rest p.one p.other is tells.1 c.in_default-2.ensures'
+    let drawn = subst (λ z. ArePartsDrawnTo l c.args.table.now z c.args.first c.args.rest) is c.requires.parts in
+    no_second l c.args.table.now c.args.node c.args.at c.args.first c.args.rest p.one p.other is drawn.1 c.in_default-2.ensures'
 
 pub returns-in_default-2-2-clause-way : goal.returns-in_default-2-2-clause-way
 returns-in_default-2-2-clause-way g c =
     let l = g.L.Lattice.shape c.args.lattice.now in
     let p = c.in-Pair-default-Some in
     let is : l.choice c.args.node c.args.at ≡ Pair p.one (Some p.other) = sym c.choice.ensures ∙ p.is ∙ ap (λ z. Pair p.one z) p.rest-is in
-    let tells = subst (λ z. CanTellParts l c.args.table.now z c.args.first c.args.rest) is c.requires.tells in
+    let drawn = subst (λ z. ArePartsDrawnTo l c.args.table.now z c.args.first c.args.rest) is c.requires.parts in
     let e = c.drawn-in-Pair-default-Some.ensures in
-    no_first l c.args.table.now c.args.node c.args.at c.args.first c.args.rest p.one p.other is tells.0
+    no_first l c.args.table.now c.args.node c.args.at c.args.first c.args.rest p.one p.other is drawn.0
     (subst (λ z. MatchOption z (count c.args.table.now p.one ≤ c.args.first) (IsDrawn c.args.table.now p.one c.args.first)) c.in_default-2.is-0 e)

@@ -5,15 +5,14 @@ use Rattle.fare_law.specs.Lists.{IsIn, EachPair, Each}
 use Rattle.best_k.specs.declared.lattice.Derivation.{Derivation}
 use Rattle.best_k.specs.declared.table.Way.{Way}
 use Rattle.best_k.specs.Derivations.{Shape, Derives, Under, BestDerivations, LatticeLaws}
-use Rattle.best_k.specs.Ranked.{Nth, ranked}
+use Rattle.best_k.specs.Ranked.{Nth, ranked, AreFirstDerivations}
 use Rattle.best_k.specs.Ways.{IsWay, HasRank}
 use Rattle.best_k.proofs.Places.{nth_in, in_nth, nth_short, nth_some, nth_one, nth_more}
 use Rattle.best_k.proofs.Ranks.{nth_under}
 use Rattle.best_k.proofs.Ranked.{ranked_ascending, ranked_are, ranked_has}
 
 -- The k least derivations, from a list of those of the first ranks.
-pub first_ranks_best : (l : Shape) → LatticeLaws l → (node k : ℕ) (ds : List Derivation) → node < l.nodes → ((i : ℕ) (d : Derivation) → Nth ds i d → Nth (ranked l node) i d)
-    → length ds ≤ k → (length ds ≡ k) ⊎ (length ds ≡ length (ranked l node)) → BestDerivations l node k ds
+pub first_ranks_best : (l : Shape) → LatticeLaws l → (node k : ℕ) (ds : List Derivation) → node < l.nodes → AreFirstDerivations l node ds → length ds ≤ k → (length ds ≡ k) ⊎ (length ds ≡ length (ranked l node)) → BestDerivations l node k ds
 first_ranks_best l laws node k ds n h few full = record {
   ascending = up ds (λ i j x y a b lt. nth_under (ranked l node) i j x y (ranked_ascending l node) (h i x a) (h j y b) lt);
   each = all ds (λ i d a. ranked_are l node d (nth_in (ranked l node) i d (h i d a)));
@@ -46,7 +45,7 @@ first_ranks_best l laws node k ds n h few full = record {
 
 -- one more derivation is found
 pub found_more : (l : Shape) (node rank : ℕ) (ds : List Derivation) (way : Way) (e : Derivation) → HasRank l node way rank → e.price ≡ way.price → ((d : Derivation) → IsWay l node way d → e.word ≡ d.word) → length ds ≡ rank
-    → ((i : ℕ) (d : Derivation) → Nth ds i d → Nth (ranked l node) i d) → (i : ℕ) (d : Derivation) → Nth (ds ++ e ∷ []) i d → Nth (ranked l node) i d
+    → AreFirstDerivations l node ds → AreFirstDerivations l node (ds ++ e ∷ [])
 found_more l node rank ds way e h p w len all i d k = elim (nth_more ds e i d k) [
   | inl a ↦ all i d a
   | inr (a, s) ↦
