@@ -55,14 +55,14 @@ fn fresh_progress<L: Lattice>(
     alloc: Global,
     lattice: &L,
     table: &[Progress],
-    at: u64,
+    node: u64,
 ) -> Result<Progress, Mem>
-    requires node { at < (L.shape lattice.now).nodes }
-    requires table { IsTable (L.shape lattice.now) table.now at }
-    ensures { IfOk result (IsProgress (L.shape lattice.now) table.now at) }
+    requires node { node < (L.shape lattice.now).nodes }
+    requires table { IsTable (L.shape lattice.now) table.now node }
+    ensures { IfOk result (IsProgress (L.shape lattice.now) table.now node) }
 {
     let queue = Vec::new(alloc);
-    match least_way(lattice, table, at) {
+    match least_way(lattice, table, node) {
         Some(way) => {
             let mut drawn = Vec::with_capacity(alloc, 1)?;
             drawn.push(way)?;
@@ -86,8 +86,8 @@ pub fn least_ways<L: Lattice>(alloc: Global, lattice: &L, node: u64) -> Result<V
     ensures { IfOk result (λ table. IsTableOf (L.shape lattice.now) table.items (node + 1)) }
 {
     let mut table: Vec<Progress> = Vec::new(alloc);
-    for at in 0..node {
-        let fresh = fresh_progress(alloc, lattice, table.as_slice(), at)?;
+    for below in 0..node {
+        let fresh = fresh_progress(alloc, lattice, table.as_slice(), below)?;
         table.push(fresh)?;
     }
     let fresh = fresh_progress(alloc, lattice, table.as_slice(), node)?;

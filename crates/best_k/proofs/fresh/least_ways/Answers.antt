@@ -3,17 +3,17 @@ use Rattle.best_k.specs.Drawing.{IsTableOf, IsProgress}
 use Rattle.best_k.proofs.Tables.{table_pushed}
 use Rattle.best_k.proofs.fresh.least_ways.Goals as goal
 
-pub loop-at-preserved : goal.loop-at-preserved
-loop-at-preserved g c =
+pub loop-below-preserved : goal.loop-below-preserved
+loop-below-preserved g c =
     let l = g.L.Lattice.shape c.args.lattice.now in
     let laws = g.met.L.Lattice.laws c.args.lattice.now in
-    let new = subst (λ z. IsProgress l z c.loop-at.at c.in_ok-fresh.fresh) c.as_slice.ensures.value c.in_ok-fresh.ensures in
-    subst (λ z. IsTableOf l z (c.loop-at.at + 1)) (sym c.in_ok-push.ensures.items) (table_pushed l laws c.loop-at.table.items c.loop-at.at c.in_ok-fresh.fresh (omega (arith, c.requires, c.loop-at-test.true)) c.loop-at.invariant new)
+    let new = subst (λ z. IsProgress l z c.loop-below.below c.in_ok-fresh.fresh) c.as_slice.ensures.value c.in_ok-fresh.ensures in
+    subst (λ z. IsTableOf l z (c.loop-below.below + 1)) (sym c.in_ok-push.ensures.items) (table_pushed l laws c.loop-below.table.items c.loop-below.below c.in_ok-fresh.fresh (omega (arith, c.requires, c.loop-below-test.true)) c.loop-below.invariant new)
 
 pub returns : goal.returns
 returns g c =
     let l = g.L.Lattice.shape c.args.lattice.now in
     let laws = g.met.L.Lattice.laws c.args.lattice.now in
-    let e : c.loop-at.at ≡ c.args.node = omega (arith, c.loop-at-test.false, c.loop-at.auto.at-end) in
+    let e : c.loop-below.below ≡ c.args.node = omega (arith, c.loop-below-test.false, c.loop-below.auto.below-end) in
     let new = subst (λ z. IsProgress l z c.args.node c.in_ok-fresh-2.fresh) c.as_slice-2.ensures.value c.in_ok-fresh-2.ensures in
-    subst (λ z. IsTableOf l z (c.args.node + 1)) (sym c.in_ok-push-2.ensures.items) (table_pushed l laws c.loop-at.table.items c.args.node c.in_ok-fresh-2.fresh c.requires (subst (λ z. IsTableOf l c.loop-at.table.items z) e c.loop-at.invariant) new)
+    subst (λ z. IsTableOf l z (c.args.node + 1)) (sym c.in_ok-push-2.ensures.items) (table_pushed l laws c.loop-below.table.items c.args.node c.in_ok-fresh-2.fresh c.requires (subst (λ z. IsTableOf l c.loop-below.table.items z) e c.loop-below.invariant) new)
