@@ -12,13 +12,15 @@ Inside n (Leaf price word) = Unit {0}
 Inside n (Pair first None) = first < n
 Inside n (Pair first (Some rest)) = (first < n) × (rest < n)
 
-inside_at : (l : Shape) → LatticeLaws l → (node at : ℕ) → node < l.nodes → at < l.choices node → (c : Choice) → l.choice node at ≡ c → Inside node c
+inside_at : (l : Shape) → LatticeLaws l → (node at : ℕ) → node < l.nodes → at < l.choices node → (c : Choice)
+    → l.choice node at ≡ c → Inside node c
 inside_at l laws node at h k (Leaf price word) e = tt
 inside_at l laws node at h k (Pair first None) e = (laws.smaller node at first None h k e).0
 inside_at l laws node at h k (Pair first (Some rest)) e = let s = laws.smaller node at first (Some rest) h k e in (s.0, s.1)
 
 -- a choice names smaller nodes
-pub inside : (l : Shape) → LatticeLaws l → (node at : ℕ) → node < l.nodes → at < l.choices node → Inside node (l.choice node at)
+pub inside : (l : Shape) → LatticeLaws l → (node at : ℕ) → node < l.nodes → at < l.choices node
+    → Inside node (l.choice node at)
 inside l laws node at h k = inside_at l laws node at h k (l.choice node at) refl
 
 inside_more : (m n : ℕ) (c : Choice) → m ≤ n → Inside m c → Inside n c
@@ -26,19 +28,23 @@ inside_more m n (Leaf price word) h k = tt
 inside_more m n (Pair first None) h k = omega arith
 inside_more m n (Pair first (Some rest)) h k = (omega arith, omega arith)
 
-pub named : (l : Shape) → LatticeLaws l → (node at : ℕ) → node < l.nodes → at < l.choices node → Inside l.nodes (l.choice node at)
+pub named : (l : Shape) → LatticeLaws l → (node at : ℕ) → node < l.nodes → at < l.choices node
+    → Inside l.nodes (l.choice node at)
 named l laws node at h k = inside_more node l.nodes (l.choice node at) (omega arith) (inside l laws node at h k)
 
 -- one is a front of the other
 abbrev pub Comparable : List ℕ → List ℕ → Type 0
 Comparable v w = IsPrefix v w ⊎ IsPrefix w v
 
-pub choices_same : (l : Shape) → LatticeLaws l → (node at p at' r : ℕ) (v w : List ℕ) → DerivesBy l node at p v → DerivesBy l node at' r w → node < l.nodes → Comparable v w → at ≡ at'
+pub choices_same : (l : Shape) → LatticeLaws l → (node at p at' r : ℕ) (v w : List ℕ)
+    → DerivesBy l node at p v → DerivesBy l node at' r w → node < l.nodes → Comparable v w → at ≡ at'
 choices_same l laws node at p at' r v w d e h (inl f) = laws.apart node at at' p r v w h d e f
 choices_same l laws node at p at' r v w d e h (inr f) = sym (laws.apart node at' at r p w v h e d f)
 
 -- No word of a node's derivations begins with another.
-words_apart : (l : Shape) → LatticeLaws l → (node at p : ℕ) (v : List ℕ) → DerivesBy l node at p v → (at' r : ℕ) (w : List ℕ) → DerivesBy l node at' r w → node < l.nodes → Comparable v w → (p ≡ r) × (v ≡ w)
+words_apart : (l : Shape) → LatticeLaws l → (node at p : ℕ) (v : List ℕ) → DerivesBy l node at p v
+    → (at' r : ℕ) (w : List ℕ) → DerivesBy l node at' r w → node < l.nodes → Comparable v w
+    → (p ≡ r) × (v ≡ w)
 words_apart l laws node at p v (by_leaf k e) at' r w (by_leaf k' e') h f =
     let s = choices_same l laws node at p at' r v w (by_leaf k e) (by_leaf k' e') h f in
     let t : Leaf p v ≡ Leaf r w = sym e ∙ ap (λ z. l.choice node z) s ∙ e' in
@@ -91,5 +97,6 @@ words_apart l laws node at p v (by_pair {p = p1} {r = p2} {v = v1} {w = v2} firs
     end v w x y e (inl f) = inl (cancel_front w x y (subst (λ z. IsPrefix (z ++ x) (w ++ y)) e f))
     end v w x y e (inr f) = inr (cancel_front w y x (subst (λ z. IsPrefix (w ++ y) (z ++ x)) e f))
 
-pub derivations_apart : (l : Shape) → LatticeLaws l → (node : ℕ) (d e : Derivation) → node < l.nodes → Derives l node d → Derives l node e → IsPrefix d.word e.word → d ≡ e
+pub derivations_apart : (l : Shape) → LatticeLaws l → (node : ℕ) (d e : Derivation) → node < l.nodes
+    → Derives l node d → Derives l node e → IsPrefix d.word e.word → d ≡ e
 derivations_apart l laws node d e h (at, k) (at', k') f = let r = words_apart l laws node at d.price d.word k at' e.price e.word k' h (inl f) in λ i. record { price = r.0 i; word = r.1 i }

@@ -17,23 +17,28 @@ use Rattle.best_k.proofs.Frontiers.{drawn_few}
 use Rattle.best_k.proofs.Tables.{set_other, set_here, set_long, below, progress_grows, still, kept}
 
 -- what a choice's parts ask of the nodes below
-pub first_near : (l : Shape) (t : List Progress) (c : Choice) (i j first : ℕ) (rest : Option ℕ) → c ≡ Pair first rest → HeldBy t c i j → AreDrawn l t first (i + 1)
+pub first_near : (l : Shape) (t : List Progress) (c : Choice) (i j first : ℕ) (rest : Option ℕ)
+    → c ≡ Pair first rest → HeldBy t c i j → AreDrawn l t first (i + 1)
 first_near l t c i j first rest e h = go rest (subst (λ z. HeldBy t z i j) e h)
   where
     go : (rest : Option ℕ) → HeldBy t (Pair first rest) i j → AreDrawn l t first (i + 1)
     go None k = inl (omega arith)
     go (Some other) k = inl (omega (arith, k.0))
 
-pub rest_near : (l : Shape) (t : List Progress) (c : Choice) (i j first other : ℕ) → c ≡ Pair first (Some other) → HeldBy t c i j → AreDrawn l t other (j + 1)
+pub rest_near : (l : Shape) (t : List Progress) (c : Choice) (i j first other : ℕ)
+    → c ≡ Pair first (Some other) → HeldBy t c i j → AreDrawn l t other (j + 1)
 rest_near l t c i j first other e h = let k = subst (λ z. HeldBy t z i j) e h in inl (omega (arith, k.1))
 
-pub smaller_first : (l : Shape) → LatticeLaws l → (node at first : ℕ) (rest : Option ℕ) → node < l.nodes → at < l.choices node → l.choice node at ≡ Pair first rest → first < node
+pub smaller_first : (l : Shape) → LatticeLaws l → (node at first : ℕ) (rest : Option ℕ) → node < l.nodes
+    → at < l.choices node → l.choice node at ≡ Pair first rest → first < node
 smaller_first l laws node at first rest n k e = (laws.smaller node at first rest n k e).0
 
-pub smaller_rest : (l : Shape) → LatticeLaws l → (node at first other : ℕ) → node < l.nodes → at < l.choices node → l.choice node at ≡ Pair first (Some other) → other < node
+pub smaller_rest : (l : Shape) → LatticeLaws l → (node at first other : ℕ) → node < l.nodes
+    → at < l.choices node → l.choice node at ≡ Pair first (Some other) → other < node
 smaller_rest l laws node at first other n k e = (laws.smaller node at first (Some other) n k e).1
 
-pub draws_leaf : (l : Shape) (t : List Progress) (at price : ℕ) (word : List ℕ) (w : Way) → IsTable l t (at + 1) → l.choice at w.at ≡ Leaf price word → DrawsParts l t t at w
+pub draws_leaf : (l : Shape) (t : List Progress) (at price : ℕ) (word : List ℕ) (w : Way)
+    → IsTable l t (at + 1) → l.choice at w.at ≡ Leaf price word → DrawsParts l t t at w
 draws_leaf l t at price word w ok e = record {
   table = ok;
   long = refl;
@@ -42,7 +47,9 @@ draws_leaf l t at price word w ok e = record {
   reached = subst (λ z. ArePartsDrawnTo l t z w.first (w.rest + 1) × (w.rest ≡ 0 → ArePartsDrawnTo l t z (w.first + 1) 0)) (sym e) (tt, λ z. tt);
 }
 
-pub draws_alone : (l : Shape) → LatticeLaws l → (t t' : List Progress) (at first : ℕ) (w : Way) → at < l.nodes → IsTable l t (at + 1) → Usable l t at w → l.choice at w.at ≡ Pair first None → DrawsTo l t t' first (w.first + 1) → DrawsParts l t t' at w
+pub draws_alone : (l : Shape) → LatticeLaws l → (t t' : List Progress) (at first : ℕ) (w : Way) → at < l.nodes
+    → IsTable l t (at + 1) → Usable l t at w → l.choice at w.at ≡ Pair first None
+    → DrawsTo l t t' first (w.first + 1) → DrawsParts l t t' at w
 draws_alone l laws t t' at first w n ok usable e drew =
     let less = smaller_first l laws at w.at first None n usable.ranked.is.there e in
     let held = subst (λ z. HeldBy t z w.first w.rest) e usable.held in
@@ -55,7 +62,9 @@ draws_alone l laws t t' at first w n ok usable e drew =
       reached = subst (λ z. ArePartsDrawnTo l t' z w.first (w.rest + 1) × (w.rest ≡ 0 → ArePartsDrawnTo l t' z (w.first + 1) 0)) (sym e) (inl (omega arith), λ z. drew.reached);
     }
 
-pub draws_rest : (l : Shape) → LatticeLaws l → (t t' : List Progress) (at first other : ℕ) (w : Way) → at < l.nodes → IsTable l t (at + 1) → Usable l t at w → l.choice at w.at ≡ Pair first (Some other) → DrawsTo l t t' other (w.rest + 1) → (w.rest ≡ 0 → ⊥) → DrawsParts l t t' at w
+pub draws_rest : (l : Shape) → LatticeLaws l → (t t' : List Progress) (at first other : ℕ) (w : Way)
+    → at < l.nodes → IsTable l t (at + 1) → Usable l t at w → l.choice at w.at ≡ Pair first (Some other)
+    → DrawsTo l t t' other (w.rest + 1) → (w.rest ≡ 0 → ⊥) → DrawsParts l t t' at w
 draws_rest l laws t t' at first other w n ok usable e drew ne =
     let less = smaller_rest l laws at w.at first other n usable.ranked.is.there e in
     let held = subst (λ z. HeldBy t z w.first w.rest) e usable.held in
@@ -69,7 +78,9 @@ draws_rest l laws t t' at first other w n ok usable e drew ne =
     }
 
 -- what stands after the first of two was drawn on
-pub between : (l : Shape) → LatticeLaws l → (t t' : List Progress) (at first other : ℕ) (w : Way) → at < l.nodes → IsTable l t (at + 1) → Usable l t at w → l.choice at w.at ≡ Pair first (Some other) → DrawsTo l t t' other (w.rest + 1) → IsTable l t' (first + 1) × AreDrawn l t' first (w.first + 1)
+pub between : (l : Shape) → LatticeLaws l → (t t' : List Progress) (at first other : ℕ) (w : Way)
+    → at < l.nodes → IsTable l t (at + 1) → Usable l t at w → l.choice at w.at ≡ Pair first (Some other)
+    → DrawsTo l t t' other (w.rest + 1) → IsTable l t' (first + 1) × AreDrawn l t' first (w.first + 1)
 between l laws t t' at first other w n ok usable e drew =
     let less = smaller_rest l laws at w.at first other n usable.ranked.is.there e in
     let less' = smaller_first l laws at w.at first (Some other) n usable.ranked.is.there e in
@@ -77,7 +88,10 @@ between l laws t t' at first other w n ok usable e drew =
     let g = drew.grows first in
     (below l t' (at + 1) (first + 1) (omega arith) (kept l laws t t' at other (w.rest + 1) n less ok drew), inl (omega (arith, held.0)))
 
-pub draws_both : (l : Shape) → LatticeLaws l → (t t' t2 : List Progress) (at first other : ℕ) (w : Way) → at < l.nodes → IsTable l t (at + 1) → Usable l t at w → l.choice at w.at ≡ Pair first (Some other) → DrawsTo l t t' other (w.rest + 1) → DrawsTo l t' t2 first (w.first + 1) → w.rest ≡ 0 → DrawsParts l t t2 at w
+pub draws_both : (l : Shape) → LatticeLaws l → (t t' t2 : List Progress) (at first other : ℕ) (w : Way)
+    → at < l.nodes → IsTable l t (at + 1) → Usable l t at w → l.choice at w.at ≡ Pair first (Some other)
+    → DrawsTo l t t' other (w.rest + 1) → DrawsTo l t' t2 first (w.first + 1) → w.rest ≡ 0
+    → DrawsParts l t t2 at w
 draws_both l laws t t' t2 at first other w n ok usable e drew more ez =
     let less = smaller_rest l laws at w.at first other n usable.ranked.is.there e in
     let less' = smaller_first l laws at w.at first (Some other) n usable.ranked.is.there e in
@@ -97,14 +111,17 @@ draws_both l laws t t' t2 at first other w n ok usable e drew more ez =
       reached = subst (λ z. ArePartsDrawnTo l t2 z w.first (w.rest + 1) × (w.rest ≡ 0 → ArePartsDrawnTo l t2 z (w.first + 1) 0)) (sym e) ((inl (omega (arith, held.0)), drawn_other), λ z. (more.reached, drawn_zero));
     }
 
-pub draws_drawn : (l : Shape) (t : List Progress) (at rank : ℕ) → IsTable l t (at + 1) → rank < count t at → DrawsTo l t t at rank
+pub draws_drawn : (l : Shape) (t : List Progress) (at rank : ℕ) → IsTable l t (at + 1) → rank < count t at
+    → DrawsTo l t t at rank
 draws_drawn l t at rank ok h = record { table = ok; long = refl; same = λ u k. refl; grows = λ u. omega arith; reached = inl h }
 
-pub draws_spent : (l : Shape) (t : List Progress) (at rank : ℕ) → IsTable l t (at + 1) → count t at ≡ length (ranked l at) → DrawsTo l t t at rank
+pub draws_spent : (l : Shape) (t : List Progress) (at rank : ℕ) → IsTable l t (at + 1)
+    → count t at ≡ length (ranked l at) → DrawsTo l t t at rank
 draws_spent l t at rank ok h = record { table = ok; long = refl; same = λ u k. refl; grows = λ u. omega arith; reached = inr h }
 
 -- a node of which not all is drawn has a last drawn way
-pub last_usable : (l : Shape) (t : List Progress) (at : ℕ) (x : Progress) → IsProgress l t at x → (x.stage ≡ Spent → ⊥) → 0 < length x.drawn.items
+pub last_usable : (l : Shape) (t : List Progress) (at : ℕ) (x : Progress) → IsProgress l t at x
+    → (x.stage ≡ Spent → ⊥) → 0 < length x.drawn.items
 last_usable l t at x ok ns = go x.drawn.items x.queue.items x.stage refl ok.state
   where
     go : (drawn queue : List Way) (s : Stage) → x.stage ≡ s → IsStage l t at drawn queue s → 0 < length drawn
@@ -112,15 +129,18 @@ last_usable l t at x ok ns = go x.drawn.items x.queue.items x.stage refl ok.stat
     go drawn queue Open e k = omega (arith, k.last)
     go drawn queue Spent e k = absurd (ns e)
 
-pub spent_all : (l : Shape) (t : List Progress) (at : ℕ) (x : Progress) → IsProgress l t at x → x.stage ≡ Spent → length x.drawn.items ≡ length (ranked l at)
+pub spent_all : (l : Shape) (t : List Progress) (at : ℕ) (x : Progress) → IsProgress l t at x
+    → x.stage ≡ Spent → length x.drawn.items ≡ length (ranked l at)
 spent_all l t at x ok e = subst (λ z. IsStage l t at x.drawn.items x.queue.items z) e ok.state
 
-drawn_same : (l : Shape) (t t' : List Progress) (n : ℕ) (c : Choice) (i j : ℕ) → Inside n c → ((u : ℕ) → u < n → count t' u ≡ count t u) → ArePartsDrawnTo l t c i j → ArePartsDrawnTo l t' c i j
+drawn_same : (l : Shape) (t t' : List Progress) (n : ℕ) (c : Choice) (i j : ℕ) → Inside n c
+    → ((u : ℕ) → u < n → count t' u ≡ count t u) → ArePartsDrawnTo l t c i j → ArePartsDrawnTo l t' c i j
 drawn_same l t t' n (Leaf price word) i j h e k = tt
 drawn_same l t t' n (Pair first None) i j h e k = subst (λ z. (i < z) ⊎ (z ≡ length (ranked l first))) (sym (e first h)) k
 drawn_same l t t' n (Pair first (Some rest)) i j h e k = (subst (λ z. (i < z) ⊎ (z ≡ length (ranked l first))) (sym (e first h.0)) k.0, subst (λ z. (j < z) ⊎ (z ≡ length (ranked l rest))) (sym (e rest h.1)) k.1)
 
-below_same : (t : List Progress) (at : ℕ) (v : Progress) (u : ℕ) → u < at → count (slice_set t at v) u ≡ count t u
+below_same : (t : List Progress) (at : ℕ) (v : Progress) (u : ℕ) → u < at
+    → count (slice_set t at v) u ≡ count t u
 below_same t at v u h = ap drawn_of (set_other t at u v (λ e. omega arith))
 
 -- A node whose followers are drawn can be advanced, in a table where another node stands in its place.
@@ -129,7 +149,10 @@ pub record CanAdvance (l : Shape) (t : List Progress) (at : ℕ) (x : Progress) 
   pub node : IsProgress l t at x
   pub reached : IsLastFollowed l t at x.drawn.items
 
-pub can_advance : (l : Shape) → LatticeLaws l → (t0 t1 : List Progress) (at : ℕ) (e x node : Progress) (last : Way) (m : ℕ) → at < l.nodes → DrawsParts l t0 t1 at last → slice_get t0 at ≡ Some node → slice_get t1 at ≡ Some x → suc m ≡ length node.drawn.items → Nth node.drawn.items m last → CanAdvance l (slice_set t1 at e) at x
+pub can_advance : (l : Shape) → LatticeLaws l
+    → (t0 t1 : List Progress) (at : ℕ) (e x node : Progress) (last : Way) (m : ℕ) → at < l.nodes
+    → DrawsParts l t0 t1 at last → slice_get t0 at ≡ Some node → slice_get t1 at ≡ Some x
+    → suc m ≡ length node.drawn.items → Nth node.drawn.items m last → CanAdvance l (slice_set t1 at e) at x
 can_advance l laws t0 t1 at e x node last m n f g0 g1 em k = record {
   table = record {
     long = omega (arith, f.table.long, set_long t1 at e);
@@ -154,10 +177,14 @@ can_advance l laws t0 t1 at e x node last m n f g0 g1 em k = record {
     ok : IsProgress l (slice_set t1 at e) at x
     ok = progress_grows l laws t1 (slice_set t1 at e) at x n (λ v b. let q = below_same t1 at e v b in omega arith) (f.table.nodes at x (omega arith) g1)
 
-pub same_node : (l : Shape) (t0 t1 : List Progress) (at : ℕ) (x node : Progress) (last : Way) → DrawsParts l t0 t1 at last → slice_get t0 at ≡ Some node → slice_get t1 at ≡ Some x → x ≡ node
+pub same_node : (l : Shape) (t0 t1 : List Progress) (at : ℕ) (x node : Progress) (last : Way)
+    → DrawsParts l t0 t1 at last → slice_get t0 at ≡ Some node → slice_get t1 at ≡ Some x → x ≡ node
 same_node l t0 t1 at x node last f g0 g1 = let q : Some x ≡ Some node = sym g1 ∙ f.same at (omega arith) ∙ g0 in cc
 
-pub draws_more : (l : Shape) → LatticeLaws l → (t0 t1 : List Progress) (at rank : ℕ) (e x node y : Progress) (last : Way) → at < l.nodes → DrawsParts l t0 t1 at last → slice_get t0 at ≡ Some node → slice_get t1 at ≡ Some x → IsAdvanced l (slice_set t1 at e) at x y → length node.drawn.items ≤ rank → AreDrawn l t0 at rank
+pub draws_more : (l : Shape) → LatticeLaws l
+    → (t0 t1 : List Progress) (at rank : ℕ) (e x node y : Progress) (last : Way) → at < l.nodes
+    → DrawsParts l t0 t1 at last → slice_get t0 at ≡ Some node → slice_get t1 at ≡ Some x
+    → IsAdvanced l (slice_set t1 at e) at x y → length node.drawn.items ≤ rank → AreDrawn l t0 at rank
     → DrawsTo l t0 (slice_set (slice_set t1 at e) at y) at rank
 draws_more l laws t0 t1 at rank e x node y last n f g0 g1 adv le near = record {
   table = record {

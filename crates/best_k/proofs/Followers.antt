@@ -6,12 +6,16 @@ use Rattle.best_k.specs.declared.table.Way.{Way}
 use Rattle.best_k.specs.Derivations.{Shape, LatticeLaws}
 use Rattle.best_k.specs.Ranked.{Nth}
 use Rattle.best_k.specs.Ways.{HasRank, Offered}
-use Rattle.best_k.specs.Frontiers.{Leads, Follows, Frontier, Moves, with_option}
+use Rattle.best_k.specs.Frontiers.{Leads, Follows, Frontier, with_option}
 use Rattle.best_k.proofs.Places.{nth_in, nth_short, nth_one, different_option}
 use Rattle.best_k.proofs.Ways.{rank_one, rank_fewer, by_ranks}
 use Rattle.best_k.proofs.Leading.{follows_rank, follows_one, leads_on}
+use Rattle.best_k.proofs.Swaps.{Moves}
 
-pub offered_in : (l : Shape) → LatticeLaws l → (node at i j : ℕ) (o : Option Way) (ws : List Way) (g : Way) (s : ℕ) → node < l.nodes → Offered l node at i j o → g.at ≡ at → g.first ≡ i → g.rest ≡ j → HasRank l node g s → IsIn g (with_option o ws)
+pub offered_in : (l : Shape) → LatticeLaws l
+    → (node at i j : ℕ) (o : Option Way) (ws : List Way) (g : Way) (s : ℕ) → node < l.nodes
+    → Offered l node at i j o → g.at ≡ at → g.first ≡ i → g.rest ≡ j → HasRank l node g s
+    → IsIn g (with_option o ws)
 offered_in l laws node at i j None ws g s n o e f h k = absurd (o g s e f h k)
 offered_in l laws node at i j (Some w) ws g s n o e f h k = inl (by_ranks l laws node g w s o.3.0 n (e ∙ sym o.0) (f ∙ sym o.1) (h ∙ sym o.2) k o.3.1)
 
@@ -24,13 +28,16 @@ abbrev IsFollower : Shape → ℕ → Way → Option Way → Type 0
 IsFollower l node last None = Unit {0}
 IsFollower l node last (Some w) = Follows last w × ((r : ℕ) × HasRank l node w r)
 
-follower_in : (l : Shape) (node : ℕ) (last : Way) (o : Option Way) (ws : List Way) (x : Way) → IsFollower l node last o → IsIn x (with_option o ws) → (Follows last x × ((r : ℕ) × HasRank l node x r)) ⊎ IsIn x ws
+follower_in : (l : Shape) (node : ℕ) (last : Way) (o : Option Way) (ws : List Way) (x : Way)
+    → IsFollower l node last o → IsIn x (with_option o ws)
+    → (Follows last x × ((r : ℕ) × HasRank l node x r)) ⊎ IsIn x ws
 follower_in l node last None ws x h i = inr i
 follower_in l node last (Some w) ws x h (inl e) = inl (subst (λ z. Follows last z × ((r : ℕ) × HasRank l node z r)) (sym e) h)
 follower_in l node last (Some w) ws x h (inr i) = inr i
 
 -- a way that follows the last drawn one doesn't wait
-not_waiting : (l : Shape) → LatticeLaws l → (node : ℕ) (drawn queue : List Way) (m : ℕ) (last x : Way) → node < l.nodes → Frontier l node drawn queue m → Nth drawn m last → Follows last x → IsIn x queue → ⊥
+not_waiting : (l : Shape) → LatticeLaws l → (node : ℕ) (drawn queue : List Way) (m : ℕ) (last x : Way)
+    → node < l.nodes → Frontier l node drawn queue m → Nth drawn m last → Follows last x → IsIn x queue → ⊥
 not_waiting l laws node drawn queue m last x n f k fo i =
     elim (f.follows x i) [
       | inl a ↦ no fo a
@@ -45,17 +52,22 @@ not_waiting l laws node drawn queue m last x n f k fo i =
     no (e, inl (f', h)) a = omega arith
     no (e, inr (f', h, k')) a = omega arith
 
-follower_rest : (l : Shape) (node : ℕ) (last : Way) (o : Option Way) → Offered l node last.at last.first (suc last.rest) o → IsFollower l node last o
+follower_rest : (l : Shape) (node : ℕ) (last : Way) (o : Option Way)
+    → Offered l node last.at last.first (suc last.rest) o → IsFollower l node last o
 follower_rest l node last None h = tt
 follower_rest l node last (Some w) h = ((sym h.0, inl (sym h.1, h.2)), h.3)
 
-follower_first : (l : Shape) (node : ℕ) (last : Way) (o : Option Way) → last.rest ≡ 0 → Offered l node last.at (suc last.first) 0 o → IsFollower l node last o
+follower_first : (l : Shape) (node : ℕ) (last : Way) (o : Option Way) → last.rest ≡ 0
+    → Offered l node last.at (suc last.first) 0 o → IsFollower l node last o
 follower_first l node last None e h = tt
 follower_first l node last (Some w) e h = ((sym h.0, inr (e, h.2, h.1)), h.3)
 
 -- The ways that follow the last drawn one go into the queue.
-pub expanded : (l : Shape) → LatticeLaws l → (node : ℕ) (drawn queue queue' : List Way) (m : ℕ) (last : Way) (o1 o2 : Option Way) → node < l.nodes → suc m ≡ length drawn → Nth drawn m last → Frontier l node drawn queue m
-    → Offered l node last.at last.first (suc last.rest) o1 → (last.rest ≡ 0 → Offered l node last.at (suc last.first) 0 o2) → (0 < last.rest → o2 ≡ None)
+pub expanded : (l : Shape) → LatticeLaws l
+    → (node : ℕ) (drawn queue queue' : List Way) (m : ℕ) (last : Way) (o1 o2 : Option Way) → node < l.nodes
+    → suc m ≡ length drawn → Nth drawn m last → Frontier l node drawn queue m
+    → Offered l node last.at last.first (suc last.rest) o1
+    → (last.rest ≡ 0 → Offered l node last.at (suc last.first) 0 o2) → (0 < last.rest → o2 ≡ None)
     → Moves (with_option o2 (with_option o1 queue)) queue' → Frontier l node drawn queue' (length drawn)
 expanded l laws node drawn queue queue' m last o1 o2 n em k f h1 h2 h3 mv = record {
   first = f.first;
@@ -89,7 +101,8 @@ expanded l laws node drawn queue queue' m last o1 o2 n em k f h1 h2 h3 mv = reco
       | inr o ↦ elim o [ inl lt ↦ absurd (omega arith) | inr gt ↦ subst (λ z. IsFollower l node last z) (sym (h3 gt)) tt ]
     ]
 
-    which : (x : Way) → IsIn x (with_option o2 (with_option o1 queue)) → (Follows last x × ((r : ℕ) × HasRank l node x r)) ⊎ IsIn x queue
+    which : (x : Way) → IsIn x (with_option o2 (with_option o1 queue))
+        → (Follows last x × ((r : ℕ) × HasRank l node x r)) ⊎ IsIn x queue
     which x i = elim (follower_in l node last o2 (with_option o1 queue) x follower2 i) [ inl a ↦ inl a | inr j ↦ follower_in l node last o1 queue x follower1 j ]
 
     apart1 : (o : Option Way) → IsFollower l node last o → MatchOption o (Unit {0}) (λ w. IsIn w queue → ⊥)
@@ -102,7 +115,9 @@ expanded l laws node drawn queue queue' m last o1 o2 n em k f h1 h2 h3 mv = reco
       | Some w ↦ λ h x i. elim i [ inl e ↦ inl (ap (λ z. z.rest) e ∙ h.2) | inr j ↦ inr j ]
     ] h1
 
-    apart2 : (o : Option Way) → IsFollower l node last o → (last.rest ≡ 0 → Offered l node last.at (suc last.first) 0 o) → (0 < last.rest → o ≡ None) → MatchOption o (Unit {0}) (λ w. IsIn w (with_option o1 queue) → ⊥)
+    apart2 : (o : Option Way) → IsFollower l node last o
+        → (last.rest ≡ 0 → Offered l node last.at (suc last.first) 0 o) → (0 < last.rest → o ≡ None)
+        → MatchOption o (Unit {0}) (λ w. IsIn w (with_option o1 queue) → ⊥)
     apart2 None h a b = tt
     apart2 (Some w) h a b = λ i. elim (rest1 w i) [
       | inr j ↦ not_waiting l laws node drawn queue m last w n f k h.0 j
@@ -112,7 +127,8 @@ expanded l laws node drawn queue queue' m last o1 o2 n em k f h1 h2 h3 mv = reco
       ]
     ]
 
-    on_last : (g : Way) (s : ℕ) → HasRank l node g s → Leads last g → IsIn g drawn ⊎ ((q : Way) × (Leads q g × (IsIn q queue' ⊎ ((i : ℕ) × ((length drawn ≤ i) × Nth drawn i q)))))
+    on_last : (g : Way) (s : ℕ) → HasRank l node g s → Leads last g
+        → IsIn g drawn ⊎ ((q : Way) × (Leads q g × (IsIn q queue' ⊎ ((i : ℕ) × ((length drawn ≤ i) × Nth drawn i q)))))
     on_last g s y le = elim (leads_on last g le) [
       | inl (a, b) ↦ inl (subst (λ z. IsIn z drawn) (by_ranks l laws node last g m s n le.0 a b (f.first m last k) y) (nth_in drawn m last k))
       | inr o ↦ elim o [

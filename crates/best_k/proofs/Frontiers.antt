@@ -6,12 +6,14 @@ use Rattle.best_k.specs.declared.table.Way.{Way}
 use Rattle.best_k.specs.Derivations.{Shape, LatticeLaws}
 use Rattle.best_k.specs.Ranked.{Nth, ranked}
 use Rattle.best_k.specs.Ways.{HasRank}
-use Rattle.best_k.specs.Frontiers.{AreFirst, Frontier, Moves}
+use Rattle.best_k.specs.Frontiers.{AreFirst, Frontier}
 use Rattle.best_k.proofs.Places.{in_nth, nth_short, nth_some, nth_left, nth_last, nth_more, in_left, different_rest, different_head}
 use Rattle.best_k.proofs.Ways.{rank_one, rank_same, rank_some, rank_short}
 use Rattle.best_k.proofs.Leading.{leads_rank}
+use Rattle.best_k.proofs.Swaps.{Moves}
 
-pub drawn_few : (l : Shape) (node : ℕ) (drawn : List Way) → AreFirst l node drawn → length drawn ≤ length (ranked l node)
+pub drawn_few : (l : Shape) (node : ℕ) (drawn : List Way) → AreFirst l node drawn
+    → length drawn ≤ length (ranked l node)
 drawn_few l node drawn first =
     elim (cases_order (length drawn) 0) [
       | inl e ↦ omega arith
@@ -24,7 +26,8 @@ drawn_few l node drawn first =
     ]
 
 -- Where every drawn way's followers wait, the next rank comes after something that waits.
-next_waits : (l : Shape) → LatticeLaws l → (node : ℕ) (drawn queue : List Way) → node < l.nodes → Frontier l node drawn queue (length drawn) → length drawn < length (ranked l node)
+next_waits : (l : Shape) → LatticeLaws l → (node : ℕ) (drawn queue : List Way) → node < l.nodes
+    → Frontier l node drawn queue (length drawn) → length drawn < length (ranked l node)
     → (q : Way) × (IsIn q queue × HasRank l node q (length drawn))
 next_waits l laws node drawn queue n f h =
     let g = rank_some l laws node (length drawn) n h in
@@ -42,8 +45,9 @@ next_waits l laws node drawn queue n f h =
     ]
 
 -- The least that waits is the next.
-pub least_is_next : (l : Shape) → LatticeLaws l → (node : ℕ) (drawn queue : List Way) (q : Way) (r : ℕ) → node < l.nodes → Frontier l node drawn queue (length drawn)
-    → IsIn q queue → HasRank l node q r → ((x : Way) (s : ℕ) → IsIn x queue → HasRank l node x s → r ≤ s) → r ≡ length drawn
+pub least_is_next : (l : Shape) → LatticeLaws l → (node : ℕ) (drawn queue : List Way) (q : Way) (r : ℕ)
+    → node < l.nodes → Frontier l node drawn queue (length drawn) → IsIn q queue → HasRank l node q r
+    → ((x : Way) (s : ℕ) → IsIn x queue → HasRank l node x s → r ≤ s) → r ≡ length drawn
 least_is_next l laws node drawn queue q r n f i h least =
     let w = f.waits q i in
     let e = rank_one l node q w.0 r w.1.1 h in
@@ -53,7 +57,8 @@ least_is_next l laws node drawn queue q r n f i h least =
     omega (arith, w.1.0)
 
 -- Where nothing waits, everything is drawn.
-pub all_drawn : (l : Shape) → LatticeLaws l → (node : ℕ) (drawn : List Way) → node < l.nodes → Frontier l node drawn [] (length drawn) → length drawn ≡ length (ranked l node)
+pub all_drawn : (l : Shape) → LatticeLaws l → (node : ℕ) (drawn : List Way) → node < l.nodes
+    → Frontier l node drawn [] (length drawn) → length drawn ≡ length (ranked l node)
 all_drawn l laws node drawn n f =
     let k = drawn_few l node drawn f.first in
     elim (cases_order (length drawn) (length (ranked l node))) [
@@ -65,8 +70,10 @@ all_drawn l laws node drawn n f =
     ]
 
 -- The least that waits is drawn.
-pub popped : (l : Shape) → LatticeLaws l → (node : ℕ) (drawn queue rest : List Way) (q : Way) (r : ℕ) → node < l.nodes → Frontier l node drawn queue (length drawn)
-    → Moves queue (q ∷ rest) → HasRank l node q r → ((x : Way) (s : ℕ) → IsIn x queue → HasRank l node x s → r ≤ s) → Frontier l node (drawn ++ q ∷ []) rest (length drawn)
+pub popped : (l : Shape) → LatticeLaws l → (node : ℕ) (drawn queue rest : List Way) (q : Way) (r : ℕ)
+    → node < l.nodes → Frontier l node drawn queue (length drawn) → Moves queue (q ∷ rest)
+    → HasRank l node q r → ((x : Way) (s : ℕ) → IsIn x queue → HasRank l node x s → r ≤ s)
+    → Frontier l node (drawn ++ q ∷ []) rest (length drawn)
 popped l laws node drawn queue rest q r n f m h least =
     let e = least_is_next l laws node drawn queue q r n f (m.back q (inl refl)) h least in
     let hq : HasRank l node q (length drawn) = subst (λ z. HasRank l node q z) e h in

@@ -11,7 +11,8 @@ leads_smaller : (p g : Way) → Leads p g → (p.first ≤ g.first) × (p.rest �
 leads_smaller p g (e, inl (f, h)) = (omega arith, h)
 leads_smaller p g (e, inr (f, h)) = (h, omega arith)
 
-pub leads_rank : (l : Shape) → LatticeLaws l → (node : ℕ) (p g : Way) (r s : ℕ) → node < l.nodes → Leads p g → HasRank l node p r → HasRank l node g s → r ≤ s
+pub leads_rank : (l : Shape) → LatticeLaws l → (node : ℕ) (p g : Way) (r s : ℕ) → node < l.nodes → Leads p g
+    → HasRank l node p r → HasRank l node g s → r ≤ s
 leads_rank l laws node p g r s n h x y = let k = leads_smaller p g h in ranks_least l laws node p g r s n h.0 k.0 k.1 x y
 
 follows_leads : (p q : Way) → Follows p q → Leads p q
@@ -22,7 +23,8 @@ follows_other : (p : Way) → Follows p p → ⊥
 follows_other p (e, inl (f, h)) = omega arith
 follows_other p (e, inr (f, h, k)) = omega arith
 
-pub follows_rank : (l : Shape) → LatticeLaws l → (node : ℕ) (p q : Way) (r s : ℕ) → node < l.nodes → Follows p q → HasRank l node p r → HasRank l node q s → r < s
+pub follows_rank : (l : Shape) → LatticeLaws l → (node : ℕ) (p q : Way) (r s : ℕ) → node < l.nodes
+    → Follows p q → HasRank l node p r → HasRank l node q s → r < s
 follows_rank l laws node p q r s n h x y =
     let k = leads_rank l laws node p q r s n (follows_leads p q h) x y in
     elim (cases_order r s) [
@@ -31,7 +33,8 @@ follows_rank l laws node p q r s n h x y =
     ]
 
 -- one way follows one way
-pub follows_one : (p p' q : Way) → Follows p q → Follows p' q → (p.at ≡ p'.at) × ((p.first ≡ p'.first) × (p.rest ≡ p'.rest))
+pub follows_one : (p p' q : Way) → Follows p q → Follows p' q
+    → (p.at ≡ p'.at) × ((p.first ≡ p'.first) × (p.rest ≡ p'.rest))
 follows_one p p' q (e, inl (f, h)) (e', inl (f', h')) = (e ∙ sym e', (f ∙ sym f', omega arith))
 follows_one p p' q (e, inl (f, h)) (e', inr (f', h', k')) = absurd (omega arith)
 follows_one p p' q (e, inr (f, h, k)) (e', inl (f', h')) = absurd (omega arith)

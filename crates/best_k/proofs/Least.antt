@@ -18,7 +18,8 @@ use Rattle.best_k.proofs.Ways.{rank_one, rank_some, rank_short, rank_fewer}
 use Rattle.best_k.proofs.Leading.{leads_rank}
 use Rattle.best_k.proofs.Tables.{there}
 
-stage_first : (l : Shape) (t : List Progress) (node : ℕ) (drawn queue : List Way) (s : Stage) → IsStage l t node drawn queue s → (0 < length drawn) ⊎ (length drawn ≡ length (ranked l node))
+stage_first : (l : Shape) (t : List Progress) (node : ℕ) (drawn queue : List Way) (s : Stage)
+    → IsStage l t node drawn queue s → (0 < length drawn) ⊎ (length drawn ≡ length (ranked l node))
 stage_first l t node drawn queue Fresh (w, e, f, g, q) = inl (subst (λ z. 0 < length z) (sym e) (omega arith))
 stage_first l t node drawn queue Open k = inl (omega (arith, k.last))
 stage_first l t node drawn queue Spent k = inr k
@@ -28,19 +29,27 @@ drawn_first l t n u ok h =
     let x = there t u (omega (arith, ok.long)) in
     subst (λ z. (0 < drawn_of z) ⊎ (drawn_of z ≡ length (ranked l u))) (sym x.1) (stage_first l t u x.0.drawn.items x.0.queue.items x.0.stage (ok.nodes u x.0 h x.1).state)
 
-drawn_choice : (l : Shape) (t : List Progress) (n : ℕ) (c : Choice) → IsTable l t n → Inside n c → ArePartsDrawnTo l t c 0 0
+drawn_choice : (l : Shape) (t : List Progress) (n : ℕ) (c : Choice) → IsTable l t n → Inside n c
+    → ArePartsDrawnTo l t c 0 0
 drawn_choice l t n (Leaf price word) ok h = tt
 drawn_choice l t n (Pair first None) ok h = drawn_first l t n first ok h
 drawn_choice l t n (Pair first (Some rest)) ok h = (drawn_first l t n first ok h.0, drawn_first l t n rest ok h.1)
 
 -- Every node below drawn its least way.
-pub least_drawn : (l : Shape) → LatticeLaws l → (t : List Progress) (node at : ℕ) → node < l.nodes → at < l.choices node → IsTable l t node → ArePartsDrawnTo l t (l.choice node at) 0 0
+pub least_drawn : (l : Shape) → LatticeLaws l → (t : List Progress) (node at : ℕ) → node < l.nodes
+    → at < l.choices node → IsTable l t node → ArePartsDrawnTo l t (l.choice node at) 0 0
 least_drawn l laws t node at n k ok = drawn_choice l t node (l.choice node at) ok (inside l laws node at n k)
 
-pub lesser_first : (l : Shape) (node : ℕ) (least : Option Way) (way other : Way) (b : Bool) → least ≡ Some other → b ≡ true → ((r s : ℕ) → HasRank l node way r → HasRank l node other s → IsTrue b ↔ (r < s)) → IsLesserWay l node least way way
+pub lesser_first : (l : Shape) (node : ℕ) (least : Option Way) (way other : Way) (b : Bool)
+    → least ≡ Some other → b ≡ true
+    → ((r s : ℕ) → HasRank l node way r → HasRank l node other s → IsTrue b ↔ (r < s))
+    → IsLesserWay l node least way way
 lesser_first l node least way other b e t k = subst (λ z. IsLesserWay l node z way way) (sym e) (inl refl, λ r s u x y z. let a = rank_one l node way r u x z in let c = (k r s x y).0 t in (omega arith, omega arith))
 
-pub lesser_second : (l : Shape) (node : ℕ) (least : Option Way) (way other : Way) (b : Bool) → least ≡ Some other → b ≡ false → ((r s : ℕ) → HasRank l node way r → HasRank l node other s → IsTrue b ↔ (r < s)) → IsLesserWay l node least way other
+pub lesser_second : (l : Shape) (node : ℕ) (least : Option Way) (way other : Way) (b : Bool)
+    → least ≡ Some other → b ≡ false
+    → ((r s : ℕ) → HasRank l node way r → HasRank l node other s → IsTrue b ↔ (r < s))
+    → IsLesserWay l node least way other
 lesser_second l node least way other b e t k = subst (λ z. IsLesserWay l node z way other) (sym e) (
   inr refl,
   λ r s u x y z. let a = rank_one l node other s u y z in
@@ -52,14 +61,16 @@ abbrev pub LeastTo : Shape → List Progress → ℕ → ℕ → Option Way → 
 LeastTo l t node c None = (w : Way) (r : ℕ) → w.at < c → HasRank l node w r → ⊥
 LeastTo l t node c (Some w) = (w.first ≡ 0) × (w.rest ≡ 0) × Held l t node w × ((r : ℕ) × (HasRank l node w r × ((g : Way) (s : ℕ) → g.at < c → HasRank l node g s → r ≤ s)))
 
-pub least_usable : (l : Shape) (t : List Progress) (node c : ℕ) (o : Option Way) → LeastTo l t node c o → IfSome o (Usable l t node)
+pub least_usable : (l : Shape) (t : List Progress) (node c : ℕ) (o : Option Way) → LeastTo l t node c o
+    → IfSome o (Usable l t node)
 least_usable l t node c None h = tt
 least_usable l t node c (Some w) h = record { rank = h.3.0; ranked = h.3.1.0; held = h.2 }
 
 pub least_start : (l : Shape) (t : List Progress) (node : ℕ) → LeastTo l t node 0 None
 least_start l t node w r h = absurd (omega arith)
 
-pub least_same : (l : Shape) → LatticeLaws l → (t : List Progress) (node c : ℕ) (o p : Option Way) → node < l.nodes → p ≡ None → LeastTo l t node c o → Offered l node c 0 0 p → LeastTo l t node (c + 1) o
+pub least_same : (l : Shape) → LatticeLaws l → (t : List Progress) (node c : ℕ) (o p : Option Way)
+    → node < l.nodes → p ≡ None → LeastTo l t node c o → Offered l node c 0 0 p → LeastTo l t node (c + 1) o
 least_same l laws t node c o p n e h k = go o h
   where
     never : (w : Way) (r : ℕ) → w.at ≡ c → HasRank l node w r → ⊥
@@ -69,7 +80,9 @@ least_same l laws t node c o p n e h k = go o h
     go None h = λ w r lt x. elim (cases_lt w.at c) [ inl less ↦ h w r less x | inr ge ↦ never w r (omega arith) x ]
     go (Some v) h = (h.0, h.1, h.2, (h.3.0, (h.3.1.0, λ w r lt x. elim (cases_lt w.at c) [ inl less ↦ h.3.1.1 w r less x | inr ge ↦ absurd (never w r (omega arith) x) ])))
 
-pub least_more : (l : Shape) → LatticeLaws l → (t : List Progress) (node c : ℕ) (o p : Option Way) (w x : Way) → node < l.nodes → p ≡ Some w → LeastTo l t node c o → Offered l node c 0 0 p → IfSome p (Held l t node) → IsLesserWay l node o w x → LeastTo l t node (c + 1) (Some x)
+pub least_more : (l : Shape) → LatticeLaws l → (t : List Progress) (node c : ℕ) (o p : Option Way) (w x : Way)
+    → node < l.nodes → p ≡ Some w → LeastTo l t node c o → Offered l node c 0 0 p → IfSome p (Held l t node)
+    → IsLesserWay l node o w x → LeastTo l t node (c + 1) (Some x)
 least_more l laws t node c o p w x n e h k' held' less = go o h less
   where
     k : Offered l node c 0 0 (Some w)
@@ -81,7 +94,8 @@ least_more l laws t node c o p w x n e h k' held' less = go o h less
     here : (g : Way) (s : ℕ) → g.at ≡ c → HasRank l node g s → k.3.0 ≤ s
     here g s a y = leads_rank l laws node w g k.3.0 s n (k.0 ∙ sym a, inr (k.2, omega (arith, k.1))) k.3.1 y
 
-    go : (o : Option Way) → LeastTo l t node c o → IsLesserWay l node o w x → LeastTo l t node (c + 1) (Some x)
+    go : (o : Option Way) → LeastTo l t node c o → IsLesserWay l node o w x
+        → LeastTo l t node (c + 1) (Some x)
     go None h less = subst (λ z. LeastTo l t node (c + 1) (Some z)) (sym less) (k.1, k.2, held, (k.3.0, (k.3.1, λ g s lt y. elim (cases_lt g.at c) [ inl b ↦ absurd (h g s b y) | inr ge ↦ here g s (omega arith) y ])))
     go (Some v) h less =
         elim less.0 [
@@ -91,7 +105,8 @@ least_more l laws t node c o p w x n e h k' held' less = go o h less
               subst (λ z. LeastTo l t node (c + 1) (Some z)) (sym same) (h.0, h.1, h.2, (h.3.0, (h.3.1.0, λ g s lt y. elim (cases_lt g.at c) [ inl b ↦ h.3.1.1 g s b y | inr ge ↦ let q = here g s (omega arith) y in omega (arith, r.0) ])))
         ]
 
-pub least_end : (l : Shape) → LatticeLaws l → (t : List Progress) (node c : ℕ) (o : Option Way) → node < l.nodes → l.choices node ≤ c → LeastTo l t node c o → IsLeastWay l t node o
+pub least_end : (l : Shape) → LatticeLaws l → (t : List Progress) (node c : ℕ) (o : Option Way)
+    → node < l.nodes → l.choices node ≤ c → LeastTo l t node c o → IsLeastWay l t node o
 least_end l laws t node c None n e h = elim (cases_eq (length (ranked l node)) 0) [
   | inl z ↦ z
   | inr ne ↦ let w = rank_some l laws node 0 n (omega arith) in absurd (h w.0 0 (omega (arith, w.1.is.there)) w.1)
@@ -103,7 +118,9 @@ least_end l laws t node c (Some w) n e h =
     (h.0, h.1, h.2, subst (λ r. HasRank l node w r) z h.3.1.0)
 
 -- a node with its least way
-pub fresh_some : (l : Shape) (t : List Progress) (node : ℕ) (o : Option Way) (w : Way) (x : Progress) → IsLeastWay l t node o → o ≡ Some w → x.drawn.items ≡ w ∷ [] → x.queue.items ≡ [] → x.stage ≡ Fresh → IsProgress l t node x
+pub fresh_some : (l : Shape) (t : List Progress) (node : ℕ) (o : Option Way) (w : Way) (x : Progress)
+    → IsLeastWay l t node o → o ≡ Some w → x.drawn.items ≡ w ∷ [] → x.queue.items ≡ [] → x.stage ≡ Fresh
+    → IsProgress l t node x
 fresh_some l t node o w x h' eo ed eq es =
     let h = subst (λ z. IsLeastWay l t node z) eo h' in
     record {
@@ -117,7 +134,8 @@ fresh_some l t node o w x h' eo ed eq es =
     first k zero v e = subst (λ z. HasRank l node z 0) (sym e) k
     first k (suc i) v e = absurd e
 
-pub fresh_none : (l : Shape) (t : List Progress) (node : ℕ) (o : Option Way) (x : Progress) → IsLeastWay l t node o → o ≡ None → x.drawn.items ≡ [] → x.stage ≡ Spent → IsProgress l t node x
+pub fresh_none : (l : Shape) (t : List Progress) (node : ℕ) (o : Option Way) (x : Progress)
+    → IsLeastWay l t node o → o ≡ None → x.drawn.items ≡ [] → x.stage ≡ Spent → IsProgress l t node x
 fresh_none l t node o x h' eo ed es =
     let h = subst (λ z. IsLeastWay l t node z) eo h' in
     record {

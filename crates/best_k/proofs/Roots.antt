@@ -7,16 +7,18 @@ use Rattle.best_k.specs.declared.table.Way.{Way}
 use Rattle.best_k.specs.Derivations.{Shape, LatticeLaws}
 use Rattle.best_k.specs.Ranked.{Nth}
 use Rattle.best_k.specs.Ways.{HasRank, Offered}
-use Rattle.best_k.specs.Frontiers.{Frontier, Moves, with_option, BegunTo}
+use Rattle.best_k.specs.Frontiers.{Frontier, with_option, BegunTo}
 use Rattle.best_k.specs.Queues.{IsOffered}
 use Rattle.best_k.proofs.Places.{different_option}
 use Rattle.best_k.proofs.Ways.{rank_same, rank_fewer}
 use Rattle.best_k.proofs.Followers.{offered_in, behind}
+use Rattle.best_k.proofs.Swaps.{Moves, moves_permutation}
 
 pub begun_none : (l : Shape) (node : ℕ) (least : Way) → BegunTo l node least 0 []
 begun_none l node least = record { roots = λ q i. absurd i; different = λ i j w h k. absurd h; complete = λ g s h lt. absurd (omega arith) }
 
-pub begun_same : (l : Shape) (node : ℕ) (least : Way) (c : ℕ) (queue : List Way) → c ≡ least.at → BegunTo l node least c queue → BegunTo l node least (c + 1) queue
+pub begun_same : (l : Shape) (node : ℕ) (least : Way) (c : ℕ) (queue : List Way) → c ≡ least.at
+    → BegunTo l node least c queue → BegunTo l node least (c + 1) queue
 begun_same l node least c queue e b = record {
   roots = λ q i. let r = b.roots q i in (r.0, r.1, omega (arith, r.2), r.3, r.4);
   different = b.different;
@@ -26,7 +28,10 @@ begun_same l node least c queue e b = record {
   ];
 }
 
-pub begun_more : (l : Shape) → LatticeLaws l → (node : ℕ) (least : Way) (c : ℕ) (queue queue' : List Way) (o : Option Way) → node < l.nodes → c ≢ least.at → BegunTo l node least c queue → Offered l node c 0 0 o → Moves (with_option o queue) queue' → BegunTo l node least (c + 1) queue'
+pub begun_more : (l : Shape) → LatticeLaws l
+    → (node : ℕ) (least : Way) (c : ℕ) (queue queue' : List Way) (o : Option Way) → node < l.nodes
+    → c ≢ least.at → BegunTo l node least c queue → Offered l node c 0 0 o
+    → Moves (with_option o queue) queue' → BegunTo l node least (c + 1) queue'
 begun_more l laws node least c queue queue' o n ne b h mv = record {
   roots = λ q i. go o h q (mv.back q i);
   different = mv.different (different_option o queue (apart o h) b.different);
@@ -36,7 +41,8 @@ begun_more l laws node least c queue queue' o n ne b h mv = record {
   ];
 }
   where
-    go : (o : Option Way) → Offered l node c 0 0 o → (q : Way) → IsIn q (with_option o queue) → (q.first ≡ 0) × (q.rest ≡ 0) × (q.at < c + 1) × (q.at ≢ least.at) × ((r : ℕ) × HasRank l node q r)
+    go : (o : Option Way) → Offered l node c 0 0 o → (q : Way) → IsIn q (with_option o queue)
+        → (q.first ≡ 0) × (q.rest ≡ 0) × (q.at < c + 1) × (q.at ≢ least.at) × ((r : ℕ) × HasRank l node q r)
     go None h q i = let r = b.roots q i in (r.0, r.1, omega (arith, r.2), r.3, r.4)
     go (Some w) h q (inl e) = subst (λ z. (z.first ≡ 0) × (z.rest ≡ 0) × (z.at < c + 1) × (z.at ≢ least.at) × ((r : ℕ) × HasRank l node z r)) (sym e) (h.1, h.2, omega (arith, h.0), (λ s. ne (sym h.0 ∙ s)), h.3)
     go (Some w) h q (inr i) = let r = b.roots q i in (r.0, r.1, omega (arith, r.2), r.3, r.4)
@@ -46,7 +52,9 @@ begun_more l laws node least c queue queue' o n ne b h mv = record {
     apart (Some w) h = λ i. let r = b.roots w i in omega (arith, r.2, h.0)
 
 -- The queue has the least way of each other choice.
-pub begun : (l : Shape) → LatticeLaws l → (node : ℕ) (least : Way) (queue : List Way) → node < l.nodes → HasRank l node least 0 → least.first ≡ 0 → least.rest ≡ 0 → BegunTo l node least (l.choices node) queue → Frontier l node (least ∷ []) queue 0
+pub begun : (l : Shape) → LatticeLaws l → (node : ℕ) (least : Way) (queue : List Way) → node < l.nodes
+    → HasRank l node least 0 → least.first ≡ 0 → least.rest ≡ 0 → BegunTo l node least (l.choices node) queue
+    → Frontier l node (least ∷ []) queue 0
 begun l laws node least queue n h e0 e1 b = record {
   first = λ i w k. first i w k;
   waits = λ q i.
@@ -70,5 +78,8 @@ begun l laws node least queue n h e0 e1 b = record {
     first zero w k = subst (λ z. HasRank l node z 0) (sym k) h
     first (suc i) w k = absurd k
 
-pub begun_offered : (l : Shape) → LatticeLaws l → (t : List Progress) (node : ℕ) (least : Way) (c : ℕ) (queue queue' : List Way) → node < l.nodes → c ≢ least.at → BegunTo l node least c queue → IsOffered l t node c 0 0 queue queue' → BegunTo l node least (c + 1) queue'
-begun_offered l laws t node least c queue queue' n ne b o = begun_more l laws node least c queue queue' o.way n ne b o.offered o.moves
+pub begun_offered : (l : Shape) → LatticeLaws l
+    → (t : List Progress) (node : ℕ) (least : Way) (c : ℕ) (queue queue' : List Way) → node < l.nodes
+    → c ≢ least.at → BegunTo l node least c queue → IsOffered l t node c 0 0 queue queue'
+    → BegunTo l node least (c + 1) queue'
+begun_offered l laws t node least c queue queue' n ne b o = begun_more l laws node least c queue queue' o.way n ne b o.offered (moves_permutation _ _ o.moves)

@@ -8,17 +8,20 @@ bound : ℕ → ℕ
 bound zero = 1
 bound (suc n) = bound n + bound n
 
-named : (node at first : ℕ) (rest : Option ℕ) → doubling_choice node at ≡ Pair first rest → (node ≡ suc first) × (rest ≡ Some first)
+named : (node at first : ℕ) (rest : Option ℕ) → doubling_choice node at ≡ Pair first rest
+    → (node ≡ suc first) × (rest ≡ Some first)
 named zero zero first rest e = absurd (cc)
 named zero (suc at) first rest e = absurd (cc)
 named (suc n) at first rest e = let a : n ≡ first = cc in let b : Some n ≡ rest = cc in (ap suc a, sym b ∙ ap Some a)
 
-leaf_small : (node at price : ℕ) (word : List ℕ) → doubling_choice node at ≡ Leaf price word → (node ≡ 0) × (price ≤ 5) × (length word ≡ 1)
+leaf_small : (node at price : ℕ) (word : List ℕ) → doubling_choice node at ≡ Leaf price word
+    → (node ≡ 0) × (price ≤ 5) × (length word ≡ 1)
 leaf_small zero zero price word e = let a : 5 ≡ price = cc in let b : 1 ∷ [] ≡ word = cc in (refl, omega arith, ap length (sym b))
 leaf_small zero (suc at) price word e = let a : 3 ≡ price = cc in let b : 2 ∷ [] ≡ word = cc in (refl, omega arith, ap length (sym b))
 leaf_small (suc n) at price word e = absurd (cc)
 
-within : (node at p : ℕ) (w : List ℕ) → DerivesBy doubling node at p w → (p ≤ 5 * bound node) × (length w ≤ bound node)
+within : (node at p : ℕ) (w : List ℕ) → DerivesBy doubling node at p w
+    → (p ≤ 5 * bound node) × (length w ≤ bound node)
 unfolding bound
 within node at p w (by_leaf k e) = let s = leaf_small node at p w e in subst (λ z. (p ≤ 5 * bound z) × (length w ≤ bound z)) (sym s.0) (omega (arith, s.1), omega (arith, s.2))
 within node at p w (by_first first by k e d) = let s = named node at first None e in absurd (none first s.1)
@@ -47,7 +50,8 @@ abbrev first_of : List ℕ → ℕ
 first_of [] = 0
 first_of (x ∷ xs) = x
 
-leaf_apart : (at at' p r : ℕ) (v w : List ℕ) → at < 2 → at' < 2 → doubling_choice 0 at ≡ Leaf p v → doubling_choice 0 at' ≡ Leaf r w → IsPrefix v w → at ≡ at'
+leaf_apart : (at at' p r : ℕ) (v w : List ℕ) → at < 2 → at' < 2 → doubling_choice 0 at ≡ Leaf p v
+    → doubling_choice 0 at' ≡ Leaf r w → IsPrefix v w → at ≡ at'
 leaf_apart zero zero p r v w h k e f x = refl
 leaf_apart (suc zero) (suc zero) p r v w h k e f x = refl
 leaf_apart zero (suc zero) p r v w h k e f x = let a : 1 ∷ [] ≡ v = cc in let b : 2 ∷ [] ≡ w = cc in let c : 2 ∷ [] ≡ (1 ∷ []) ++ x.0 = b ∙ x.1 ∙ ap (λ z. z ++ x.0) (sym a) in absurd (omega (arith, ap first_of c))
@@ -64,12 +68,14 @@ chosen node at p w (by_pair first rest by by2 k e d g) = k
 at_leaf : (at p : ℕ) (w : List ℕ) → DerivesBy doubling 0 at p w → doubling_choice 0 at ≡ Leaf p w
 at_leaf at p w d = go 0 at p w refl d
   where
-    go : (node at p : ℕ) (w : List ℕ) → node ≡ 0 → DerivesBy doubling node at p w → doubling_choice 0 at ≡ Leaf p w
+    go : (node at p : ℕ) (w : List ℕ) → node ≡ 0 → DerivesBy doubling node at p w
+        → doubling_choice 0 at ≡ Leaf p w
     go node at p w z (by_leaf k e) = subst (λ n. doubling_choice n at ≡ Leaf p w) z e
     go node at p w z (by_first first by k e d) = let s = named node at first None e in absurd (omega (arith, s.0))
     go node at p w z (by_pair first rest by by2 k e d g) = let s = named node at first (Some rest) e in absurd (omega (arith, s.0))
 
-apart : (node at at' p r : ℕ) (v w : List ℕ) → node < 7 → DerivesBy doubling node at p v → DerivesBy doubling node at' r w → IsPrefix v w → at ≡ at'
+apart : (node at at' p r : ℕ) (v w : List ℕ) → node < 7 → DerivesBy doubling node at p v
+    → DerivesBy doubling node at' r w → IsPrefix v w → at ≡ at'
 apart zero at at' p r v w h d e x = leaf_apart at at' p r v w (chosen 0 at p v d) (chosen 0 at' r w e) (at_leaf at p v d) (at_leaf at' r w e) x
 apart (suc n) at at' p r v w h d e x = let a = chosen (suc n) at p v d in let b = chosen (suc n) at' r w e in omega arith
 
