@@ -60,8 +60,9 @@ fn first_derivations<L: Lattice>(
     Ok(found)
 }
 
-/// The `k` least derivations of a node, ascending by price and then word; fewer exactly where there
-/// are fewer. It draws only what these need, and each node at most once more than that.
+/// The `k` least derivations of a node, ascending by price and then word; all of them where there are
+/// fewer. Words compare number by number. It takes memory for each node up to this one, and answers `Mem`
+/// only for want of it.
 pub fn best<L: Lattice>(
     alloc: Global,
     lattice: &L,

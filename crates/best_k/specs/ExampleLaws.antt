@@ -1,8 +1,8 @@
--- The laws of the lattice of seven nodes. They stand here since an `impl` cites lemmas of `specs` alone.
+-- The laws of the lattices that the tests draw from. They stand here since an `impl` cites lemmas of `specs` alone.
 use Rattle.std.proofs.Common.{◌≡◌, ℕ, zero, suc, ◌<◌, ◌≤◌, List, [], ◌∷◌, length, sym, refl, ap, subst, arith, ◌+◌, ◌++◌, length-append, Option, Some, None, ◌∙◌, ◌*◌, MatchOption, lit≤}
 use Rattle.best_k.specs.declared.lattice.Choice.TheVariants.{Leaf, Pair}
 use Rattle.best_k.specs.Derivations.{DerivesBy, by_leaf, by_first, by_pair, IsPrefix, LatticeLaws}
-use Rattle.best_k.specs.Doubling.{doubling_choices, doubling_choice, doubling}
+use Rattle.best_k.specs.Examples.{bare, doubling_choices, doubling_choice, doubling}
 
 bound : ℕ → ℕ
 bound zero = 1
@@ -84,4 +84,16 @@ doubling_laws = record {
   smaller = λ node at first rest h k e. let s = named node at first rest e in (omega (arith, s.0), subst (λ z. MatchOption z (Unit {0}) (λ r. r < node)) (sym s.1) (omega (arith, s.0)));
   apart = apart;
   small = λ node at p w h d. let a = within node at p w d in let b = few node h in (omega arith, omega arith);
+}
+
+derives_none : (node at p : ℕ) (w : List ℕ) → DerivesBy bare node at p w → ⊥
+derives_none node at p w (by_leaf k e) = omega arith
+derives_none node at p w (by_first first by k e d) = omega arith
+derives_none node at p w (by_pair first rest by by2 k e d g) = omega arith
+
+pub bare_laws : LatticeLaws bare
+bare_laws = record {
+  smaller = λ node at first rest h k e. absurd (omega arith);
+  apart = λ node at at' p r v w h d e x. absurd (derives_none node at p v d);
+  small = λ node at p w h d. absurd (derives_none node at p w d);
 }
