@@ -1,8 +1,9 @@
 #!/bin/sh
 # Lets each allocation of best_k's tests fail in turn, from the first on, until no test makes so many. A test must
-# then end with `Mem`, or not have got so far and pass. Prints how many allocations failed.
+# then end with `Mem` (or `AllocError`, where it collects the answers itself), or not have got so far and pass.
+# Prints how many allocations failed.
 #
-# Use: bench/best_k_memory.sh [FROM]      (needs rt; about ten seconds for each allocation)
+# Use: bench/best_k_memory.sh [FROM]      (needs rt; ten seconds or more for each allocation)
 set -eu
 
 cd "$(dirname "$0")/../crates/best_k"
@@ -10,7 +11,7 @@ number=${1:-1}
 while :; do
     told=$(rt try --test --fail-alloc "$number" 2>&1 || true)
     failed=$(echo "$told" | grep -c '^test .* FAILED$' || true)
-    wanted=$(echo "$told" | grep -c 'error: Mem$' || true)
+    wanted=$(echo "$told" | grep -c 'error: \(Mem\|AllocError\)$' || true)
     if [ "$failed" -ne "$wanted" ]; then
         echo "allocation $number: a test failed otherwise than for want of memory"
         echo "$told"
@@ -25,4 +26,4 @@ while :; do
     fi
     number=$((number + 1))
 done
-echo "$((number - 1)) allocations failed in turn, and each gave Mem"
+echo "$((number - 1)) allocations failed in turn, and each ended its test for want of memory"

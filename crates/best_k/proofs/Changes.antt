@@ -16,66 +16,13 @@ use Rattle.best_k.proofs.Apart.{Inside, inside}
 use Rattle.best_k.proofs.Frontiers.{drawn_few}
 use Rattle.best_k.proofs.Tables.{set_other, set_here, set_long, below, progress_grows, still, kept}
 
--- what a choice's parts ask of the nodes below
-pub first_near : (l : Shape) (t : List Progress) (c : Choice) (i j first : ℕ) (rest : Option ℕ)
-    → c ≡ Pair first rest → HeldBy t c i j → AreDrawn l t first (i + 1)
-first_near l t c i j first rest e h = go rest (subst (λ z. HeldBy t z i j) e h)
-  where
-    go : (rest : Option ℕ) → HeldBy t (Pair first rest) i j → AreDrawn l t first (i + 1)
-    go None k = inl (omega arith)
-    go (Some other) k = inl (omega (arith, k.0))
-
-pub rest_near : (l : Shape) (t : List Progress) (c : Choice) (i j first other : ℕ)
-    → c ≡ Pair first (Some other) → HeldBy t c i j → AreDrawn l t other (j + 1)
-rest_near l t c i j first other e h = let k = subst (λ z. HeldBy t z i j) e h in inl (omega (arith, k.1))
-
 pub smaller_first : (l : Shape) → LatticeLaws l → (node at first : ℕ) (rest : Option ℕ) → node < l.nodes
     → at < l.choices node → l.choice node at ≡ Pair first rest → first < node
 smaller_first l laws node at first rest n k e = (laws.smaller node at first rest n k e).0
 
-pub smaller_rest : (l : Shape) → LatticeLaws l → (node at first other : ℕ) → node < l.nodes
+smaller_rest : (l : Shape) → LatticeLaws l → (node at first other : ℕ) → node < l.nodes
     → at < l.choices node → l.choice node at ≡ Pair first (Some other) → other < node
 smaller_rest l laws node at first other n k e = (laws.smaller node at first (Some other) n k e).1
-
-pub draws_leaf : (l : Shape) (t : List Progress) (at price : ℕ) (word : List ℕ) (w : Way)
-    → IsTable l t (at + 1) → l.choice at w.at ≡ Leaf price word → DrawsParts l t t at w
-draws_leaf l t at price word w ok e = record {
-  table = ok;
-  long = refl;
-  same = λ u h. refl;
-  grows = λ u. omega arith;
-  reached = subst (λ z. ArePartsDrawnTo l t z w.first (w.rest + 1) × (w.rest ≡ 0 → ArePartsDrawnTo l t z (w.first + 1) 0)) (sym e) (tt, λ z. tt);
-}
-
-pub draws_alone : (l : Shape) → LatticeLaws l → (t t' : List Progress) (at first : ℕ) (w : Way) → at < l.nodes
-    → IsTable l t (at + 1) → Usable l t at w → l.choice at w.at ≡ Pair first None
-    → DrawsTo l t t' first (w.first + 1) → DrawsParts l t t' at w
-draws_alone l laws t t' at first w n ok usable e drew =
-    let less = smaller_first l laws at w.at first None n usable.ranked.is.there e in
-    let held = subst (λ z. HeldBy t z w.first w.rest) e usable.held in
-    let g = drew.grows first in
-    record {
-      table = kept l laws t t' at first (w.first + 1) n less ok drew;
-      long = drew.long;
-      same = λ u h. drew.same u (omega arith);
-      grows = drew.grows;
-      reached = subst (λ z. ArePartsDrawnTo l t' z w.first (w.rest + 1) × (w.rest ≡ 0 → ArePartsDrawnTo l t' z (w.first + 1) 0)) (sym e) (inl (omega arith), λ z. drew.reached);
-    }
-
-pub draws_rest : (l : Shape) → LatticeLaws l → (t t' : List Progress) (at first other : ℕ) (w : Way)
-    → at < l.nodes → IsTable l t (at + 1) → Usable l t at w → l.choice at w.at ≡ Pair first (Some other)
-    → DrawsTo l t t' other (w.rest + 1) → (w.rest ≡ 0 → ⊥) → DrawsParts l t t' at w
-draws_rest l laws t t' at first other w n ok usable e drew ne =
-    let less = smaller_rest l laws at w.at first other n usable.ranked.is.there e in
-    let held = subst (λ z. HeldBy t z w.first w.rest) e usable.held in
-    let g = drew.grows first in
-    record {
-      table = kept l laws t t' at other (w.rest + 1) n less ok drew;
-      long = drew.long;
-      same = λ u h. drew.same u (omega arith);
-      grows = drew.grows;
-      reached = subst (λ z. ArePartsDrawnTo l t' z w.first (w.rest + 1) × (w.rest ≡ 0 → ArePartsDrawnTo l t' z (w.first + 1) 0)) (sym e) ((inl (omega (arith, held.0)), drew.reached), λ z. absurd (ne z));
-    }
 
 -- what stands after the first of two was drawn on
 pub between : (l : Shape) → LatticeLaws l → (t t' : List Progress) (at first other : ℕ) (w : Way)
@@ -111,14 +58,6 @@ draws_both l laws t t' t2 at first other w n ok usable e drew more ez =
       reached = subst (λ z. ArePartsDrawnTo l t2 z w.first (w.rest + 1) × (w.rest ≡ 0 → ArePartsDrawnTo l t2 z (w.first + 1) 0)) (sym e) ((inl (omega (arith, held.0)), drawn_other), λ z. (more.reached, drawn_zero));
     }
 
-pub draws_drawn : (l : Shape) (t : List Progress) (at rank : ℕ) → IsTable l t (at + 1) → rank < count t at
-    → DrawsTo l t t at rank
-draws_drawn l t at rank ok h = record { table = ok; long = refl; same = λ u k. refl; grows = λ u. omega arith; reached = inl h }
-
-pub draws_spent : (l : Shape) (t : List Progress) (at rank : ℕ) → IsTable l t (at + 1)
-    → count t at ≡ length (ranked l at) → DrawsTo l t t at rank
-draws_spent l t at rank ok h = record { table = ok; long = refl; same = λ u k. refl; grows = λ u. omega arith; reached = inr h }
-
 -- a node of which not all is drawn has a last drawn way
 pub last_usable : (l : Shape) (t : List Progress) (at : ℕ) (x : Progress) → IsProgress l t at x
     → (x.stage ≡ Spent → ⊥) → 0 < length x.drawn.items
@@ -128,10 +67,6 @@ last_usable l t at x ok ns = go x.drawn.items x.queue.items x.stage refl ok.stat
     go drawn queue Fresh e (w, a, b, c, d) = subst (λ z. 0 < length z) (sym a) (omega arith)
     go drawn queue Open e k = omega (arith, k.last)
     go drawn queue Spent e k = absurd (ns e)
-
-pub spent_all : (l : Shape) (t : List Progress) (at : ℕ) (x : Progress) → IsProgress l t at x
-    → x.stage ≡ Spent → length x.drawn.items ≡ length (ranked l at)
-spent_all l t at x ok e = subst (λ z. IsStage l t at x.drawn.items x.queue.items z) e ok.state
 
 drawn_same : (l : Shape) (t t' : List Progress) (n : ℕ) (c : Choice) (i j : ℕ) → Inside n c
     → ((u : ℕ) → u < n → count t' u ≡ count t u) → ArePartsDrawnTo l t c i j → ArePartsDrawnTo l t' c i j
@@ -143,7 +78,8 @@ below_same : (t : List Progress) (at : ℕ) (v : Progress) (u : ℕ) → u < at
     → count (slice_set t at v) u ≡ count t u
 below_same t at v u h = ap drawn_of (set_other t at u v (λ e. omega arith))
 
--- A node whose followers are drawn can be advanced, in a table where another node stands in its place.
+-- Where the parts of what follows its last drawn way are drawn, a node can be advanced, in a table where another
+-- progress stands in its place.
 pub record CanAdvance (l : Shape) (t : List Progress) (at : ℕ) (x : Progress) : Type 0 where
   pub table : IsTable l t at
   pub node : IsProgress l t at x

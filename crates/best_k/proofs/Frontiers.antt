@@ -45,7 +45,7 @@ next_waits l laws node drawn queue n f h =
     ]
 
 -- The least that waits is the next.
-pub least_is_next : (l : Shape) → LatticeLaws l → (node : ℕ) (drawn queue : List Way) (q : Way) (r : ℕ)
+least_is_next : (l : Shape) → LatticeLaws l → (node : ℕ) (drawn queue : List Way) (q : Way) (r : ℕ)
     → node < l.nodes → Frontier l node drawn queue (length drawn) → IsIn q queue → HasRank l node q r
     → ((x : Way) (s : ℕ) → IsIn x queue → HasRank l node x s → r ≤ s) → r ≡ length drawn
 least_is_next l laws node drawn queue q r n f i h least =

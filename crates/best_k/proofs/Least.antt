@@ -1,5 +1,5 @@
 -- The least way of a node, among its choices.
-use Rattle.std.proofs.Common.{◌≡◌, ℕ, zero, suc, ◌<◌, ◌≤◌, ◌⊎◌, ◌↔◌, List, [], ◌∷◌, length, IsTrue, sym, refl, ap, subst, inl, inr, arith, ◌+◌, ◌^◌, Bool, true, false, Option, Some, None, IfSome, ◌∙◌, lit<}
+use Rattle.std.proofs.Common.{◌≡◌, ℕ, ◌<◌, ◌≤◌, ◌⊎◌, ◌↔◌, List, length, IsTrue, sym, refl, subst, inl, inr, arith, ◌+◌, Bool, true, false, Option, Some, None, IfSome, ◌∙◌}
 use Rattle.std.proofs.lemmas.Bool.{cases_eq, cases_lt}
 use Rattle.best_k.specs.declared.lattice.Choice.{Choice}
 use Rattle.best_k.specs.declared.lattice.Choice.TheVariants.{Leaf, Pair}
@@ -10,9 +10,8 @@ use Rattle.best_k.specs.declared.table.Way.{Way}
 use Rattle.best_k.specs.Derivations.{Shape, LatticeLaws}
 use Rattle.best_k.specs.Ranked.{ranked}
 use Rattle.best_k.specs.Ways.{HasRank, Offered}
-use Rattle.best_k.specs.Frontiers.{AreFirst}
-use Rattle.best_k.specs.Tables.{drawn_of, Held, AllHeld, Usable, IsDrawnTo, ArePartsDrawnTo}
-use Rattle.best_k.specs.Drawing.{IsLesserWay, IsLeastWay, IsStage, IsProgress, IsTable}
+use Rattle.best_k.specs.Tables.{drawn_of, Held, IsDrawnTo, ArePartsDrawnTo}
+use Rattle.best_k.specs.Drawing.{IsLesserWay, IsLeastWay, IsStage, IsTable}
 use Rattle.best_k.proofs.Apart.{Inside, inside}
 use Rattle.best_k.proofs.Ways.{rank_one, rank_some, rank_short, rank_fewer}
 use Rattle.best_k.proofs.Leading.{leads_rank}
@@ -35,7 +34,7 @@ drawn_choice l t n (Leaf price word) ok h = tt
 drawn_choice l t n (Pair first None) ok h = drawn_first l t n first ok h
 drawn_choice l t n (Pair first (Some rest)) ok h = (drawn_first l t n first ok h.0, drawn_first l t n rest ok h.1)
 
--- Every node below drawn its least way.
+-- The least parts of a choice are drawn.
 pub least_drawn : (l : Shape) → LatticeLaws l → (t : List Progress) (node at : ℕ) → node < l.nodes
     → at < l.choices node → IsTable l t node → ArePartsDrawnTo l t (l.choice node at) 0 0
 least_drawn l laws t node at n k ok = drawn_choice l t node (l.choice node at) ok (inside l laws node at n k)
@@ -60,14 +59,6 @@ lesser_second l node least way other b e t k = subst (λ z. IsLesserWay l node z
 abbrev pub LeastTo : Shape → List Progress → ℕ → ℕ → Option Way → Type 0
 LeastTo l t node c None = (w : Way) (r : ℕ) → w.at < c → HasRank l node w r → ⊥
 LeastTo l t node c (Some w) = (w.first ≡ 0) × (w.rest ≡ 0) × Held l t node w × ((r : ℕ) × (HasRank l node w r × ((g : Way) (s : ℕ) → g.at < c → HasRank l node g s → r ≤ s)))
-
-pub least_usable : (l : Shape) (t : List Progress) (node c : ℕ) (o : Option Way) → LeastTo l t node c o
-    → IfSome o (Usable l t node)
-least_usable l t node c None h = tt
-least_usable l t node c (Some w) h = record { rank = h.3.0; ranked = h.3.1.0; held = h.2 }
-
-pub least_start : (l : Shape) (t : List Progress) (node : ℕ) → LeastTo l t node 0 None
-least_start l t node w r h = absurd (omega arith)
 
 pub least_same : (l : Shape) → LatticeLaws l → (t : List Progress) (node c : ℕ) (o p : Option Way)
     → node < l.nodes → p ≡ None → LeastTo l t node c o → Offered l node c 0 0 p → LeastTo l t node (c + 1) o
@@ -116,31 +107,3 @@ least_end l laws t node c (Some w) n e h =
     let g = rank_some l laws node 0 n (omega arith) in
     let z : h.3.0 ≡ 0 = omega (arith, h.3.1.1 g.0 0 (omega (arith, g.1.is.there)) g.1) in
     (h.0, h.1, h.2, subst (λ r. HasRank l node w r) z h.3.1.0)
-
--- a node with its least way
-pub fresh_some : (l : Shape) (t : List Progress) (node : ℕ) (o : Option Way) (w : Way) (x : Progress)
-    → IsLeastWay l t node o → o ≡ Some w → x.drawn.items ≡ w ∷ [] → x.queue.items ≡ [] → x.stage ≡ Fresh
-    → IsProgress l t node x
-fresh_some l t node o w x h' eo ed eq es =
-    let h = subst (λ z. IsLeastWay l t node z) eo h' in
-    record {
-      first = subst (λ z. AreFirst l node z) (sym ed) (first h.3);
-      few = subst (λ z. length z < 2 ^ 64) (sym ed) (lit< tt);
-      held = subst (λ z. AllHeld l t node z) (sym ed) (λ v i. elim i [ inl e ↦ subst (λ z. Held l t node z) (sym e) h.2 | inr n ↦ absurd n ]);
-      state = subst (λ z. IsStage l t node x.drawn.items x.queue.items z) (sym es) (w, ed, h.0, h.1, eq);
-    }
-  where
-    first : HasRank l node w 0 → AreFirst l node (w ∷ [])
-    first k zero v e = subst (λ z. HasRank l node z 0) (sym e) k
-    first k (suc i) v e = absurd e
-
-pub fresh_none : (l : Shape) (t : List Progress) (node : ℕ) (o : Option Way) (x : Progress)
-    → IsLeastWay l t node o → o ≡ None → x.drawn.items ≡ [] → x.stage ≡ Spent → IsProgress l t node x
-fresh_none l t node o x h' eo ed es =
-    let h = subst (λ z. IsLeastWay l t node z) eo h' in
-    record {
-      first = subst (λ z. AreFirst l node z) (sym ed) (λ i w k. absurd k);
-      few = subst (λ z. length z < 2 ^ 64) (sym ed) (lit< tt);
-      held = subst (λ z. AllHeld l t node z) (sym ed) (λ w i. absurd i);
-      state = subst (λ z. IsStage l t node x.drawn.items x.queue.items z) (sym es) (ap length ed ∙ sym h);
-    }

@@ -6,7 +6,7 @@ use Rattle.best_k.specs.declared.table.Progress.{Progress}
 use Rattle.best_k.specs.declared.table.Way.{Way}
 use Rattle.best_k.specs.Derivations.{Shape, LatticeLaws}
 use Rattle.best_k.specs.Ranked.{Nth, join, ranked}
-use Rattle.best_k.specs.Ways.{HasParts, HasRank, IsMeasure, Offered}
+use Rattle.best_k.specs.Ways.{HasRank, IsMeasure}
 use Rattle.best_k.specs.Tables.{count, IsDrawnTo}
 use Rattle.best_k.proofs.Places.{nth_short}
 use Rattle.best_k.proofs.Parts.{parts_derive}
@@ -45,14 +45,6 @@ past : (l : Shape) (t : List Progress) (u i : ℕ) (d : Derivation) → IsDrawnT
 past l t u i d (inl lt) le k = omega arith
 past l t u i d (inr e) le k = let s = nth_short (ranked l u) i d k in omega arith
 
-pub no_leaf : (l : Shape) (node at i j price : ℕ) (word : List ℕ) → l.choice node at ≡ Leaf price word
-    → ((i ≡ 0) × (j ≡ 0) → ⊥) → IsMeasure l (l.choice node at) i j None
-no_leaf l node at i j price word c n = subst (λ z. IsMeasure l z i j None) (sym c) (λ d p. n (p.0, p.1))
-
-pub no_rest : (l : Shape) (node at i j one : ℕ) → l.choice node at ≡ Pair one None → (j ≡ 0 → ⊥)
-    → IsMeasure l (l.choice node at) i j None
-no_rest l node at i j one c n = subst (λ z. IsMeasure l z i j None) (sym c) (λ d p. n p.0)
-
 pub no_alone : (l : Shape) (t : List Progress) (node at i j one : ℕ) → l.choice node at ≡ Pair one None
     → IsDrawnTo l t one i → count t one ≤ i → IsMeasure l (l.choice node at) i j None
 no_alone l t node at i j one c known le = subst (λ z. IsMeasure l z i j None) (sym c) (λ d p. past l t one i d known le p.1)
@@ -72,11 +64,3 @@ pub way_measured : (l : Shape) → LatticeLaws l → (node : ℕ) (w : Way) → 
     → IsMeasure l (l.choice node w.at) w.first w.rest (Some (w.price, w.length))
     → (r : ℕ) × HasRank l node w r
 way_measured l laws node w n h m = way_ranked l laws node w m.0 n (record { there = h; parts = m.1; price = m.2; length = m.3 })
-
-pub way_missing : (l : Shape) (node at i j : ℕ) → IsMeasure l (l.choice node at) i j None
-    → Offered l node at i j None
-way_missing l node at i j m w r e f g x =
-    m x.derivation
-    (subst (λ z. HasParts l (l.choice node z) i j x.derivation) e
-    (subst (λ z. HasParts l (l.choice node w.at) i z x.derivation) g
-    (subst (λ z. HasParts l (l.choice node w.at) z w.rest x.derivation) f x.is.parts)))

@@ -28,7 +28,7 @@ begun_same l node least c queue e b = record {
   ];
 }
 
-pub begun_more : (l : Shape) → LatticeLaws l
+begun_more : (l : Shape) → LatticeLaws l
     → (node : ℕ) (least : Way) (c : ℕ) (queue queue' : List Way) (o : Option Way) → node < l.nodes
     → c ≢ least.at → BegunTo l node least c queue → Offered l node c 0 0 o
     → Moves (with_option o queue) queue' → BegunTo l node least (c + 1) queue'

@@ -92,7 +92,7 @@ held_by_grows n t t' (Leaf price word) i j h g k = tt
 held_by_grows n t t' (Pair first None) i j h g k = let a = g first h in omega arith
 held_by_grows n t t' (Pair first (Some rest)) i j h g k = let a = g first h.0 in let b = g rest h.1 in (omega (arith, k.0), omega (arith, k.1))
 
-pub held_grows : (l : Shape) → LatticeLaws l → (t t' : List Progress) (node : ℕ) (w : Way) → node < l.nodes
+held_grows : (l : Shape) → LatticeLaws l → (t t' : List Progress) (node : ℕ) (w : Way) → node < l.nodes
     → w.at < l.choices node → Grows node t t' → Held l t node w → Held l t' node w
 held_grows l laws t t' node w n k g h = held_by_grows node t t' (l.choice node w.at) w.first w.rest (inside l laws node w.at n k) g h
 
@@ -135,9 +135,6 @@ kept l laws t t' at child rank n h ok drew = record {
     | inl lt ↦ progress_grows l laws t t' u x (omega arith) (λ v b. drew.grows v) (ok.nodes u x k (sym (drew.same u lt) ∙ e))
   ];
 }
-
-pub table_none : (l : Shape) → IsTableOf l [] 0
-table_none l = record { table = record { long = omega arith; nodes = λ u x h e. absurd (omega arith) }; long = refl }
 
 -- one more node
 pub table_pushed : (l : Shape) → LatticeLaws l → (t : List Progress) (n : ℕ) (x : Progress) → n < l.nodes
