@@ -1,9 +1,10 @@
 -- A choice names smaller nodes, and no word of a node's derivations begins with another.
 use Rattle.std.proofs.Common.{◌≡◌, ℕ, ◌<◌, ◌≤◌, ◌⊎◌, List, sym, refl, ap, subst, inl, inr, arith, ◌++◌, Some, None, ◌∙◌}
+use Rattle.fare_law.specs.Lists.{IsPrefix}
 use Rattle.best_k.specs.declared.lattice.Choice.{Choice}
 use Rattle.best_k.specs.declared.lattice.Choice.TheVariants.{Leaf, Pair}
 use Rattle.best_k.specs.declared.lattice.Derivation.{Derivation}
-use Rattle.best_k.specs.Derivations.{Shape, DerivesBy, by_leaf, by_first, by_pair, Derives, IsPrefix, LatticeLaws}
+use Rattle.best_k.specs.Derivations.{Shape, DerivesBy, by_leaf, by_first, by_pair, Derives, LatticeLaws}
 use Rattle.best_k.proofs.Orders.{fronts_long, cancel_front}
 
 -- the nodes that a choice names

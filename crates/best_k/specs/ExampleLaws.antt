@@ -1,7 +1,8 @@
 -- The laws of the lattices that the tests draw from. They stand here since an `impl` cites lemmas of `specs` alone.
 use Rattle.std.proofs.Common.{◌≡◌, ℕ, zero, suc, ◌<◌, ◌≤◌, List, [], ◌∷◌, length, sym, refl, ap, subst, arith, ◌+◌, ◌++◌, length-append, Option, Some, None, ◌∙◌, ◌*◌, MatchOption, lit≤}
+use Rattle.fare_law.specs.Lists.{IsPrefix}
 use Rattle.best_k.specs.declared.lattice.Choice.TheVariants.{Leaf, Pair}
-use Rattle.best_k.specs.Derivations.{DerivesBy, by_leaf, by_first, by_pair, IsPrefix, LatticeLaws}
+use Rattle.best_k.specs.Derivations.{DerivesBy, by_leaf, by_first, by_pair, LatticeLaws}
 use Rattle.best_k.specs.Examples.{bare, doubling_choices, doubling_choice, doubling}
 
 bound : ℕ → ℕ
