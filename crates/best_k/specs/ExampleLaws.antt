@@ -3,7 +3,7 @@ use Rattle.std.proofs.Common.{◌≡◌, ℕ, zero, suc, ◌<◌, ◌≤◌, Lis
 use Rattle.fare_law.specs.Lists.{IsPrefix}
 use Rattle.best_k.specs.declared.lattice.Choice.TheVariants.{Leaf, Pair}
 use Rattle.best_k.specs.Derivations.{DerivesBy, by_leaf, by_first, by_pair, LatticeLaws}
-use Rattle.best_k.specs.Examples.{bare, doubling_choices, doubling_choice, doubling}
+use Rattle.best_k.specs.Examples.{sparse, sparse_choices, doubling_choices, doubling_choice, doubling}
 
 bound : ℕ → ℕ
 bound zero = 1
@@ -87,14 +87,19 @@ doubling_laws = record {
   small = λ node at p w h d. let a = within node at p w d in let b = few node h in (omega arith, omega arith);
 }
 
-derives_none : (node at p : ℕ) (w : List ℕ) → DerivesBy bare node at p w → ⊥
-derives_none node at p w (by_leaf k e) = omega arith
-derives_none node at p w (by_first first by k e d) = omega arith
-derives_none node at p w (by_pair first rest by by2 k e d g) = omega arith
+one_choice : (node : ℕ) → sparse_choices node ≤ 1
+one_choice zero = omega arith
+one_choice (suc n) = omega arith
 
-pub bare_laws : LatticeLaws bare
-bare_laws = record {
-  smaller = λ node at first rest h k e. absurd (omega arith);
-  apart = λ node at at' p r v w h d e x. absurd (derives_none node at p v d);
-  small = λ node at p w h d. absurd (derives_none node at p w d);
+one_leaf : (node at p : ℕ) (w : List ℕ) → DerivesBy sparse node at p w
+    → (at < sparse_choices node) × (p ≡ 4) × (length w ≡ 1)
+one_leaf node at p w (by_leaf k e) = let a : 4 ≡ p = cc in let b : 7 ∷ [] ≡ w = cc in (k, sym a, ap length (sym b))
+one_leaf node at p w (by_first first by k e d) = absurd (cc)
+one_leaf node at p w (by_pair first rest by by2 k e d g) = absurd (cc)
+
+pub sparse_laws : LatticeLaws sparse
+sparse_laws = record {
+  smaller = λ node at first rest h k e. absurd (cc);
+  apart = λ node at at' p r v w h d e x. let a = one_leaf node at p v d in let b = one_leaf node at' r w e in omega (arith, a.0, b.0, one_choice node);
+  small = λ node at p w h d. let a = one_leaf node at p w d in (omega (arith, a.1), omega (arith, a.2));
 }
