@@ -5,3 +5,4 @@ pub mod OneNext
 pub mod ResidualOrder
 pub mod Short
 pub mod Kept
+pub mod AskedKeys
