@@ -8,3 +8,4 @@ pub mod Expanding
 pub mod Sorting
 pub mod Building
 pub mod Lower
+pub mod DepartureOrder

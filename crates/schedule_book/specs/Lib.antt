@@ -3,3 +3,4 @@ pub mod Connects
 pub mod Days
 pub mod Expansions
 pub mod Faults
+pub mod Departures

@@ -3,6 +3,7 @@
 #![tactic(auto)]
 
 mod dated;
+mod departures;
 mod expansion;
 mod faults;
 mod numbering;

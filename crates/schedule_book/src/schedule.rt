@@ -3,9 +3,11 @@ ghost use Rattle.std.specs.Prelude.{◌≡◌, int_lt, count_by, IfErr, IfOk, On
 ghost use Rattle.fare_law.specs.Flights.{AreFlights, Earlier};
 ghost use Rattle.fare_law.specs.Lists.{EachPair};
 ghost use Rattle.schedule_book.specs.Connects.{connect_of};
+ghost use Rattle.schedule_book.specs.Departures.{AreDepartures};
 ghost use Rattle.schedule_book.specs.Faults.{HasCause, PlacesDiffer, RowsRight};
 
 use crate::SchedFault;
+use crate::departures::Departures;
 use crate::expansion::expand;
 use crate::numbering::put_in_order;
 use crate::places::Places;
@@ -19,19 +21,21 @@ use std::marker::Model;
 pub struct Schedule {
     places: Places,
     flights: List<Flight>,
+    departures: Departures,
 }
 
 impl Model for Schedule {
     ghost use Rattle.std.specs.Prelude.{◌≤◌, length};
     ghost use Rattle.fare_law.specs.Flights.{Earlier};
     ghost use Rattle.fare_law.specs.Lists.{EachPair};
+    ghost use Rattle.schedule_book.specs.Departures.{Indexes};
     ghost use Rattle.schedule_book.specs.Plan.{Plan};
 
     ghost Value = { Plan };
 
     ghost view = { λ s. record { places = s.places; flights = s.flights } };
 
-    ghost invariant = { λ s. (EachPair Earlier s.flights) × (length s.flights ≤ 200000) };
+    ghost invariant = { λ s. (EachPair Earlier s.flights) × (length s.flights ≤ 200000) × Indexes s.flights s.departures.keys.items s.departures.numbers.items };
 }
 
 impl Schedule {
@@ -53,8 +57,13 @@ impl Schedule {
             Err(fault) => return Err(fault),
         };
         put_in_order(flights.as_mut_slice());
+        let departures = Departures::of(alloc, flights.as_slice())?;
         let flights = List::from_vec(flights);
-        Ok(Schedule { places, flights })
+        Ok(Schedule {
+            places,
+            flights,
+            departures,
+        })
     }
 
     /// All flights, in order.
@@ -70,6 +79,14 @@ impl Schedule {
         ensures { result ≡ connect_of self.now.places place }
     {
         self.places.connect(place)
+    }
+
+    /// The numbers of the flights that depart from a place, ascending, from `lo` to `hi - 1`.
+    pub fn from_place(&self, place: Place, lo: u32, hi: u32) -> &[u32]
+        ensures { AreDepartures self.now.flights place lo hi result.now }
+    {
+        self.departures
+            .between(self.flights.as_slice(), place, lo, hi)
     }
 
     /// The number of flights that depart before an instant.

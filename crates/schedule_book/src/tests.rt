@@ -102,6 +102,10 @@ fn numbers_flights_by_departure(rt: HostRuntime) -> Result<(), Fail> {
         .map(|f| f.number)
         .collect::<Vec<u16>>(rt.alloc())?;
     assert_eq!(rt; numbers.as_slice(), [201, 101, 11, 102, 12, 202].as_slice());
+    assert_eq!(rt; schedule.from_place(LON, 0, 6), [0, 2].as_slice());
+    assert_eq!(rt; schedule.from_place(LON, 1, 6), [2].as_slice());
+    assert_eq!(rt; schedule.from_place(NYC, 3, 4), [3].as_slice());
+    assert_eq!(rt; schedule.lower(22341 * 1440 + 600), 1);
     assert_eq!(rt; schedule.connect(DUB), Some(45));
     assert_eq!(rt; schedule.connect(Place(*b"PAR")), None);
     Ok(())

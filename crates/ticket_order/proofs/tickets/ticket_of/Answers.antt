@@ -28,7 +28,7 @@ returns-in_err-components-clause-none c =
     (λ t h.
     let e = c.in_ok-labels.ensures.only (labels t.components) h.numbered (ticket_labels fs ms t h) in
     let u : labels t.components ≡ c.as_slice.result.now = cc in
-    let parts = subst (λ x. Matched (IsComponent x) ms t.components) (sym c.flights.ensures) (ticket_parts fs ms t h) in
+    let parts = subst (λ x. Matched (IsComponent x) ms t.components) (sym c.flights.ensures.flights) (ticket_parts fs ms t h) in
     let k = c.in_err-components.ensures.only t.components parts u in
     absurd (cc))
 
@@ -38,7 +38,7 @@ returns-clause-ticket c =
     let ms = c.args.moves.now in
     let some = c.in_ok-components.ensures.some in
     ticket_made fs ms c.in_ok-labels.labels _ (omega arith) c.in_ok-labels.ensures.right.0 c.in_ok-labels.ensures.right.1
-    (subst (λ x. Matched (IsComponent x) ms c.in_ok-components.components) c.flights.ensures some.0) (some.1 ∙ c.as_slice.ensures.items)
+    (subst (λ x. Matched (IsComponent x) ms c.in_ok-components.components) c.flights.ensures.flights some.0) (some.1 ∙ c.as_slice.ensures.items)
 
 pub returns-clause-only : goal.returns-clause-only
 returns-clause-only c = λ t h.
@@ -46,7 +46,7 @@ returns-clause-only c = λ t h.
     let ms = c.args.moves.now in
     let e = c.in_ok-labels.ensures.only (labels t.components) h.numbered (ticket_labels fs ms t h) in
     let u : labels t.components ≡ c.as_slice.result.now = cc in
-    let parts = subst (λ x. Matched (IsComponent x) ms t.components) (sym c.flights.ensures) (ticket_parts fs ms t h) in
+    let parts = subst (λ x. Matched (IsComponent x) ms t.components) (sym c.flights.ensures.flights) (ticket_parts fs ms t h) in
     let k = c.in_ok-components.ensures.only t.components parts u in
     let same : t.components ≡ c.in_ok-components.components = cc in
     λ i. record { components = same i }
