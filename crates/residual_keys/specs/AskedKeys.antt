@@ -21,15 +21,15 @@ pub record IsLeg (b : Book) (party : ℕ) (f : Flight) (leg : Leg) : Type 0 wher
 
 -- the fare of the row is live and filed from the one place to the other, and the rule is its live rule
 pub record IsLiveRow (b : Book) (from to : Place) (row : SheetRow) : Type 0 where
-  pub from : row.fare.key.from ≡ from
-  pub to : row.fare.key.to ≡ to
+  pub filed_from : row.fare.key.from ≡ from
+  pub filed_to : row.fare.key.to ≡ to
   pub fare : live_fare b row.fare.key ≡ Some row.fare
   pub rule : live_rule b row.fare.key.carrier row.fare.rule ≡ Some row.rule
 
 -- The book's sheet of a market: its live fares in order, of which there is one at least.
 pub record SheetOf (b : Book) (from to : Place) (sheet : Sheet) : Type 0 where
-  pub from : sheet.from ≡ from
-  pub to : sheet.to ≡ to
+  pub filed_from : sheet.from ≡ from
+  pub filed_to : sheet.to ≡ to
   pub some : sheet.rows ≢ []
   pub ascending : EachPair RowBefore sheet.rows
   pub live : (row : SheetRow) → IsIn row sheet.rows ↔ IsLiveRow b from to row
@@ -49,7 +49,7 @@ pub record KeyOf (b : Book) (q : Request) (r : State) (key : OfferKey) : Type 0 
   pub flights : List Flight
   pub next : Option Position
   pub path : IsPath b q.slices r.at numbers flights next
-  pub key : KeyOfFlights b q r flights key
+  pub of : KeyOfFlights b q r flights key
 
 -- The keys of a search: of the residuals that are reached.
 abbrev pub Keys : Book → Request → OfferKey → Type 0
