@@ -1,0 +1,78 @@
+//! The calls of the base records, each once with memory at hand.
+ghost use Rattle.std.specs.Prelude.{◌≡◌};
+
+use fare_law::{
+    ArrayVec, Basis, Carrier, DayTime, Fare, FareKey, FareKind, List, MarketSheet, Place, Rule,
+    SheetRow,
+};
+use std::test::Fail;
+
+const LONDON: Place = Place(*b"LON");
+
+const NEW_YORK: Place = Place(*b"NYC");
+
+fn basis() -> Basis {
+    let mut characters = ArrayVec::new();
+    characters.push(b'Y');
+    characters.push(b'1');
+    Basis(characters)
+}
+
+// A fare from London to New York that may depart from 10:00 to 22:00.
+fn row() -> SheetRow
+    ensures from { result.fare.key.from ≡ LONDON }
+    ensures to { result.fare.key.to ≡ NEW_YORK }
+{
+    let times = DayTime {
+        days: ArrayVec::new(),
+        from: 600,
+        to: 1320,
+    };
+    SheetRow {
+        fare: Fare {
+            key: FareKey {
+                carrier: Carrier(*b"QX"),
+                from: LONDON,
+                to: NEW_YORK,
+                basis: basis(),
+            },
+            class: 24,
+            kind: FareKind::O,
+            amount: 20000,
+            rule: 1,
+        },
+        rule: Rule {
+            cat2: Some(times),
+            ..Rule::default()
+        },
+    }
+}
+
+#[test]
+fn makes_a_sheet(rt: HostRuntime) -> Result<(), Fail> {
+    let mut rows = List::new(rt.alloc());
+    rows.push(row())?;
+    let sheet = MarketSheet::of(rt.alloc(), LONDON, NEW_YORK, rows)?;
+    assert_eq!(rt; sheet.opens.as_slice(), [600].as_slice());
+    assert_eq!(rt; sheet.closes.as_slice(), [1320].as_slice());
+    Ok(())
+}
+
+#[test]
+fn keeps_lists(rt: HostRuntime) -> Result<(), Fail> {
+    let mut numbers = List::new(rt.alloc());
+    numbers.push(3)?;
+    numbers.push(5)?;
+    assert_eq!(rt; numbers.len(), 2);
+    assert_eq!(rt; numbers.clone()?.into_vec().as_slice(), [3, 5].as_slice());
+    assert_eq!(rt; List::from_vec(vec![in rt.alloc(); 3, 5]?), numbers);
+
+    let name = basis();
+    assert_eq!(rt; name.copied(), name);
+    assert_eq!(rt; name.0.len(), 2);
+    assert_eq!(rt; name.0.is_full(), false);
+    assert_eq!(rt; LONDON.is(LONDON), true);
+    assert_eq!(rt; LONDON.is(NEW_YORK), false);
+    assert_eq!(rt; Carrier(*b"QX").is(Carrier(*b"BX")), false);
+    Ok(())
+}
