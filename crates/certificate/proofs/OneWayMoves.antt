@@ -103,7 +103,7 @@ only_move m fs p next us mv =
     ((λ i. record { flights = fl.0 i; carrier = carrier i; basis = basis i; role = alone.0 i; slot = alone.1 i }), fl.2, price_is fs p fl.1 ef er)
 
 abbrev pub one_way_piece : Piece
-one_way_piece = record { begin = lon; end = nyc; fare = fare; rule = free_rule; reverse = false; first_day = pos 22341; last_day = pos 22341; sale = pos 22312 }
+one_way_piece = record { begin = lon; end = nyc; fare = fare; rule = free_rule; reverse = false; first_day = pos 22341; last_day = pos 22341; sale = pos 22311 }
 
 has_seats : 1 ≤ seats one_way_book flight 24
 unfolding seats

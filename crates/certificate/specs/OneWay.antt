@@ -58,7 +58,7 @@ one_way_slice = record { from = lon; to = nyc; first = pos 22341; days = 1 }
 
 -- three tickets for one passenger, sold on 2031-02-01
 abbrev pub one_way_request : Request
-one_way_request = record { sale = pos 22312; party = 1; best = 3; slices = one_way_slice ∷ [] }
+one_way_request = record { sale = pos 22311; party = 1; best = 3; slices = one_way_slice ∷ [] }
 
 abbrev pub one_way_root : State
 one_way_root = record { at = record { slice = 0; leg = 0; place = lon; via = None; lo = 0; hi = 1 }; units = []; part = no_part }

@@ -52,7 +52,7 @@ abbrev pub book_of : List Place → List Flight → List Action → Book
 book_of places flights actions = record { timetable = record { places = map place_row places; flights = flights; seats = map seat_row flights }; entries = record { actions = actions } ∷ [] }
 
 abbrev pub request_of : List Slice → Request
-request_of slices = record { sale = pos 22312; party = 1; best = 3; slices = slices }
+request_of slices = record { sale = pos 22311; party = 1; best = 3; slices = slices }
 
 -- one component of a ticket of one flight a slice, with all that it stands for
 pub record Leg : Type 0 where
