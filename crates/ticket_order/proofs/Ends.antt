@@ -2,7 +2,7 @@
 use Rattle.std.proofs.Common.{◌≡◌, ℕ, ◌+◌, ◌≤◌, ◌<◌, List, [], ◌∷◌, length, drop, get_or, slice_get, IfSome, Option, Some, None, option_and_then, refl, sym, ap, ap₂, ◌∙◌, subst}
 use Rattle.fare_law.specs.declared.flights.Flight.{Flight}
 use Rattle.fare_law.specs.declared.names.Place.{Place}
-use Rattle.fare_law.specs.Lists.{Matched, OnFirst, OnLast}
+use Rattle.fare_law.specs.Lists.{Matched, OnLast}
 use Rattle.std.proofs.lemmas.List.{drop_all}
 use Rattle.ticket_order.specs.Tickets.{LeadFrom}
 use Rattle.ticket_order.proofs.TicketMoves.{rest_at}

@@ -1,14 +1,13 @@
 -- The labels that are read off the moves of a ticket are its own.
-use Rattle.std.proofs.Common.{◌≡◌, ℕ, zero, suc, ◌+◌, ◌-◌, ◌≤◌, ◌<◌, ◌⊎◌, ◌&&◌, ◌||◌, ◌==◌, Bool, true, false, cond, eqb, nat_le, not, ◌↔◌, List, [], ◌∷◌, ◌++◌, length, set, take, drop, get_or, count_by, Option, Some, None, refl, sym, ap, ap₂, ◌∙◌, subst, inl, inr, arith, append_assoc, append-nil, le-leb, get_or-set_same, get_or-set_other}
-use Rattle.std.proofs.lemmas.Bool.{cases_eq, cases_order, ne_eqb}
+use Rattle.std.proofs.Common.{◌≡◌, ℕ, suc, ◌+◌, ◌-◌, ◌≤◌, ◌<◌, ◌&&◌, ◌||◌, ◌==◌, Bool, true, false, cond, eqb, nat_le, not, ◌↔◌, List, [], ◌∷◌, ◌++◌, length, set, take, drop, get_or, count_by, Option, Some, None, refl, sym, ap, ap₂, ◌∙◌, subst, inl, inr, arith, append_assoc, append-nil, get_or-set_same, get_or-set_other}
+use Rattle.std.proofs.lemmas.Bool.{cases_eq, ne_eqb}
 use Rattle.std.proofs.lemmas.Bool.Decides.{nat_tests}
 use Rattle.std.proofs.lemmas.List.{take_rest}
 use Rattle.fare_law.specs.declared.moves.Move.{Move}
-use Rattle.fare_law.specs.declared.moves.Role.{Role}
 use Rattle.fare_law.specs.declared.moves.Role.TheVariants.{Alone, Opens, GoesOn, Closes}
 use Rattle.fare_law.specs.Lawful.{Numbered, comes_in}
 use Rattle.fare_law.specs.Moves.{role_of}
-use Rattle.fare_law.specs.Order.{upto, labels_below, slot_number}
+use Rattle.fare_law.specs.Order.{labels_below, slot_number}
 use Rattle.ticket_order.specs.Tickets.{AreLabels, begins, stays_open}
 use Rattle.ticket_order.proofs.OpenLabels.{ones, count_open}
 use Rattle.ticket_order.proofs.TicketMoves.{rest_is, rest_at, front_at}

@@ -1,7 +1,6 @@
 -- The components of a ticket and its moves.
 use Rattle.std.proofs.Common.{◌≡◌, ℕ, suc, ◌+◌, ◌≤◌, ◌<◌, List, [], ◌∷◌, ◌++◌, length, take, drop, get_or, Option, Some, None, refl, sym, ap, ap₂, ◌∙◌, subst, append_assoc, append-nil, arith, length-append}
 use Rattle.std.proofs.lemmas.List.{drop_all}
-use Rattle.fare_law.specs.declared.fares.FareKey.{FareKey}
 use Rattle.fare_law.specs.declared.flights.Flight.{Flight}
 use Rattle.fare_law.specs.declared.moves.Move.{Move}
 use Rattle.fare_law.specs.declared.names.Place.{Place}
@@ -9,7 +8,7 @@ use Rattle.fare_law.specs.declared.tickets.Component.{Component}
 use Rattle.fare_law.specs.declared.tickets.Ticket.{Ticket}
 use Rattle.fare_law.specs.Lawful.{Numbered}
 use Rattle.fare_law.specs.Lists.{Matched}
-use Rattle.fare_law.specs.Moves.{moves_of, moves_after, move_of}
+use Rattle.fare_law.specs.Moves.{moves_after, move_of}
 use Rattle.ticket_order.specs.Tickets.{IsComponent, FiledOver, LeadFrom, TicketOf, AreLabels, labels, market_of}
 use Rattle.ticket_order.proofs.TicketMoves.{rest_is, rest_at, front_is, front_at}
 

@@ -1,6 +1,5 @@
 -- The labels of components, and the ticket of moves over the flights of a schedule.
 use Rattle.std.specs.Prelude.{◌≡◌, ℕ, ◌≤◌, Bool, true, false, List, [], ◌∷◌, ◌++◌, length, map, slice_get, Some}
-use Rattle.fare_law.specs.declared.fares.FareKey.{FareKey}
 use Rattle.fare_law.specs.declared.flights.Flight.{Flight}
 use Rattle.fare_law.specs.declared.moves.Move.{Move}
 use Rattle.fare_law.specs.declared.moves.Role.{Role}

@@ -14,10 +14,10 @@ const LON: Place = Place(*b"LON");
 const NYC: Place = Place(*b"NYC");
 
 fn basis(text: [u8; 2]) -> Basis {
+    let [first, second] = text;
     let mut characters = ArrayVec::new();
-    for character in text {
-        characters.push(character);
-    }
+    characters.push(first);
+    characters.push(second);
     Basis(characters)
 }
 
@@ -41,10 +41,12 @@ fn component(flight: u32, from: Place, to: Place, unit: u8) -> Component {
 }
 
 fn ticket(components: [Component; 4]) -> Ticket {
+    let [a, b, c, d] = components;
     let mut list = ArrayVec::new();
-    for component in components {
-        list.push(component);
-    }
+    list.push(a);
+    list.push(b);
+    list.push(c);
+    list.push(d);
     Ticket { components: list }
 }
 
@@ -105,11 +107,11 @@ fn gives_the_code_of_a_move(rt: HostRuntime) {
 }
 
 fn word(numbers: [u64; 2]) -> Code {
+    let [first, second] = numbers;
     let mut word = Code::new();
-    for number in numbers {
-        if number != 0 {
-            word.push(number);
-        }
+    word.push(first);
+    if second != 0 {
+        word.push(second);
     }
     word
 }

@@ -1,4 +1,4 @@
-use Rattle.std.proofs.Common.{◌≡◌, true, false, length, sym, ◌∙◌, arith}
+use Rattle.std.proofs.Common.{sym, ◌∙◌, arith}
 use Rattle.ticket_order.proofs.ReadLabels.{labels_long, right_next, right_before, tested}
 use Rattle.ticket_order.proofs.numbering.are_labels.Goals as goal
 

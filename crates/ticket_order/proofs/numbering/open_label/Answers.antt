@@ -1,4 +1,4 @@
-use Rattle.std.proofs.Common.{◌≡◌, Bool, false, true, get_or, subst, arith}
+use Rattle.std.proofs.Common.{◌≡◌, false, true, get_or, subst, arith}
 use Rattle.ticket_order.proofs.OpenLabels.{found_here, found_nowhere}
 use Rattle.ticket_order.proofs.numbering.open_label.Goals as goal
 

@@ -1,4 +1,4 @@
-use Rattle.std.proofs.Common.{◌≡◌, ◌≤◌, drop}
+use Rattle.std.proofs.Common.{◌≡◌, drop}
 use Rattle.ticket_order.proofs.OpenLabels.{find_open}
 use Rattle.ticket_order.proofs.numbering.open_label.Given as goal
 

@@ -1,7 +1,7 @@
-use Rattle.std.proofs.Common.{◌≡◌, ◌+◌, ◌<◌, ◌∙◌, ◌∷◌, ◌++◌, [], Bool, true, false, List, ℕ, length, set, length-set, drop, Some, None, refl, sym, ap, subst, arith, length-append}
+use Rattle.std.proofs.Common.{◌≡◌, ◌+◌, ◌∙◌, ◌∷◌, [], true, false, length, length-set, drop, Some, sym, ap, subst, arith, length-append}
 use Rattle.std.proofs.lemmas.List.{drop_all}
-use Rattle.ticket_order.specs.Tickets.{begins, stays_open}
-use Rattle.ticket_order.proofs.ReadLabels.{Read, read_none, read_begin, read_go_on, read_lost, read_all, read_same}
+use Rattle.ticket_order.specs.Tickets.{begins}
+use Rattle.ticket_order.proofs.ReadLabels.{Read, read_begin, read_go_on, read_lost, read_all, read_same}
 use Rattle.ticket_order.proofs.TicketMoves.{rest_is}
 use Rattle.ticket_order.proofs.numbering.read_labels.Goals as goal
 use Rattle.ticket_order.proofs.numbering.read_labels.Goals.{then-begins, else-begins+in_ok-label}

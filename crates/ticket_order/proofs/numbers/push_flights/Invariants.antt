@@ -1,4 +1,4 @@
-use Rattle.std.proofs.Common.{◌≡◌, ◌+◌, ◌++◌, ◌∷◌, [], length, take}
+use Rattle.std.proofs.Common.{◌≡◌, ◌+◌, ◌++◌, length, take}
 use Rattle.ticket_order.proofs.numbers.push_flights.Given as goal
 
 abbrev pub invariant-loop-flight : goal.invariant-loop-flight

@@ -1,4 +1,4 @@
-use Rattle.std.proofs.Common.{◌≡◌, ◌+◌, List, ℕ, [], ◌∷◌, ◌++◌, length, take, drop, ◌∙◌, ap, sym, subst, arith, length-append}
+use Rattle.std.proofs.Common.{◌≡◌, ◌+◌, [], ◌∷◌, ◌++◌, length, take, drop, ◌∙◌, ap, arith, length-append}
 use Rattle.std.proofs.lemmas.List.{take_rest}
 use Rattle.fare_law.specs.Moves.{move_of, moves_after}
 use Rattle.ticket_order.specs.Tickets.{labels}

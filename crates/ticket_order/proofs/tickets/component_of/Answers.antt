@@ -1,5 +1,5 @@
-use Rattle.std.proofs.Common.{◌≡◌, Some, refl, sym, ap, subst}
-use Rattle.ticket_order.proofs.TicketParts.{EndsFound, component_one, component_none}
+use Rattle.std.proofs.Common.{Some, refl, sym, ap, subst}
+use Rattle.ticket_order.proofs.TicketParts.{component_one, component_none}
 use Rattle.ticket_order.specs.Tickets.{LeadFrom}
 use Rattle.ticket_order.proofs.tickets.component_of.Goals as goal
 

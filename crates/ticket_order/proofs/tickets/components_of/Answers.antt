@@ -1,5 +1,5 @@
-use Rattle.std.proofs.Common.{◌≡◌, ◌+◌, ◌∷◌, ◌++◌, [], Some, sym, ap, subst, ◌∙◌, arith}
-use Rattle.ticket_order.proofs.TicketParts.{Built, built_none, built_next, built_lost, built_all}
+use Rattle.std.proofs.Common.{◌+◌, Some, sym, ap, subst, arith}
+use Rattle.ticket_order.proofs.TicketParts.{Built, built_next, built_lost, built_all}
 use Rattle.ticket_order.proofs.tickets.components_of.Goals as goal
 
 pub returns-in_err-component-clause-only : goal.returns-in_err-component-clause-only

@@ -1,4 +1,4 @@
-use Rattle.std.proofs.Common.{◌≡◌, Some, None, sym, ◌∙◌, ap, arith}
+use Rattle.std.proofs.Common.{Some, sym, ◌∙◌, ap}
 use Rattle.ticket_order.proofs.Ends.{further, ends_next, ends_lost, ends_all, lead_only, lead_all}
 use Rattle.ticket_order.proofs.tickets.ends_of.Goals as goal
 use Rattle.ticket_order.proofs.tickets.ends_of.Goals.{in-Some, in-None}

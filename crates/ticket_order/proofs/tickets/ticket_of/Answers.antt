@@ -1,8 +1,7 @@
-use Rattle.std.proofs.Common.{◌≡◌, Option, Some, None, IfNone, List, ℕ, length, sym, ap, subst, ◌∙◌, arith}
-use Rattle.fare_law.specs.declared.tickets.Component.{Component}
+use Rattle.std.proofs.Common.{◌≡◌, IfNone, length, sym, ap, subst, ◌∙◌, arith}
 use Rattle.fare_law.specs.declared.tickets.Ticket.{Ticket}
 use Rattle.fare_law.specs.Lists.{Matched}
-use Rattle.ticket_order.specs.Tickets.{TicketOf, AreLabels, labels, IsComponent}
+use Rattle.ticket_order.specs.Tickets.{TicketOf, labels, IsComponent}
 use Rattle.ticket_order.proofs.ReadLabels.{labels_long}
 use Rattle.ticket_order.proofs.TicketParts.{ticket_made, ticket_labels, ticket_parts, ticket_short}
 use Rattle.ticket_order.proofs.tickets.ticket_of.Goals as goal
