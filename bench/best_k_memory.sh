@@ -1,6 +1,6 @@
 #!/bin/sh
 # Lets each allocation of best_k's tests fail in turn, from the first on, until no test makes so many. A test must
-# then end with `Mem` (or `AllocError`, where it collects the answers itself), or not have got so far and pass.
+# then end with `Mem` (or `AllocError` or `AllocFailed`, where the allocation is the test's own), or not have got so far and pass.
 # Prints how many allocations failed.
 #
 # Use: bench/best_k_memory.sh [FROM]      (needs rt; ten seconds or more for each allocation)
@@ -11,7 +11,7 @@ number=${1:-1}
 while :; do
     told=$(rt try --test --fail-alloc "$number" 2>&1 || true)
     failed=$(echo "$told" | grep -c '^test .* FAILED$' || true)
-    wanted=$(echo "$told" | grep -c 'error: \(Mem\|AllocError\)$' || true)
+    wanted=$(echo "$told" | grep -c 'error: \(Mem\|AllocError\|AllocFailed { .. }\)$' || true)
     if [ "$failed" -ne "$wanted" ]; then
         echo "allocation $number: a test failed otherwise than for want of memory"
         echo "$told"
