@@ -85,7 +85,7 @@ fn request(party: u8) -> Request
         days: 1,
     });
     Request {
-        sale: 22312,
+        sale: 22311,
         party,
         best: 3,
         slices,

@@ -1,5 +1,5 @@
 -- The texts that a run writes, and when each is due.
-use Rattle.std.specs.Prelude.{◌≡◌, ℕ, List, [], ◌∷◌, codes, Option, Some, None}
+use Rattle.std.specs.Prelude.{◌≡◌, ◌≤◌, ℕ, List, [], ◌∷◌, length, codes, Option, Some, None}
 use Rattle.fare_io.specs.Streams.{ReadsWhole, ReadsPast}
 use Rattle.one_way.specs.declared.cases.OneWayCase.{OneWayCase}
 use Rattle.one_way_text.specs.Case.{case_of}
@@ -15,18 +15,20 @@ most_bytes = 67108864
 abbrev pub IsCommand : List (List ℕ) → Type 0
 IsCommand words = words ≡ codes "search" ∷ []
 
--- The source was read to its end, its bytes spell a case, and the text is the version and the answer of the best tickets of the case's book.
+-- The source was read to its end, its bytes are within the limit and spell a case, and the text is the version and the answer of the best tickets of the case's book.
 pub record Answers (left left' : Option (List ℕ)) (text : List ℕ) : Type 0 where
   pub bytes : List ℕ
   pub read : ReadsWhole left left' bytes
+  pub fits : length bytes ≤ most_bytes
   pub found : OneWayCase
   pub spelled : case_of bytes ≡ Some found
   pub answer : AnswersCase found text
 
--- The source was read to its end, and its bytes spell no case that is built.
+-- The source was read to its end, and its bytes are within the limit and spell no case that is built.
 pub record Refuses (left left' : Option (List ℕ)) (text : List ℕ) : Type 0 where
   pub bytes : List ℕ
   pub read : ReadsWhole left left' bytes
+  pub fits : length bytes ≤ most_bytes
   pub other : case_of bytes ≡ None
   pub whole : text ≡ codes "refused 0 NotBuilt\n"
 

@@ -36,6 +36,7 @@ pub fn run<S: Source, K: Sink>(
 ) -> Status
     ensures says { Says result (map string_bytes words.now) (S.left source.old) (S.left source.new) (K.held sink.old) (K.held sink.new)
         (S.faults source.old) (S.faults source.new) (K.faults sink.old) (K.faults sink.new) (K.stalls sink.old) (K.stalls sink.new) }
+    ensures unread { (IsCommand (map string_bytes words.now) → ⊥) → source.new ≡ source.old }
     ensures complete { IsComplete result (map string_bytes words.now) (S.left source.old)
         (S.faults source.old) (S.faults source.new) (K.faults sink.old) (K.faults sink.new) (K.stalls sink.old) (K.stalls sink.new) }
 {
@@ -48,8 +49,9 @@ fn run_words<S: Source, K: Sink>(
     source: &mut S,
     sink: &mut K,
 ) -> Status
-    ensures { Says result (map string_bytes words.now) (S.left source.old) (S.left source.new) (K.held sink.old) (K.held sink.new)
+    ensures says { Says result (map string_bytes words.now) (S.left source.old) (S.left source.new) (K.held sink.old) (K.held sink.new)
         (S.faults source.old) (S.faults source.new) (K.faults sink.old) (K.faults sink.new) (K.stalls sink.old) (K.stalls sink.new) }
+    ensures unread { (IsCommand (map string_bytes words.now) → ⊥) → source.new ≡ source.old }
 {
     if !is_command(words) {
         return finish(sink, b"usage: lowfare search\n", Status::Usage);

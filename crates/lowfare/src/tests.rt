@@ -12,24 +12,40 @@ component 1 unit 1 one_way forward QX LON NYC Y1 20000
 flight QX 101 2031-03-03 LON NYC
 ";
 
-// The one-way case, with this party, these seats, this origin and this first day of the flight's row.
-fn case(
-    alloc: Global,
-    party: &[u8],
-    seats: &[u8],
-    from: &[u8],
-    day: &[u8],
-) -> Result<List<u8>, Fail> {
+// What one case changes of the one-way case, and how it ends.
+#[derive(Clone, Copy)]
+struct Changed<'a> {
+    name: &'a str,
+    party: &'a [u8],
+    seats: &'a [u8],
+    from: &'a [u8],
+    /// The first day of the flight's row.
+    day: &'a [u8],
+    status: Status,
+    text: &'a [u8],
+}
+
+const ONE_WAY: Changed<'static> = Changed {
+    name: "the one-way case",
+    party: b"1",
+    seats: b"Y9",
+    from: b"LON",
+    day: b"2031-03-03",
+    status: Status::Done,
+    text: ANSWER,
+};
+
+fn case(alloc: Global, changed: &Changed<'_>) -> Result<List<u8>, Fail> {
     let mut text = Vec::new(alloc);
     for piece in [
         b"#places\nLON,60\nNYC,60\n#flights\nQX,101,".as_slice(),
-        from,
+        changed.from,
         b",NYC,10:00,+00:00,13:00,-05:00,0,".as_slice(),
-        day,
+        changed.day,
         b",2031-03-03,1\n#seats\nQX,101,LON,*,".as_slice(),
-        seats,
+        changed.seats,
         b"\n#filings\n{\"actions\":[{\"put_fare\":{\"carrier\":\"QX\",\"from\":\"LON\",\"to\":\"NYC\",\"basis\":\"Y1\",\"class\":\"Y\",\"kind\":\"O\",\"amount\":20000,\"rule\":0}}]}\n#request\n{\"sale\":\"2031-02-01\",\"party\":".as_slice(),
-        party,
+        changed.party,
         b",\"best\":3,\"slices\":[{\"from\":\"LON\",\"to\":\"NYC\",\"first\":\"2031-03-03\",\"days\":1}]}\n#end\n".as_slice(),
     ] {
         text.extend_from_slice(piece)?;
@@ -38,7 +54,7 @@ fn case(
 }
 
 fn one_way(alloc: Global) -> Result<List<u8>, Fail> {
-    case(alloc, b"1", b"Y9", b"LON", b"2031-03-03")
+    case(alloc, &ONE_WAY)
 }
 
 fn words(alloc: Global, words: &[&str]) -> Result<Vec<String>, Fail> {
@@ -54,73 +70,61 @@ fn answers_cases(rt: HostRuntime) -> Result<(), Fail> {
     let none = b"version 1\ntickets 0\n".as_slice();
     let refused = b"refused 0 NotBuilt\n".as_slice();
     let cases = [
-        (
-            "the one-way case",
-            case(rt.alloc(), b"1", b"Y9", b"LON", b"2031-03-03")?,
-            Status::Done,
-            ANSWER,
-        ),
-        (
-            "two passengers, one seat",
-            case(rt.alloc(), b"2", b"Y1", b"LON", b"2031-03-03")?,
-            Status::Done,
-            none,
-        ),
-        (
-            "two passengers, two seats",
-            case(rt.alloc(), b"2", b"Y2", b"LON", b"2031-03-03")?,
-            Status::Done,
-            ANSWER,
-        ),
-        (
-            "an unknown place",
-            case(rt.alloc(), b"1", b"Y9", b"LNO", b"2031-03-03")?,
-            Status::Refused,
-            refused,
-        ),
-        (
-            "a date that isn't",
-            case(rt.alloc(), b"1", b"Y9", b"LON", b"2031-02-29")?,
-            Status::Refused,
-            refused,
-        ),
-        (
-            "no JSON",
-            case(rt.alloc(), b"", b"Y9", b"LON", b"2031-03-03")?,
-            Status::Refused,
-            refused,
-        ),
+        ONE_WAY,
+        Changed {
+            name: "two passengers, one seat",
+            party: b"2",
+            seats: b"Y1",
+            text: none,
+            ..ONE_WAY
+        },
+        Changed {
+            name: "two passengers, two seats",
+            party: b"2",
+            seats: b"Y2",
+            ..ONE_WAY
+        },
+        Changed {
+            name: "an unknown place",
+            from: b"LNO",
+            status: Status::Refused,
+            text: refused,
+            ..ONE_WAY
+        },
+        Changed {
+            name: "a date that isn't",
+            day: b"2031-02-29",
+            status: Status::Refused,
+            text: refused,
+            ..ONE_WAY
+        },
+        Changed {
+            name: "no JSON",
+            party: b"",
+            status: Status::Refused,
+            text: refused,
+            ..ONE_WAY
+        },
     ];
-    for (name, bytes, status, text) in cases {
-        let search = words(rt.alloc(), &["search"])?;
+    let search = words(rt.alloc(), &["search"])?;
+    for changed in cases {
+        let mut source = MemSource::new(case(rt.alloc(), &changed)?);
         let mut sink = MemSink::new(rt.alloc(), 1000)?;
-        let ended = run(
-            rt.alloc(),
-            search.as_slice(),
-            &mut MemSource::new(bytes),
-            &mut sink,
-        );
-        assert_eq!(rt; ended, status, "{name}");
-        assert_eq!(rt; sink.as_slice(), text, "{name}");
+        let status = run(rt.alloc(), search.as_slice(), &mut source, &mut sink);
+        assert_eq!(rt; status, changed.status, "{}", changed.name);
+        assert_eq!(rt; sink.as_slice(), changed.text, "{}", changed.name);
     }
     Ok(())
 }
 
 #[test]
 fn refuses_other_words(rt: HostRuntime) -> Result<(), Fail> {
-    let lists = [
-        words(rt.alloc(), &[])?,
-        words(rt.alloc(), &["find"])?,
-        words(rt.alloc(), &["search", "search"])?,
-    ];
+    let lists: [&[&str]; 3] = [&[], &["find"], &["search", "search"]];
     for list in lists {
+        let list = words(rt.alloc(), list)?;
+        let mut source = MemSource::new(one_way(rt.alloc())?);
         let mut sink = MemSink::new(rt.alloc(), 1000)?;
-        let status = run(
-            rt.alloc(),
-            list.as_slice(),
-            &mut MemSource::new(one_way(rt.alloc())?),
-            &mut sink,
-        );
+        let status = run(rt.alloc(), list.as_slice(), &mut source, &mut sink);
         assert_eq!(rt; status, Status::Usage);
         assert_eq!(rt; sink.as_slice(), b"usage: lowfare search\n".as_slice());
     }
@@ -154,18 +158,18 @@ fn tells_failing_ends(rt: HostRuntime) -> Result<(), Fail> {
 #[test]
 fn stops_past_the_limit(rt: HostRuntime) -> Result<(), Fail> {
     let search = words(rt.alloc(), &["search"])?;
-    let long = List::from_vec(Vec::from_elem(rt.alloc(), b'a', 67_108_865)?);
-    let mut sink = MemSink::new(rt.alloc(), 1000)?;
-    assert_eq!(rt;
-        run(
-            rt.alloc(),
-            search.as_slice(),
-            &mut MemSource::new(long),
-            &mut sink
-        ),
-        Status::TooLong
-    );
-    assert_eq!(rt; sink.as_slice(), b"too long\n".as_slice());
+    let cases: [(usize, Status, &[u8]); 2] = [
+        (67_108_864, Status::Refused, b"refused 0 NotBuilt\n"),
+        (67_108_865, Status::TooLong, b"too long\n"),
+    ];
+    for (length, status, text) in cases {
+        let bytes = List::from_vec(Vec::from_elem(rt.alloc(), b'a', length)?);
+        let mut source = MemSource::new(bytes);
+        let mut sink = MemSink::new(rt.alloc(), 1000)?;
+        let ended = run(rt.alloc(), search.as_slice(), &mut source, &mut sink);
+        assert_eq!(rt; ended, status);
+        assert_eq!(rt; sink.as_slice(), text);
+    }
     Ok(())
 }
 
