@@ -6,7 +6,7 @@ use Rattle.fare_law.specs.Lists.{Each}
 use Rattle.script_text.specs.declared.lines.Counts.{Counts}
 use Rattle.script_text.specs.declared.lines.ScriptLine.{ScriptLine}
 use Rattle.script_text.specs.declared.lines.ScriptLine.TheVariants.{Search, Await}
-use Rattle.script_text.specs.Numbers.{EndsIn, EndsInNone}
+use Rattle.script_text.specs.Numbers.{IsNumberAfter, IsNoNumberAfter}
 use Rattle.script_text.specs.Script.{Spells, SpellsNone}
 
 abbrev NoSpace : List ℕ → Type 0
@@ -53,23 +53,23 @@ no_cut c text (Search d r) h p = has_space (decimal d) (codes "search " ++ decim
 no_cut c text (Await d n) h p = has_space (decimal d) (codes "wait " ++ decimal n) (subst NoSpace p.written h)
 
 -- the part before the first space has to be a desk
-pub no_desk : (c : Counts) (text a o : List ℕ) (s : ScriptLine) → NoSpace a → text ≡ a ++ 32 ∷ o → EndsInNone [] 1 c.desks a → Spells c text s → ⊥
+pub no_desk : (c : Counts) (text a o : List ℕ) (s : ScriptLine) → NoSpace a → text ≡ a ++ 32 ∷ o → IsNoNumberAfter [] 1 c.desks a → Spells c text s → ⊥
 no_desk c text a o (Search d r) f e none p =
     none d (record { range = p.within.0; written = (same_cut a (decimal d) o (codes "search " ++ decimal r) f (spaceless d) (sym e ∙ p.written)).0 })
 no_desk c text a o (Await d n) f e none p =
     none d (record { range = p.within.0; written = (same_cut a (decimal d) o (codes "wait " ++ decimal n) f (spaceless d) (sym e ∙ p.written)).0 })
 
 -- the part after it has to be a search or a wait
-pub no_order : (c : Counts) (text a o : List ℕ) (s : ScriptLine) → NoSpace a → text ≡ a ++ 32 ∷ o → EndsInNone (codes "search ") 1 c.requests o → EndsInNone (codes "wait ") 0 c.later o → Spells c text s → ⊥
+pub no_order : (c : Counts) (text a o : List ℕ) (s : ScriptLine) → NoSpace a → text ≡ a ++ 32 ∷ o → IsNoNumberAfter (codes "search ") 1 c.requests o → IsNoNumberAfter (codes "wait ") 0 c.later o → Spells c text s → ⊥
 no_order c text a o (Search d r) f e search wait p =
     search r (record { range = p.within.1; written = (same_cut a (decimal d) o (codes "search " ++ decimal r) f (spaceless d) (sym e ∙ p.written)).1 })
 no_order c text a o (Await d n) f e search wait p =
     wait n (record { range = p.within.1; written = (same_cut a (decimal d) o (codes "wait " ++ decimal n) f (spaceless d) (sym e ∙ p.written)).1 })
 
-pub is_search : (c : Counts) (text a o : List ℕ) (d r : ℕ) → text ≡ a ++ 32 ∷ o → EndsIn [] 1 c.desks a d → EndsIn (codes "search ") 1 c.requests o r → Spells c text (Search d r)
+pub is_search : (c : Counts) (text a o : List ℕ) (d r : ℕ) → text ≡ a ++ 32 ∷ o → IsNumberAfter [] 1 c.desks a d → IsNumberAfter (codes "search ") 1 c.requests o r → Spells c text (Search d r)
 is_search c text a o d r e h k = record { within = (h.range, k.range); written = e ∙ ap (λ t. t ++ 32 ∷ o) h.written ∙ ap (λ t. decimal d ++ 32 ∷ t) k.written }
 
-pub is_wait : (c : Counts) (text a o : List ℕ) (d n : ℕ) → text ≡ a ++ 32 ∷ o → EndsIn [] 1 c.desks a d → EndsIn (codes "wait ") 0 c.later o n → Spells c text (Await d n)
+pub is_wait : (c : Counts) (text a o : List ℕ) (d n : ℕ) → text ≡ a ++ 32 ∷ o → IsNumberAfter [] 1 c.desks a d → IsNumberAfter (codes "wait ") 0 c.later o n → Spells c text (Await d n)
 is_wait c text a o d n e h k = record { within = (h.range, k.range); written = e ∙ ap (λ t. t ++ 32 ∷ o) h.written ∙ ap (λ t. decimal d ++ 32 ∷ t) k.written }
 
 pub ruleset order_steps = (no_cut, no_desk, no_order, is_search, is_wait)

@@ -1,7 +1,7 @@
 -- The script that lines spell, or the first line at fault.
 use Rattle.std.specs.Prelude.{◌≡◌, ◌⊎◌, ◌++◌, ⊤, ℕ, List, [], ◌∷◌, Result, Ok, Err, codes, decimal}
 use Rattle.std.specs.Int.{IsInRange}
-use Rattle.fare_law.specs.Lists.{Matched}
+use Rattle.fare_law.specs.Lists.{Each, Matched}
 use Rattle.fare_law.specs.declared.rows.TextLine.{TextLine}
 use Rattle.script_text.specs.declared.lines.Counts.{Counts}
 use Rattle.script_text.specs.declared.lines.Script.{Script}
@@ -9,19 +9,19 @@ use Rattle.script_text.specs.declared.lines.ScriptLine.{ScriptLine}
 use Rattle.script_text.specs.declared.lines.ScriptLine.TheVariants.{Search, Await}
 use Rattle.script_text.specs.declared.faults.ScriptFault.{ScriptFault}
 use Rattle.script_text.specs.declared.faults.ScriptFault.TheVariants.{Script as BadLine, Mem}
-use Rattle.script_text.specs.Numbers.{EndsIn, EndsInNone}
+use Rattle.script_text.specs.Numbers.{IsNumberAfter, IsNoNumberAfter}
 
 -- d search r, or d wait n
 abbrev pub line_text : ScriptLine → List ℕ
 line_text (Search desk request) = decimal desk ++ (codes " search " ++ decimal request)
 line_text (Await desk count) = decimal desk ++ (codes " wait " ++ decimal count)
 
--- the desk is one of the desks, the request one of the requests, and no more filings are waited for than come
+-- the desk is one of the desks, the request one of the requests, and no more is waited for than comes
 abbrev pub IsWithin : Counts → ScriptLine → Type 0
 IsWithin c (Search desk request) = IsInRange 1 c.desks desk × IsInRange 1 c.requests request
 IsWithin c (Await desk count) = IsInRange 1 c.desks desk × IsInRange 0 c.later count
 
--- the text is that of a line within the counts
+-- the text is that of a script line within the counts
 pub record Spells (c : Counts) (text : List ℕ) (s : ScriptLine) : Type 0 where
   pub within : IsWithin c s
   pub written : text ≡ line_text s
@@ -29,18 +29,11 @@ pub record Spells (c : Counts) (text : List ℕ) (s : ScriptLine) : Type 0 where
 abbrev pub SpellsNone : Counts → List ℕ → Type 0
 SpellsNone c text = (s : ScriptLine) → Spells c text s → ⊥
 
--- the first line: desks n, with n from 1 to 8
-abbrev pub SpellsDesks : List ℕ → ℕ → Type 0
-SpellsDesks text n = EndsIn (codes "desks ") 1 8 text n
-
-abbrev pub SpellsNoDesks : List ℕ → Type 0
-SpellsNoDesks text = EndsInNone (codes "desks ") 1 8 text
-
--- the lines spell these, one each
+-- the lines spell these script lines, one each
 abbrev pub SpellsEach : Counts → List TextLine → List ScriptLine → Type 0
 SpellsEach c lines ss = Matched (λ line s. Spells c line.bytes s) lines ss
 
--- each line before this one spells a script line, and this one, which has the number, spells none
+-- the lines before it spell script lines, and the line of this number spells none
 pub record FirstBad (c : Counts) (lines : List TextLine) (number : ℕ) : Type 0 where
   pub before : List TextLine
   pub bad : TextLine
@@ -51,11 +44,12 @@ pub record FirstBad (c : Counts) (lines : List TextLine) (number : ℕ) : Type 0
   pub none : SpellsNone c bad.bytes
   pub here : number ≡ bad.line
 
--- what is read is what the lines spell, or the number of the first that spells nothing, unless memory ran out
-abbrev pub ReadsLines : Counts → List TextLine → Result (List ScriptLine) ScriptFault → Type 0
-ReadsLines c lines (Ok ss) = SpellsEach c lines ss
-ReadsLines c lines (Err (BadLine number)) = FirstBad c lines number
-ReadsLines c lines (Err Mem) = ⊤
+-- the first line: desks n, with n from 1 to 8
+abbrev pub SpellsDesks : List ℕ → ℕ → Type 0
+SpellsDesks text n = IsNumberAfter (codes "desks ") 1 8 text n
+
+abbrev pub SpellsNoDesks : List ℕ → Type 0
+SpellsNoDesks text = IsNoNumberAfter (codes "desks ") 1 8 text
 
 abbrev pub counts : ℕ → ℕ → ℕ → Counts
 counts desks later requests = record { desks = desks; later = later; requests = requests }
@@ -65,7 +59,7 @@ abbrev pub SpellsScript : ℕ → ℕ → List TextLine → Script → Type 0
 SpellsScript later requests [] s = ⊥
 SpellsScript later requests (first ∷ rest) s = SpellsDesks first.bytes s.desks × SpellsEach (counts s.desks later requests) rest s.lines
 
--- the first line that isn't of its form has this number; without lines it is 0
+-- the first line that isn't of its form has this number; where there is no line, it is 0
 abbrev pub FaultAt : ℕ → ℕ → List TextLine → ℕ → Type 0
 FaultAt later requests [] number = number ≡ 0
 FaultAt later requests (first ∷ rest) number =
@@ -76,3 +70,14 @@ abbrev pub Reads : ℕ → ℕ → List TextLine → Result Script ScriptFault �
 Reads later requests lines (Ok s) = SpellsScript later requests lines s
 Reads later requests lines (Err (BadLine number)) = FaultAt later requests lines number
 Reads later requests lines (Err Mem) = ⊤
+
+-- likewise of the lines after the first
+abbrev pub ReadsLines : Counts → List TextLine → Result (List ScriptLine) ScriptFault → Type 0
+ReadsLines c lines (Ok ss) = SpellsEach c lines ss
+ReadsLines c lines (Err (BadLine number)) = FirstBad c lines number
+ReadsLines c lines (Err Mem) = ⊤
+
+-- 1 to 8 desks, and lines within the counts
+pub record IsScript (later requests : ℕ) (s : Script) : Type 0 where
+  pub desks : IsInRange 1 8 s.desks
+  pub lines : Each (IsWithin (counts s.desks later requests)) s.lines

@@ -1,7 +1,7 @@
 //! Reading a script.
-ghost use Rattle.std.specs.Prelude.{◌≡◌, ◌≢◌, ◌++◌, ◌∷◌, MatchOption};
+ghost use Rattle.std.specs.Prelude.{◌≡◌, ◌≢◌, ◌++◌, ◌∷◌, MatchOption, IfOk};
 ghost use Rattle.fare_law.specs.Lists.{Each};
-ghost use Rattle.script_text.specs.Script.{Reads, ReadsLines, Spells, SpellsNone, SpellsDesks, SpellsNoDesks};
+ghost use Rattle.script_text.specs.Script.{IsScript, Reads, ReadsLines, Spells, SpellsNone};
 
 use crate::lines::Counts;
 use crate::numbers::{number_after, number_within};
@@ -9,18 +9,19 @@ use crate::{Script, ScriptFault, ScriptLine};
 use fare_law::{List, TextLine};
 use std::alloc::Global;
 
-/// The script that the lines spell: `desks n` with n from 1 to 8, then lines `d search r` and
-/// `d wait n`, where d is a desk, r one of so many requests, counted from 1, and n at most the
-/// count of later filings.
+/// The script that the lines spell: first `desks n`, n from 1 to 8, then lines `d search r` and
+/// `d wait n`. Desk d and request r are counted from 1, and n is at most the count of later filings.
 ///
-/// `Script` exactly where there is no line, and otherwise at the first line that isn't so.
+/// `Script` exactly where some line isn't so: at the first of them, or at 0 where there is no line.
+#[tactic(auto, using(crate::proofs::LineLemmas::each_within))]
 pub fn read_script(
     alloc: Global,
     lines: &[TextLine],
     later: u32,
     requests: u32,
 ) -> Result<Script, ScriptFault>
-    ensures { Reads later requests lines.now result }
+    ensures script { Reads later requests lines.now result }
+    ensures limits { IfOk result (IsScript later requests) }
 {
     let [first, rest @ ..] = lines else {
         return Err(ScriptFault::Script { line: 0 });
@@ -72,7 +73,8 @@ fn script_line(line: &[u8], counts: Counts) -> Option<ScriptLine>
 
 // What stands before the first space, and what stands after it.
 fn split_at_space(line: &[u8]) -> Option<(&[u8], &[u8])>
-    ensures { MatchOption result (Each (λ b. b ≢ 32) line.now) (λ x. (line.now ≡ x.0.now ++ 32 ∷ x.1.now) × Each (λ b. b ≢ 32) x.0.now) }
+    ensures { MatchOption result (Each (λ b. b ≢ 32) line.now)
+        (λ x. (line.now ≡ x.0.now ++ 32 ∷ x.1.now) × Each (λ b. b ≢ 32) x.0.now) }
 {
     let at = line.iter().position(|byte| *byte == b' ')?;
     Some((&line[..at], &line[at + 1..]))

@@ -11,4 +11,4 @@ returns-in_err-strip_prefix c =
 pub returns : goal.returns
 returns c =
     labelled c.args.label.now c.args.text.now c.in_ok-strip_prefix.field-0.now c.args.low c.args.high c.number_within.result
-        (strip_prefix_is Decides-eqb c.args.text.now c.args.label.now (Some c.in_ok-strip_prefix.field-0) c.in_ok-strip_prefix.ensures.cases) c.number_within.ensures
+    (strip_prefix_is Decides-eqb c.args.text.now c.args.label.now (Some c.in_ok-strip_prefix.field-0) c.in_ok-strip_prefix.ensures.cases) c.number_within.ensures
