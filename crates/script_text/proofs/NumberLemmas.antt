@@ -1,8 +1,7 @@
 -- The digits that a number writes, and the number that digits write.
-use Rattle.std.proofs.Common.{◌≡◌, ◌≢◌, ◌<◌, ◌≤◌, ◌^◌, ◌-◌, ◌⊎◌, ℕ, List, [], ◌∷◌, ◌++◌, length, get_or, Result, Ok, Err, refl, ap, sym, ◌∙◌, subst, arith, inl, inr, eq-zero-or-pos, Option, None, Some, MatchOption}
+use Rattle.std.proofs.Common.{◌≡◌, ◌≢◌, ◌<◌, ◌^◌, ◌-◌, ℕ, List, [], ◌∷◌, ◌++◌, length, get_or, Result, Ok, Err, ap, sym, ◌∙◌, subst, arith, inl, inr, eq-zero-or-pos, Option, None, Some, MatchOption}
 use Rattle.std.specs.Result.{result_ok}
 use Rattle.std.specs.Fmt.{decimal}
-use Rattle.std.specs.Int.{IsInRange}
 use Rattle.std.specs.Str.Parse.{AllDigits, ParsesUnsigned, digits_value}
 use Rattle.std.specs.Str.{IsUtf8}
 use Rattle.std.proofs.lemmas.List.{append_cancel_left}
@@ -54,13 +53,14 @@ parsed {E = E} text (Err e) b p =
     let large : n < 2 ^ 64 = omega (arith, small) in
     k (subst (AllDigits 10) (sym h.written) (digits_decimal own n large), omega (arith, ap length h.written, decimal_nonempty n large), omega (arith, ap (digits_value 10) h.written, digits_value-decimal own n large, small))
 
--- a text is the digits of one number
-pub one_number : (text : List ℕ) (low high most m n : ℕ) → high < 2 ^ 32 → most < 2 ^ 32 → IsNumberAfter [] 0 most text m → IsNumberAfter [] low high text n → m ≡ n
-one_number text low high most m n l k h g = decimal_injective m n (omega (arith, k, h.range)) (omega (arith, l, g.range)) (sym h.written ∙ g.written)
+-- a text has one number after the label
+pub one_number : (label text : List ℕ) (least most low high m n : ℕ) → most < 2 ^ 32 → high < 2 ^ 32 → IsNumberAfter label least most text m → IsNumberAfter label low high text n → m ≡ n
+one_number label text least most low high m n k l h g =
+    decimal_injective m n (omega (arith, k, h.range)) (omega (arith, l, g.range)) (append_cancel_left label (decimal m) (decimal n) (sym h.written ∙ g.written))
 
 -- what stands after the label says what the text says
 pub labelled : (label text rest : List ℕ) (low high : ℕ) (o : Option ℕ) → text ≡ label ++ rest → MatchOption o (IsNoNumberAfter [] low high rest) (IsNumberAfter [] low high rest) → MatchOption o (IsNoNumberAfter label low high text) (IsNumberAfter label low high text)
 labelled label text rest low high None e h = λ n k. h n (record { range = k.range; written = append_cancel_left label rest (decimal n) (sym e ∙ k.written) })
 labelled label text rest low high (Some n) e h = record { range = h.range; written = e ∙ ap (λ t. label ++ t) h.written }
 
-pub ruleset number_steps = (begins_otherwise, not_text, parsed, one_number)
+pub ruleset number_steps = (begins_otherwise, not_text, parsed)

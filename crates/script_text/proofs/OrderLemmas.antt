@@ -7,9 +7,9 @@ use Rattle.script_text.specs.declared.lines.Counts.{Counts}
 use Rattle.script_text.specs.declared.lines.ScriptLine.{ScriptLine}
 use Rattle.script_text.specs.declared.lines.ScriptLine.TheVariants.{Search, Await}
 use Rattle.script_text.specs.Numbers.{IsNumberAfter, IsNoNumberAfter}
-use Rattle.script_text.specs.Script.{Spells, SpellsNone}
+use Rattle.script_text.specs.Script.{Spells}
 
-abbrev NoSpace : List ℕ → Type 0
+abbrev pub NoSpace : List ℕ → Type 0
 NoSpace text = Each (λ b. b ≢ 32) text
 
 glyph : (d : ℕ) → digit_glyph false d ≢ 32
@@ -28,12 +28,12 @@ onto (suc k) n ds h = go (nat_eq (n / 10) 0) (onto k (n / 10) (digit_glyph false
     go false more = more
 
 -- no digit is a space
-spaceless : (n : ℕ) → NoSpace (decimal n)
+pub spaceless : (n : ℕ) → NoSpace (decimal n)
 unfolding digits
 spaceless n = onto 64 n [] tt
 
 -- there is one first space
-same_cut : (a b x y : List ℕ) → NoSpace a → NoSpace b → a ++ 32 ∷ x ≡ b ++ 32 ∷ y → (a ≡ b) × (x ≡ y)
+pub same_cut : (a b x y : List ℕ) → NoSpace a → NoSpace b → a ++ 32 ∷ x ≡ b ++ 32 ∷ y → (a ≡ b) × (x ≡ y)
 same_cut [] [] x y f g e = (refl, cc)
 same_cut [] (c ∷ b) x y f g e = let k : c ≡ 32 = cc in absurd (g.0 k)
 same_cut (c ∷ a) [] x y f g e = let k : c ≡ 32 = cc in absurd (f.0 k)

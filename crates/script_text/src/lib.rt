@@ -4,6 +4,7 @@
 #![tactic(auto)]
 
 mod faults;
+mod laws;
 mod lines;
 mod numbers;
 mod reading;
@@ -11,5 +12,6 @@ mod reading;
 mod tests;
 
 pub use faults::ScriptFault;
+pub use laws::one_reading;
 pub use lines::{Script, ScriptLine};
 pub use reading::read_script;
