@@ -2,17 +2,19 @@
 ghost use Rattle.std.specs.Prelude.{◌-◌, ◌^◌, ◌↔◌, [], MatchOption, IsTrue};
 ghost use Rattle.script_text.specs.Numbers.{BeginsAsNumber, IsNumberAfter, IsNoNumberAfter};
 
-/// The number from `low` to `high` in whose decimal digits the text ends, with just the label
-/// before them. A number has no sign and no leading zero.
+/// The number from `low` to `high` that is all that the text has after the label, in decimal
+/// digits without sign or leading zero.
 pub fn number_after(label: &[u8], text: &[u8], low: u32, high: u32) -> Option<u32>
-    ensures { MatchOption result (IsNoNumberAfter label.now low high text.now) (IsNumberAfter label.now low high text.now) }
+    ensures { MatchOption result (IsNoNumberAfter label.now low high text.now)
+        (IsNumberAfter label.now low high text.now) }
 {
     number_within(text.strip_prefix(label)?, low, high)
 }
 
-/// The number from `low` to `high` whose decimal digits the text is.
+/// The number from `low` to `high` that is all that the text has, in such digits.
 pub fn number_within(text: &[u8], low: u32, high: u32) -> Option<u32>
-    ensures { MatchOption result (IsNoNumberAfter [] low high text.now) (IsNumberAfter [] low high text.now) }
+    ensures { MatchOption result (IsNoNumberAfter [] low high text.now)
+        (IsNumberAfter [] low high text.now) }
 {
     let number = number(text)?;
     if low <= number && number <= high {
@@ -22,10 +24,11 @@ pub fn number_within(text: &[u8], low: u32, high: u32) -> Option<u32>
     }
 }
 
-// The number whose decimal digits the text is.
+// The number that is all that the text has.
 #[tactic(auto, using(crate::proofs::NumberLemmas::number_steps))]
 fn number(text: &[u8]) -> Option<u32>
-    ensures { MatchOption result (IsNoNumberAfter [] 0 (2 ^ 32 - 1) text.now) (IsNumberAfter [] 0 (2 ^ 32 - 1) text.now) }
+    ensures { MatchOption result (IsNoNumberAfter [] 0 (2 ^ 32 - 1) text.now)
+        (IsNumberAfter [] 0 (2 ^ 32 - 1) text.now) }
 {
     if !begins_as_number(text) {
         return None;
