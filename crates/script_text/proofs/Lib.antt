@@ -1,0 +1,4 @@
+pub mod NumberLemmas
+pub mod OrderLemmas
+pub mod LineLemmas
+pub mod Single
