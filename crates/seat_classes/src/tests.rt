@@ -1,0 +1,1 @@
+//! Seats of small lists of rows.
