@@ -1,5 +1,5 @@
 -- Rows that are given: what they have of a key, and the first that has the key of an earlier one.
-use Rattle.std.proofs.Common.{◌≡◌, ◌≢◌, ◌⊎◌, ◌+◌, ◌<◌, ℕ, suc, Bool, true, false, cond, List, [], ◌∷◌, ◌++◌, length, map, take, drop, get_or, find, Option, Some, None, option_map, is_some, refl, ap, ap₂, sym, subst, ◌∙◌, inl, inr, arith}
+use Rattle.std.proofs.Common.{◌≡◌, ◌≢◌, ◌+◌, ◌<◌, ℕ, suc, Bool, true, false, cond, List, [], ◌∷◌, ◌++◌, length, map, take, drop, get_or, find, Option, Some, None, option_map, is_some, refl, ap, ap₂, sym, subst, ◌∙◌, inl, inr, arith}
 use Rattle.std.proofs.Math.Seq.{drop-cons, take-suc}
 use Rattle.std.proofs.lemmas.Bool.{both_ways, cases_Bool}
 use Rattle.std.proofs.lemmas.List.{map-append, take-append-drop}
@@ -9,7 +9,7 @@ use Rattle.fare_law.specs.Book.{row_key, same_seat_key}
 use Rattle.fare_law.specs.Lists.{AllDifferent, Each, IsIn}
 use Rattle.seat_classes.specs.Given.{FirstRepeat, rows_have}
 use Rattle.seat_classes.specs.Held.{Changes, seats_at}
-use Rattle.seat_classes.proofs.SeatKeys.{same_flips, same_keys_tell}
+use Rattle.seat_classes.proofs.SeatKeys.{same_keys_tell}
 
 -- ---- the rows before one, and those after it
 one_more : (i : ℕ) → suc i ≡ i + 1

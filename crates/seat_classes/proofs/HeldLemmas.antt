@@ -1,11 +1,11 @@
 -- Rows that are held: what a map tells of them, and how many they are.
-use Rattle.std.proofs.Common.{◌≡◌, ◌≢◌, ◌⊎◌, ◌≤◌, ◌<◌, ℕ, Bool, true, false, cond, List, [], ◌∷◌, length, map, Option, Some, None, IsSome, is_some, refl, ap, sym, subst, ◌∙◌, ◌||◌, inl, inr, arith}
+use Rattle.std.proofs.Common.{◌≡◌, ◌≢◌, ◌⊎◌, ◌≤◌, ◌<◌, ℕ, Bool, true, false, cond, List, [], ◌∷◌, length, Option, Some, None, IsSome, is_some, refl, ap, sym, subst, ◌∙◌, inl, inr, arith}
 use Rattle.std.specs.List.{AllByRecursion, IsDistinct, list_any}
 use Rattle.std.specs.Map.{keys_of, lookup}
 use Rattle.std.proofs.lemmas.Map.Entries.{length-keys_of}
 use Rattle.std.proofs.lemmas.Map.Keys.{IsDistinct-cons, IsDistinct-head, IsDistinct-tail}
 use Rattle.std.proofs.lemmas.Map.Steps.{length-le_from_keys}
-use Rattle.std.proofs.lemmas.Bool.{both_ways, cases_Bool, false_from_ne_true, or_cases}
+use Rattle.std.proofs.lemmas.Bool.{both_ways, false_from_ne_true, or_cases}
 use Rattle.fare_law.specs.contracts.filings.SeatKeyPartialEq.TheImpl as seat
 use Rattle.fare_law.specs.declared.filings.SeatKey.{SeatKey}
 use Rattle.fare_law.specs.Book.{same_seat_key}
@@ -93,9 +93,12 @@ most_rows held m (keys, l, d, e) =
 
 module _ (held : List (SeatKey × List ℕ)) (unique : IsDistinct seat.ghosts.eq (keys_of held)) where
   pub all_rows : HasMany (length held) (HasRow held)
-  all_rows =
-      (keys_of held, length-keys_of held, different_from (keys_of held) (subst (λ (e : SeatKey → SeatKey → Bool). IsDistinct e (keys_of held)) tests_agree unique),
-      each_from (HasRow held) (keys_of held) (key_has_row held))
+  all_rows = (
+    keys_of held,
+    length-keys_of held,
+    different_from (keys_of held) (subst (λ (e : SeatKey → SeatKey → Bool). IsDistinct e (keys_of held)) tests_agree unique),
+    each_from (HasRow held) (keys_of held) (key_has_row held),
+  )
 
   pub counts_all : Counts held (length held)
   counts_all = record { many = all_rows; most = most_rows held }

@@ -1,5 +1,5 @@
 -- Tests of seat keys: the derived one and the law's both tell whether two keys are equal.
-use Rattle.std.proofs.Common.{◌≡◌, ◌≢◌, ℤ, Bool, true, false, Option, Some, None, Decides, refl, ap, sym, ◌∙◌}
+use Rattle.std.proofs.Common.{◌≡◌, ℤ, Option, Some, None, Decides, refl, ap, sym}
 use Rattle.std.specs.Cmp.{IsEquivalence}
 use Rattle.std.specs.Cmp.Lexicographic.{bytes_decides}
 use Rattle.std.specs.Option.{option_eq}
@@ -7,12 +7,10 @@ use Rattle.std.specs.Ordering.{int_eq}
 use Rattle.std.proofs.lemmas.Bool.Decides.{Decides-like, Decides-and, Decides-eqb, Decides-int_eq, same_from_decides}
 use Rattle.std.proofs.lemmas.Slice.Eq.{bytes_eq-Decides}
 use Rattle.fare_law.specs.contracts.filings.SeatKeyPartialEq.TheImpl as seat
-use Rattle.fare_law.specs.contracts.names.CarrierPartialEq.TheImpl as carrier
-use Rattle.fare_law.specs.contracts.names.PlacePartialEq.TheImpl as place
 use Rattle.fare_law.specs.declared.filings.SeatKey.{SeatKey}
 use Rattle.fare_law.specs.declared.names.Carrier.{Carrier}
 use Rattle.fare_law.specs.declared.names.Place.{Place}
-use Rattle.fare_law.specs.Book.{same_carrier, same_day, same_place, same_seat_key}
+use Rattle.fare_law.specs.Book.{same_day, same_seat_key}
 
 carrier_whole : (a b : Carrier) → a.0 ≡ b.0 → a ≡ b
 carrier_whole a b e = λ i. record { 0 = e i }

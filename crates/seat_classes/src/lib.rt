@@ -5,9 +5,11 @@
 
 mod faults;
 mod keys;
+mod laws;
 mod seats;
 
 pub use faults::{SeatFault, SeatPut};
+pub use laws::{live_rows_seat_flights, rows_begin_a_book};
 pub use seats::Seats;
 
 #[cfg(test)]

@@ -106,12 +106,7 @@ impl Seats {
     }
 
     /// Gives a key these seats, in place of those that it has.
-    pub fn put(
-        &mut self,
-        _alloc: Global,
-        key: &SeatKey,
-        seats: &[u8; 32],
-    ) -> Result<(), SeatPut>
+    pub fn put(&mut self, _alloc: Global, key: &SeatKey, seats: &[u8; 32]) -> Result<(), SeatPut>
         ensures row { OnOk result (Changes self.old self.new key.now (Some seats.now)) }
         ensures full { IsErrOf result SeatPut.Full ↔ HasNoRoom self.old key.now }
         ensures same { OnErr result (self.new ≡ self.old) }

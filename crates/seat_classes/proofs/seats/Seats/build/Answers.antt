@@ -1,4 +1,4 @@
-use Rattle.std.proofs.Common.{◌≡◌, ◌+◌, [], None, Some, is_some, length, take, get_or, refl, ap, sym, subst, ◌∙◌, arith}
+use Rattle.std.proofs.Common.{◌≡◌, [], None, Some, get_or, refl, ap, sym, subst, ◌∙◌, arith}
 use Rattle.fare_law.specs.declared.rows.SeatRow.{SeatRow}
 use Rattle.fare_law.specs.Book.{row_key}
 use Rattle.seat_classes.specs.Held.{Changes, seats_at}

@@ -1,4 +1,4 @@
-use Rattle.std.proofs.Common.{length, subst, sym, ap, ◌∙◌}
+use Rattle.std.proofs.Common.{length, subst, sym}
 use Rattle.seat_classes.specs.Held.{Counts}
 use Rattle.seat_classes.proofs.HeldLemmas.{counts_all}
 use Rattle.seat_classes.proofs.seats.Seats.count.Goals as goal

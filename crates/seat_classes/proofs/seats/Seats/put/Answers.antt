@@ -1,4 +1,4 @@
-use Rattle.std.proofs.Common.{◌≡◌, ◌<◌, ◌⊎◌, Bool, true, Some, Result, Ok, Err, length, refl, ap, sym, subst, ◌∙◌, inl, inr, arith, IsErrOf, IsErrAnd}
+use Rattle.std.proofs.Common.{◌≡◌, Some, Result, Ok, Err, refl, sym, subst, ◌∙◌, inl, inr, arith, IsErrOf, IsErrAnd}
 use Rattle.seat_classes.specs.Held.{Changes, HasNoRoom}
 use Rattle.seat_classes.specs.declared.faults.SeatPut.{SeatPut}
 use Rattle.seat_classes.specs.declared.faults.SeatPut.TheVariants.{Full, Mem}
@@ -32,11 +32,11 @@ returns-in_err-insert-clause-full c =
     let key = c.args.key.now in (
       λ full. absurd (not_full c.from_residual.result c.from_residual.ensures.1 full),
       λ none.
-        let none_held : HasNoRoom held key = subst (λ h. HasNoRoom h key) (sym c.self.view_is) none in
-        absurd (elim c.else-len-eq-MOST.branch [
-          | else-len-eq-MOST-via-then-len-eq-MOST+else-not-contains_key w ↦ room held key (inr (sym w.contains_key.ensures ∙ w.if-not-contains_key.false)) none_held
-          | else-len-eq-MOST-via-else-len-eq-MOST w ↦ room held key (inl (omega (arith, c.self.invariant, c.len.ensures.len, w.if-len-eq-MOST.false))) none_held
-        ]),
+          let none_held : HasNoRoom held key = subst (λ h. HasNoRoom h key) (sym c.self.view_is) none in
+          absurd (elim c.else-len-eq-MOST.branch [
+            | else-len-eq-MOST-via-then-len-eq-MOST+else-not-contains_key w ↦ room held key (inr (sym w.contains_key.ensures ∙ w.if-not-contains_key.false)) none_held
+            | else-len-eq-MOST-via-else-len-eq-MOST w ↦ room held key (inl (omega (arith, c.self.invariant, c.len.ensures.len, w.if-len-eq-MOST.false))) none_held
+          ]),
     )
 
 pub returns-clause-row : goal.returns-clause-row
@@ -52,9 +52,9 @@ returns-clause-full c =
     let key = c.args.key.now in (
       λ full. absurd (no_fault full),
       λ none.
-        let none_held : HasNoRoom held key = subst (λ h. HasNoRoom h key) (sym c.self.view_is) none in
-        absurd (elim c.else-len-eq-MOST.branch [
-          | else-len-eq-MOST-via-then-len-eq-MOST+else-not-contains_key w ↦ room held key (inr (sym w.contains_key.ensures ∙ w.if-not-contains_key.false)) none_held
-          | else-len-eq-MOST-via-else-len-eq-MOST w ↦ room held key (inl (omega (arith, c.self.invariant, c.len.ensures.len, w.if-len-eq-MOST.false))) none_held
-        ]),
+          let none_held : HasNoRoom held key = subst (λ h. HasNoRoom h key) (sym c.self.view_is) none in
+          absurd (elim c.else-len-eq-MOST.branch [
+            | else-len-eq-MOST-via-then-len-eq-MOST+else-not-contains_key w ↦ room held key (inr (sym w.contains_key.ensures ∙ w.if-not-contains_key.false)) none_held
+            | else-len-eq-MOST-via-else-len-eq-MOST w ↦ room held key (inl (omega (arith, c.self.invariant, c.len.ensures.len, w.if-len-eq-MOST.false))) none_held
+          ]),
     )
