@@ -18,7 +18,7 @@ use std::marker::Model;
 const MOST: usize = 200_000;
 
 /// Seat rows, found by carrier, number, origin and day. Contracts see each key that has a row, once,
-/// with its seats.
+/// with its seats, in no certain order. There are at most 200,000.
 #[derive(Drop)]
 pub struct Seats {
     rows: HashMap<SeatKey, [u8; 32]>,
@@ -36,8 +36,8 @@ impl Model for Seats {
 }
 
 impl Seats {
-    /// The seats of these rows. A row that has the key of an earlier one is refused. A row for no
-    /// flight has no effect.
+    /// The seats of at most 200,000 rows. The first row that has the carrier, number, origin and date
+    /// field of an earlier one is refused. A row for no flight has no effect.
     pub fn build(alloc: Global, rows: &[SeatRow]) -> Result<Seats, SeatFault>
         requires { length rows.now ≤ 200000 }
         ensures rows { IfOk result (λ seats. (key : SeatKey) → seats_at seats key ≡ rows_have rows.now key) }
@@ -55,7 +55,7 @@ impl Seats {
     }
 
     /// A flight's seats by class: those of the row of its day, or else of the row of all days, or
-    /// else none.
+    /// else none. A class that the row doesn't name has none.
     pub fn seats_of(&self, flight: &Flight) -> [u8; 32]
         ensures { (class : ℕ) → slice_index result class ≡ seats_in self.now flight.now class }
     {
@@ -72,14 +72,15 @@ impl Seats {
         self.rows.get(key).copied()
     }
 
-    /// The classes with seats for a party: bit c is set exactly where class c has at least as many.
+    /// The classes with seats for a party: bit c is set exactly where class c has at least `party`.
     pub fn mask(&self, flight: &Flight, party: u8) -> u32
         ensures { (class : ℕ) → class < 32 → (IsBitSet result class ↔ (party ≤ seats_in self.now flight.now class)) }
     {
         at_least(&self.seats_of(flight), party)
     }
 
-    /// Whether a class has seats for a party. No class from the 33rd on has.
+    /// Whether a class has at least `party` seats. It is the class's bit of `mask`, and false from
+    /// class 32 on.
     pub fn seated(&self, flight: &Flight, class: Class, party: u8) -> bool
         ensures { IsTrue result ↔ ((class < 32) × (party ≤ seats_in self.now flight.now class)) }
     {
@@ -89,7 +90,7 @@ impl Seats {
         }
     }
 
-    /// The same rows.
+    /// The same rows. The map keeps its own hold of the allocator.
     pub fn copy(&self, _alloc: Global) -> Result<Seats, Mem>
         ensures { IfOk result (λ seats. seats ≡ self.now) }
     {
@@ -105,7 +106,8 @@ impl Seats {
         self.rows.len() as u32
     }
 
-    /// Gives a key these seats, in place of those that it has.
+    /// Gives a key these seats, in place of those that it has. A new row beside 200,000 is refused.
+    /// After a refusal the rows are as before.
     pub fn put(&mut self, _alloc: Global, key: &SeatKey, seats: &[u8; 32]) -> Result<(), SeatPut>
         ensures row { OnOk result (Changes self.old self.new key.now (Some seats.now)) }
         ensures full { IsErrOf result SeatPut.Full ↔ HasNoRoom self.old key.now }
@@ -118,7 +120,7 @@ impl Seats {
         Ok(())
     }
 
-    /// Takes the row of a key away. False where there is none.
+    /// Takes the row of a key away. False where there is none, and then nothing changes.
     pub fn drop_row(&mut self, key: &SeatKey) -> bool
         ensures found { IsTrue result ↔ IsSome (seats_at self.old key.now) }
         ensures row { Changes self.old self.new key.now None }
