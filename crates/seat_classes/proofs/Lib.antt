@@ -1,0 +1,4 @@
+pub mod SeatKeys
+pub mod HeldLemmas
+pub mod GivenLemmas
+pub mod Zeros
