@@ -1,6 +1,6 @@
 //! The top call over sources and sinks in memory, with the texts of worked cases.
 use crate::{Status, run};
-use fare_io::{FailSink, FailSource, MemSink, MemSource};
+use fare_io::{FailSink, FailSource, MemSink, MemSource, Sink, Source};
 use fare_law::List;
 use std::alloc::Global;
 use std::test::Fail;
@@ -12,40 +12,14 @@ component 1 unit 1 one_way forward QX LON NYC Y1 20000
 flight QX 101 2031-03-03 LON NYC
 ";
 
-// What one case changes of the one-way case, and how it ends.
-#[derive(Clone, Copy)]
-struct Changed<'a> {
-    name: &'a str,
-    party: &'a [u8],
-    seats: &'a [u8],
-    from: &'a [u8],
-    /// The first day of the flight's row.
-    day: &'a [u8],
-    status: Status,
-    text: &'a [u8],
-}
-
-const ONE_WAY: Changed<'static> = Changed {
-    name: "the one-way case",
-    party: b"1",
-    seats: b"Y9",
-    from: b"LON",
-    day: b"2031-03-03",
-    status: Status::Done,
-    text: ANSWER,
-};
-
-fn case(alloc: Global, changed: &Changed<'_>) -> Result<List<u8>, Fail> {
+// The one-way case, for this party and with these seats.
+fn case(alloc: Global, party: &[u8], seats: &[u8]) -> Result<List<u8>, Fail> {
     let mut text = Vec::new(alloc);
     for piece in [
-        b"#places\nLON,60\nNYC,60\n#flights\nQX,101,".as_slice(),
-        changed.from,
-        b",NYC,10:00,+00:00,13:00,-05:00,0,".as_slice(),
-        changed.day,
-        b",2031-03-03,1\n#seats\nQX,101,LON,*,".as_slice(),
-        changed.seats,
+        b"#places\nLON,60\nNYC,60\n#flights\nQX,101,LON,NYC,10:00,+00:00,13:00,-05:00,0,2031-03-03,2031-03-03,1\n#seats\nQX,101,LON,*,".as_slice(),
+        seats,
         b"\n#filings\n{\"actions\":[{\"put_fare\":{\"carrier\":\"QX\",\"from\":\"LON\",\"to\":\"NYC\",\"basis\":\"Y1\",\"class\":\"Y\",\"kind\":\"O\",\"amount\":20000,\"rule\":0}}]}\n#request\n{\"sale\":\"2031-02-01\",\"party\":".as_slice(),
-        changed.party,
+        party,
         b",\"best\":3,\"slices\":[{\"from\":\"LON\",\"to\":\"NYC\",\"first\":\"2031-03-03\",\"days\":1}]}\n#end\n".as_slice(),
     ] {
         text.extend_from_slice(piece)?;
@@ -54,7 +28,7 @@ fn case(alloc: Global, changed: &Changed<'_>) -> Result<List<u8>, Fail> {
 }
 
 fn one_way(alloc: Global) -> Result<List<u8>, Fail> {
-    case(alloc, &ONE_WAY)
+    case(alloc, b"1", b"Y9")
 }
 
 fn words(alloc: Global, words: &[&str]) -> Result<Vec<String>, Fail> {
@@ -65,99 +39,61 @@ fn words(alloc: Global, words: &[&str]) -> Result<Vec<String>, Fail> {
     Ok(owned)
 }
 
+// Runs the words. What a run promises is the proof's matter; a test looks only at what comes out.
+fn ended<S: Source, K: Sink>(
+    alloc: Global,
+    list: &[&str],
+    source: &mut S,
+    sink: &mut K,
+) -> Result<Status, Fail> {
+    let list = words(alloc, list)?;
+    Ok(run(alloc, list.as_slice(), source, sink))
+}
+
+// The list of this one call.
+fn only_call(alloc: Global, number: u32) -> Result<List<u32>, Fail> {
+    Ok(List::from_vec(vec![in alloc; number]?))
+}
+
 #[test]
 fn answers_cases(rt: HostRuntime) -> Result<(), Fail> {
-    let none = b"version 1\ntickets 0\n".as_slice();
-    let refused = b"refused 0 NotBuilt\n".as_slice();
-    let cases = [
-        ONE_WAY,
-        Changed {
-            name: "two passengers, one seat",
-            party: b"2",
-            seats: b"Y1",
-            text: none,
-            ..ONE_WAY
-        },
-        Changed {
-            name: "two passengers, two seats",
-            party: b"2",
-            seats: b"Y2",
-            ..ONE_WAY
-        },
-        Changed {
-            name: "an unknown place",
-            from: b"LNO",
-            status: Status::Refused,
-            text: refused,
-            ..ONE_WAY
-        },
-        Changed {
-            name: "a date that isn't",
-            day: b"2031-02-29",
-            status: Status::Refused,
-            text: refused,
-            ..ONE_WAY
-        },
-        Changed {
-            name: "no JSON",
-            party: b"",
-            status: Status::Refused,
-            text: refused,
-            ..ONE_WAY
-        },
+    let cases: [(&str, &[u8], &[u8], &[u8]); 3] = [
+        ("nine seats for one passenger", b"1", b"Y9", ANSWER),
+        ("one seat for two", b"2", b"Y1", b"version 1\ntickets 0\n"),
+        ("two seats for two", b"2", b"Y2", ANSWER),
     ];
-    let search = words(rt.alloc(), &["search"])?;
-    for changed in cases {
-        let mut source = MemSource::new(case(rt.alloc(), &changed)?);
+    for (name, party, seats, text) in cases {
+        let mut source = MemSource::new(case(rt.alloc(), party, seats)?);
         let mut sink = MemSink::new(rt.alloc(), 1000)?;
-        let status = run(rt.alloc(), search.as_slice(), &mut source, &mut sink);
-        assert_eq!(rt; status, changed.status, "{}", changed.name);
-        assert_eq!(rt; sink.as_slice(), changed.text, "{}", changed.name);
+        let status = ended(rt.alloc(), &["search"], &mut source, &mut sink)?;
+        assert_eq!(rt; status.number(), 0, "{name}");
+        assert_eq!(rt; sink.as_slice(), text, "{name}");
     }
     Ok(())
 }
 
 #[test]
-fn refuses_other_words(rt: HostRuntime) -> Result<(), Fail> {
-    let lists: [&[&str]; 3] = [&[], &["find"], &["search", "search"]];
-    for list in lists {
-        let list = words(rt.alloc(), list)?;
-        let mut source = MemSource::new(one_way(rt.alloc())?);
-        let mut sink = MemSink::new(rt.alloc(), 1000)?;
-        let status = run(rt.alloc(), list.as_slice(), &mut source, &mut sink);
-        assert_eq!(rt; status, Status::Usage);
-        assert_eq!(rt; sink.as_slice(), b"usage: lowfare search\n".as_slice());
-    }
-    Ok(())
-}
-
-#[test]
-fn tells_failing_ends(rt: HostRuntime) -> Result<(), Fail> {
-    let search = words(rt.alloc(), &["search"])?;
-
-    let first = List::from_vec(vec![in rt.alloc(); 1]?);
-    let mut source = FailSource::new(one_way(rt.alloc())?, first);
+fn tells_a_failing_source(rt: HostRuntime) -> Result<(), Fail> {
+    let mut source = FailSource::new(one_way(rt.alloc())?, only_call(rt.alloc(), 1)?);
     let mut sink = MemSink::new(rt.alloc(), 1000)?;
-    assert_eq!(rt;
-        run(rt.alloc(), search.as_slice(), &mut source, &mut sink),
-        Status::ReadFault
-    );
+    let status = ended(rt.alloc(), &["search"], &mut source, &mut sink)?;
+    assert_eq!(rt; status, Status::ReadFault);
     assert_eq!(rt; sink.as_slice(), b"".as_slice());
+    Ok(())
+}
 
-    let second = List::from_vec(vec![in rt.alloc(); 2]?);
+#[test]
+fn tells_a_failing_sink(rt: HostRuntime) -> Result<(), Fail> {
     let mut source = MemSource::new(one_way(rt.alloc())?);
-    let mut sink = FailSink::new(rt.alloc(), 1000, 4, second)?;
-    assert_eq!(rt;
-        run(rt.alloc(), search.as_slice(), &mut source, &mut sink),
-        Status::WriteFault
-    );
+    let mut sink = FailSink::new(rt.alloc(), 1000, 4, only_call(rt.alloc(), 2)?)?;
+    let status = ended(rt.alloc(), &["search"], &mut source, &mut sink)?;
+    assert_eq!(rt; status, Status::WriteFault);
     assert_eq!(rt; sink.as_slice(), b"vers".as_slice());
     Ok(())
 }
 
 #[test]
 fn stops_past_the_limit(rt: HostRuntime) -> Result<(), Fail> {
-    let search = words(rt.alloc(), &["search"])?;
     let cases: [(usize, Status, &[u8]); 2] = [
         (67_108_864, Status::Refused, b"refused 0 NotBuilt\n"),
         (67_108_865, Status::TooLong, b"too long\n"),
@@ -166,27 +102,9 @@ fn stops_past_the_limit(rt: HostRuntime) -> Result<(), Fail> {
         let bytes = List::from_vec(Vec::from_elem(rt.alloc(), b'a', length)?);
         let mut source = MemSource::new(bytes);
         let mut sink = MemSink::new(rt.alloc(), 1000)?;
-        let ended = run(rt.alloc(), search.as_slice(), &mut source, &mut sink);
-        assert_eq!(rt; ended, status);
+        let found = ended(rt.alloc(), &["search"], &mut source, &mut sink)?;
+        assert_eq!(rt; found, status);
         assert_eq!(rt; sink.as_slice(), text);
     }
     Ok(())
-}
-
-#[test]
-fn numbers_statuses(rt: HostRuntime) {
-    let statuses = [
-        Status::Done,
-        Status::Refused,
-        Status::Usage,
-        Status::ReadFault,
-        Status::WriteFault,
-        Status::OutOfMemory,
-        Status::TooLarge,
-        Status::No,
-        Status::TooLong,
-    ];
-    for (i, status) in statuses.iter().enumerate() {
-        assert_eq!(rt; status.number() as usize, i);
-    }
 }
