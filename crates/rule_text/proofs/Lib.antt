@@ -1,0 +1,3 @@
+pub mod ItemLemmas
+pub mod OrderLemmas
+pub mod NameLemmas

@@ -1,0 +1,4 @@
+pub mod Limits
+pub mod Members
+pub mod Parts
+pub mod Rules
