@@ -2,3 +2,4 @@ pub mod Limits
 pub mod Members
 pub mod Parts
 pub mod Rules
+pub mod Written

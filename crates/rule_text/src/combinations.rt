@@ -1,15 +1,17 @@
 //! Category 10: combinations.
-ghost use Rattle.std.specs.Prelude.{◌≡◌};
+ghost use Rattle.std.specs.Prelude.{◌≡◌, Some};
 ghost use Rattle.serde_json.specs.View.{view};
 ghost use Rattle.rule_text.specs.Rules as Rules;
 
 use crate::RuleFault;
 use crate::members::{check_members, part_at};
+use crate::objects;
 use crate::order::ascend;
 use crate::part::RulePart;
-use fare_law::{ArrayVec, CombineRule, EndOnEnd, Partners, UnitKind};
+use fare_law::{ArrayVec, CombineRule, EndOnEnd, Mem, Partners, UnitKind};
 use json_form::text_at;
 use serde_json::Value;
+use std::alloc::Global;
 
 impl RulePart for CombineRule {
     ghost use Rattle.rule_text.specs.Rules.{combine_rule_of};
@@ -18,6 +20,8 @@ impl RulePart for CombineRule {
     ghost form = { combine_rule_of };
 
     ghost holds = { IsCombineRule };
+
+    ghost levels = { 2 };
 
     fn read_part(value: &Value) -> Result<CombineRule, RuleFault> {
         check_members(value, &["kinds", "partners", "end_on_end"], &[])?;
@@ -33,6 +37,14 @@ impl RulePart for CombineRule {
             end_on_end,
         })
     }
+
+    #[tactic(auto, using(crate::proofs::AgainLemmas::combine_rule_again))]
+    fn part_value(&self, alloc: Global) -> Result<Value, Mem> {
+        let kinds = self.kinds.part_value(alloc)?;
+        let end_on_end = end_on_end_text(self.end_on_end);
+        let partners = partners_text(self.partners);
+        Ok(objects::combine_rule(alloc, end_on_end, kinds, partners)?)
+    }
 }
 
 impl RulePart for UnitKind {
@@ -43,9 +55,16 @@ impl RulePart for UnitKind {
 
     ghost holds = { IsAnyKind };
 
+    ghost levels = { 0 };
+
     fn read_part(value: &Value) -> Result<UnitKind, RuleFault> {
         let text = value.as_str().ok_or(RuleFault::Range)?;
         unit_kind_spelled(text).ok_or(RuleFault::Range)
+    }
+
+    #[tactic(auto, using(crate::proofs::AgainLemmas::unit_kind_again))]
+    fn part_value(&self, alloc: Global) -> Result<Value, Mem> {
+        Ok(Value::try_from_str(alloc, unit_kind_text(*self))?)
     }
 }
 
@@ -82,5 +101,36 @@ fn end_on_end_at(value: &Value) -> Option<EndOnEnd>
         "same_carrier" => Some(EndOnEnd::SameCarrier),
         "never" => Some(EndOnEnd::Never),
         _ => None,
+    }
+}
+
+fn unit_kind_text(kind: UnitKind) -> &'static str
+    ensures { Rules.unit_kind_spelled result.now ≡ Some kind }
+{
+    match kind {
+        UnitKind::OneWay => "one_way",
+        UnitKind::RoundTrip => "round_trip",
+        UnitKind::OpenJaw => "open_jaw",
+        UnitKind::Circle => "circle",
+    }
+}
+
+fn partners_text(partners: Partners) -> &'static str
+    ensures { Rules.partners_spelled result.now ≡ Some partners }
+{
+    match partners {
+        Partners::Any => "any",
+        Partners::SameCarrier => "same_carrier",
+        Partners::SameRule => "same_rule",
+    }
+}
+
+fn end_on_end_text(end_on_end: EndOnEnd) -> &'static str
+    ensures { Rules.end_on_end_spelled result.now ≡ Some end_on_end }
+{
+    match end_on_end {
+        EndOnEnd::Free => "free",
+        EndOnEnd::SameCarrier => "same_carrier",
+        EndOnEnd::Never => "never",
     }
 }

@@ -1,15 +1,17 @@
 //! Parts of a rule, and lists of them.
-ghost use Rattle.std.specs.Prelude.{◌≡◌, ◌≤◌, Result, IfOk, length};
+ghost use Rattle.std.specs.Prelude.{◌≡◌, ◌≤◌, ◌+◌, ℕ, Result, IfOk, length};
 ghost use Rattle.serde_json.specs.Data.{Data};
 ghost use Rattle.serde_json.specs.View.{view, items_view};
 ghost use Rattle.fare_law.specs.Lists.{Each};
 ghost use Rattle.rule_text.specs.Limits.{IsListOf};
 ghost use Rattle.rule_text.specs.Members as Members;
+ghost use Rattle.rule_text.specs.Written.{Spells, SpellsEach};
 ghost use Rattle.rule_text.specs.declared.fault.RuleFault.{RuleFault as Fault};
 
 use crate::RuleFault;
-use fare_law::ArrayVec;
+use fare_law::{ArrayVec, Mem};
 use serde_json::Value;
+use std::alloc::Global;
 
 /// A part of a rule: what its JSON value spells, and the limits of what is read.
 pub trait RulePart: Drop {
@@ -17,10 +19,18 @@ pub trait RulePart: Drop {
 
     ghost holds: { Self → Type 0 };
 
+    // How deep its value nests.
+    ghost levels: { ℕ };
+
     /// The part that a value spells, or its first fault.
     fn read_part(value: &Value) -> Result<Self, RuleFault>
         ensures part { result ≡ form (view value.now) }
         ensures limits { IfOk result holds };
+
+    /// The value that is read as this part.
+    fn part_value(&self, alloc: Global) -> Result<Value, Mem>
+        requires { holds self.now }
+        ensures { IfOk result (λ value. Spells levels form self.now (view value)) };
 }
 
 impl<T: RulePart + Default, const N: usize> RulePart for ArrayVec<T, N> {
@@ -28,10 +38,30 @@ impl<T: RulePart + Default, const N: usize> RulePart for ArrayVec<T, N> {
 
     ghost holds = { IsListOf N T.holds };
 
+    ghost levels = { T.levels + 1 };
+
     fn read_part(value: &Value) -> Result<ArrayVec<T, N>, RuleFault> {
         let items = value.as_array().ok_or(RuleFault::Range)?;
         read_items(items.as_slice())
     }
+
+    #[tactic(auto, using(crate::proofs::AgainLemmas::list_again))]
+    fn part_value(&self, alloc: Global) -> Result<Value, Mem> {
+        Ok(Value::Array(item_values(alloc, self.as_slice())?))
+    }
+}
+
+// Items as JSON values.
+#[tactic(auto, using(crate::proofs::ItemLemmas::value_steps))]
+fn item_values<T: RulePart>(alloc: Global, items: &[T]) -> Result<Vec<Value>, Mem>
+    requires { Each T.holds items.now }
+    ensures { IfOk result (λ values. SpellsEach T.levels T.form items.now (items_view values.items)) }
+{
+    let mut values = Vec::new(alloc);
+    for item in items {
+        values.push(item.part_value(alloc)?)?;
+    }
+    Ok(values)
 }
 
 // The items of a list of 1 to `N`.

@@ -1,17 +1,20 @@
 //! Ranges of days and of flight numbers.
-ghost use Rattle.std.specs.Prelude.{◌≡◌, ◌≤◌, IfSome};
+ghost use Rattle.std.specs.Prelude.{◌≡◌, IfOk, IfSome};
 ghost use Rattle.serde_json.specs.View.{view};
-ghost use Rattle.market_time.specs.Dates.{IsInCentury};
 ghost use Rattle.rule_text.specs.Members as Members;
 ghost use Rattle.rule_text.specs.Parts as Parts;
 ghost use Rattle.rule_text.specs.Limits.{IsDayRange, IsFlightRange};
+ghost use Rattle.rule_text.specs.Written as Written;
 
 use crate::RuleFault;
 use crate::part::RulePart;
 use crate::singles::{date_of, number_of};
-use fare_law::{Carrier, DayRange, FlightRange};
+use crate::texts::{ascii_text, carrier_text};
+use fare_law::{DayRange, FlightRange, Mem};
+use market_time::day_text;
 use name_text::carrier_of;
-use serde_json::Value;
+use serde_json::{Value, json};
+use std::alloc::{AllocError, Global};
 
 impl RulePart for DayRange {
     ghost use Rattle.rule_text.specs.Parts.{day_range_of};
@@ -20,8 +23,17 @@ impl RulePart for DayRange {
 
     ghost holds = { IsDayRange };
 
+    ghost levels = { 1 };
+
     fn read_part(value: &Value) -> Result<DayRange, RuleFault> {
         day_range(value).ok_or(RuleFault::Range)
+    }
+
+    #[tactic(auto, using(crate::proofs::AgainLemmas::day_range_again))]
+    fn part_value(&self, alloc: Global) -> Result<Value, Mem> {
+        let first = day_text(self.first);
+        let last = day_text(self.last);
+        Ok(day_range_json(alloc, ascii_text(&first), ascii_text(&last))?)
     }
 }
 
@@ -32,8 +44,16 @@ impl RulePart for FlightRange {
 
     ghost holds = { IsFlightRange };
 
+    ghost levels = { 1 };
+
     fn read_part(value: &Value) -> Result<FlightRange, RuleFault> {
         flight_range(value).ok_or(RuleFault::Range)
+    }
+
+    #[tactic(auto, using(crate::proofs::AgainLemmas::flight_range_again))]
+    fn part_value(&self, alloc: Global) -> Result<Value, Mem> {
+        let carrier = carrier_text(&self.carrier);
+        Ok(flight_range_json(alloc, carrier, self.low, self.high)?)
     }
 }
 
@@ -81,4 +101,21 @@ fn has_items(value: &Value, count: usize) -> bool
         Some(items) => items.len() == count,
         None => false,
     }
+}
+
+fn day_range_json(alloc: Global, first: &str, last: &str) -> Result<Value, AllocError>
+    ensures { IfOk result (λ value. view value ≡ Written.day_range_data first.now last.now) }
+{
+    json!(in alloc; [first, last])
+}
+
+fn flight_range_json(
+    alloc: Global,
+    carrier: &str,
+    low: u16,
+    high: u16,
+) -> Result<Value, AllocError>
+    ensures { IfOk result (λ value. view value ≡ Written.flight_range_data carrier.now low high) }
+{
+    json!(in alloc; [carrier, low, high])
 }

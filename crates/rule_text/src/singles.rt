@@ -8,11 +8,13 @@ ghost use Rattle.rule_text.specs.Parts as Parts;
 
 use crate::RuleFault;
 use crate::part::RulePart;
-use fare_law::Place;
+use crate::texts::{ascii_text, place_text};
+use fare_law::{Mem, Place};
 use json_form::text_at;
-use market_time::{day_of, minute_of};
+use market_time::{day_of, day_text, minute_of};
 use name_text::place_of;
 use serde_json::Value;
+use std::alloc::Global;
 
 // A weekday: 1 for Monday to 7 for Sunday.
 impl RulePart for u8 {
@@ -23,9 +25,16 @@ impl RulePart for u8 {
 
     ghost holds = { IsWeekday };
 
+    ghost levels = { 0 };
+
     fn read_part(value: &Value) -> Result<u8, RuleFault> {
         let day = number_of(value, 1, 7).ok_or(RuleFault::Range)?;
         Ok(day as u8)
+    }
+
+    #[tactic(auto, using(crate::proofs::AgainLemmas::weekday_again))]
+    fn part_value(&self, _alloc: Global) -> Result<Value, Mem> {
+        Ok(Value::from(*self))
     }
 }
 
@@ -38,9 +47,16 @@ impl RulePart for u16 {
 
     ghost holds = { IsDays };
 
+    ghost levels = { 0 };
+
     fn read_part(value: &Value) -> Result<u16, RuleFault> {
         let days = number_of(value, 0, 365).ok_or(RuleFault::Range)?;
         Ok(days as u16)
+    }
+
+    #[tactic(auto, using(crate::proofs::AgainLemmas::days_again))]
+    fn part_value(&self, _alloc: Global) -> Result<Value, Mem> {
+        Ok(Value::from(*self))
     }
 }
 
@@ -52,8 +68,16 @@ impl RulePart for i32 {
 
     ghost holds = { IsInCentury };
 
+    ghost levels = { 0 };
+
     fn read_part(value: &Value) -> Result<i32, RuleFault> {
         date_of(value).ok_or(RuleFault::Range)
+    }
+
+    #[tactic(auto, using(crate::proofs::AgainLemmas::date_again))]
+    fn part_value(&self, alloc: Global) -> Result<Value, Mem> {
+        let text = day_text(*self);
+        Ok(Value::try_from_str(alloc, ascii_text(&text))?)
     }
 }
 
@@ -64,8 +88,15 @@ impl RulePart for Place {
 
     ghost holds = { IsPlace };
 
+    ghost levels = { 0 };
+
     fn read_part(value: &Value) -> Result<Place, RuleFault> {
         read_place(value).ok_or(RuleFault::Range)
+    }
+
+    #[tactic(auto, using(crate::proofs::AgainLemmas::place_again))]
+    fn part_value(&self, alloc: Global) -> Result<Value, Mem> {
+        Ok(Value::try_from_str(alloc, place_text(self))?)
     }
 }
 
