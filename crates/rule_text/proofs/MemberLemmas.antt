@@ -87,7 +87,7 @@ abbrev pub distinct : List Given → Bool
 distinct [] = true
 distinct (g ∷ gs) = not (comes_in g.0 gs) && distinct gs
 
-absent : (q : List ℕ) (gs : List Given) → comes_in q gs ≡ false → get_member q (built gs) ≡ None
+pub absent : (q : List ℕ) (gs : List Given) → comes_in q gs ≡ false → get_member q (built gs) ≡ None
 absent q [] e = refl
 absent q (g ∷ gs) e = let h = neither (bytes_eq q g.0) (comes_in q gs) e in get_other q g.0 g.1 (built gs) h.0 ∙ absent q gs h.1
 

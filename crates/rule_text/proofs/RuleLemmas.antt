@@ -12,8 +12,8 @@ use Rattle.rule_text.specs.Limits.{IsStopRule}
 use Rattle.rule_text.specs.Members.{list_of, only_named, optional_at}
 use Rattle.rule_text.specs.Parts.{date_of, day_range_of, days_of, place_form}
 use Rattle.rule_text.specs.Rules.{combine_rule_of, day_time_of, flight_rule_of, min_stay_of, rule_names, rule_of, stop_rule_of, surcharge_of, transfer_rule_of, travel_rule_of}
-use Rattle.rule_text.specs.Written.{Spells, SpellsIf, put_if, stop_members}
-use Rattle.rule_text.proofs.MemberLemmas.{EachPlain, Given, built, built_named, built_floats, built_depth, found, get_other, named_put, optional_again, spells_plain}
+use Rattle.rule_text.specs.Written.{IsBare, Spells, SpellsIf, put_if, stop_members}
+use Rattle.rule_text.proofs.MemberLemmas.{EachPlain, Given, absent, built, built_named, built_floats, built_depth, found, get_other, named_put, optional_again, spells_plain}
 
 le_true : (a b : ℕ) → a ≤ b → nat_le a b ≡ true
 le_true a b h = grind (arith, nat_tests)
@@ -137,6 +137,24 @@ rule_again r o2 o3 o4 o5 o6 o7 o8 o9 o10 o12 o14 v e h2 h3 h4 h5 h6 h7 h8 h9 h10
       no_float = built_floats 3 gs plain;
       nests = let h = built_depth 3 gs plain in omega arith;
     })
+
+pub rule_bare : (o2 o3 o4 o5 o6 o7 o8 o9 o10 o12 o14 : Option Data) (v : Data)
+    → v ≡ object (put_if (codes "cat14") o14 (put_if (codes "cat12") o12 (put_if (codes "cat10") o10 (put_if (codes "cat9") o9 (put_if (codes "cat8") o8 (put_if (codes "cat7") o7 (put_if (codes "cat6") o6 (put_if (codes "cat5") o5 (put_if (codes "cat4") o4 (put_if (codes "cat3") o3 (put_if (codes "cat2") o2 (no_members))))))))))))
+    → IsBare v
+rule_bare o2 o3 o4 o5 o6 o7 o8 o9 o10 o12 o14 v e =
+    let gs : List Given =
+      (codes "cat14", o14)
+      ∷ (codes "cat12", o12)
+      ∷ (codes "cat10", o10)
+      ∷ (codes "cat9", o9)
+      ∷ (codes "cat8", o8)
+      ∷ (codes "cat7", o7)
+      ∷ (codes "cat6", o6)
+      ∷ (codes "cat5", o5)
+      ∷ (codes "cat4", o4)
+      ∷ (codes "cat3", o3)
+      ∷ (codes "cat2", o2) ∷ [] in
+    subst (λ (x : Data). IsBare x) (sym e) (record { carrier = absent (codes "carrier") gs refl; rule = absent (codes "rule") gs refl })
 
 -- members of other names change nothing
 

@@ -1,6 +1,7 @@
 -- The JSON value of a rule: one that is read as that rule.
 use Rattle.std.specs.Prelude.{◌≡◌, ◌≤◌, ℕ, List, [], ◌∷◌, Bool, false, Option, Some, None, Result, Ok, codes}
 use Rattle.serde_json.specs.Data.{Data, Items, no_items, item, array, number, unsigned, boolean, string, object, Members, member, no_members, put, depth}
+use Rattle.serde_json.specs.Find.{get}
 use Rattle.serde_json.specs.Written.{has_float}
 use Rattle.rule_text.specs.declared.fault.RuleFault.{RuleFault}
 
@@ -23,6 +24,11 @@ SpellsIf levels form None None = Unit {0}
 SpellsIf levels form None (Some d) = ⊥
 SpellsIf levels form (Some part) None = ⊥
 SpellsIf levels form (Some part) (Some d) = Spells levels form part d
+
+-- an object that names neither the rule's carrier nor its number
+pub record IsBare (d : Data) : Type 0 where
+  pub carrier : get (codes "carrier") d ≡ None
+  pub rule : get (codes "rule") d ≡ None
 
 -- the members, with this one where there is one
 abbrev pub put_if : List ℕ → Option Data → Members → Members

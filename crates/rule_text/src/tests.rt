@@ -1,4 +1,7 @@
 //! Rules of known values.
+ghost use Rattle.std.specs.Prelude.{IfOk, IfSome};
+ghost use Rattle.rule_text.specs.Limits.{IsRule};
+
 use crate::*;
 use fare_law::{
     ArrayVec, Carrier, CombineRule, DayRange, DayTime, EndOnEnd, FlightRange, FlightRule, Mem,
@@ -9,7 +12,9 @@ use std::alloc::Global;
 use std::test::Fail;
 
 // What the text's value is read as, or `None` where it has no value.
-fn read(alloc: Global, text: &[u8]) -> Result<Option<Result<Rule, RuleFault>>, Mem> {
+fn read(alloc: Global, text: &[u8]) -> Result<Option<Result<Rule, RuleFault>>, Mem>
+    ensures { IfOk result (λ found. IfSome found (λ told. IfOk told IsRule)) }
+{
     Ok(read_value(alloc, text)?.map(|value| read_rule(alloc, &value)))
 }
 
@@ -167,7 +172,7 @@ fn names_the_first_fault(rt: HostRuntime) -> Result<(), Fail> {
         ),
         ("366 days", br#"{"cat5":366}"#, RuleFault::Range),
         ("a number with a point", br#"{"cat7":1.0}"#, RuleFault::Range),
-        ("a number below 0", br#"{"cat7":-0}"#, RuleFault::Range),
+        ("minus zero", br#"{"cat7":-0}"#, RuleFault::Range),
         (
             "no word on Sunday",
             br#"{"cat6":{"days":0}}"#,
@@ -210,4 +215,31 @@ fn names_the_first_fault(rt: HostRuntime) -> Result<(), Fail> {
         assert_eq!(rt; read(rt.alloc(), text)?, Some(Err(fault)), "{name}");
     }
     Ok(())
+}
+
+#[test]
+fn writes_rules(rt: HostRuntime) -> Result<(), Fail> {
+    let expected = "{\"cat10\":{\"end_on_end\":\"same_carrier\",\"kinds\":[\"round_trip\",\"circle\"],\"partners\":\"same_rule\"},\
+        \"cat12\":[{\"amount\":1500,\"carrier\":\"QX\",\"first\":\"2031-03-03\",\"high\":9999,\"last\":\"2031-03-03\",\"low\":101}],\
+        \"cat14\":{\"by\":\"2031-03-31\",\"ranges\":[[\"2031-01-01\",\"2031-06-30\"]]},\
+        \"cat2\":{\"days\":[1,7],\"from\":\"06:30\",\"to\":\"23:59\"},\
+        \"cat3\":[[\"2031-01-01\",\"2031-06-30\"]],\
+        \"cat4\":{\"allow\":false,\"flights\":[[\"QX\",100,101]]},\
+        \"cat5\":14,\
+        \"cat6\":{\"days\":3,\"sunday\":true},\
+        \"cat7\":365,\
+        \"cat8\":{\"charge\":1000000,\"max\":2,\"places\":[\"DUB\"]},\
+        \"cat9\":{\"max\":3,\"online\":false}}";
+    let written = written(rt.alloc(), WHOLE)?;
+    assert_eq!(rt; written.as_ref().map(String::as_str), Some(expected));
+    Ok(())
+}
+
+// The text of the rule that a text spells.
+fn written(alloc: Global, text: &[u8]) -> Result<Option<String>, Mem> {
+    let Some(Ok(rule)) = read(alloc, text)? else {
+        return Ok(None);
+    };
+    let value = rule_value(alloc, &rule)?;
+    Ok(Some(value.to_string(alloc)?))
 }

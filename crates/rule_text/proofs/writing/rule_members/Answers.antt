@@ -1,10 +1,9 @@
 use Rattle.std.proofs.Common.{◌∙◌, ap, codes}
-use Rattle.serde_json.proofs.Views.{view-Object}
 use Rattle.serde_json.specs.Data.{object}
 use Rattle.serde_json.specs.View.{members_view}
 use Rattle.rule_text.specs.Written.{put_if}
-use Rattle.rule_text.proofs.RuleLemmas.{rule_again}
-use Rattle.rule_text.proofs.writing.rule_value.Goals as goal
+use Rattle.rule_text.proofs.RuleLemmas.{rule_again, rule_bare}
+use Rattle.rule_text.proofs.writing.rule_members.Goals as goal
 
 pub returns : goal.returns
 returns c =
@@ -19,8 +18,7 @@ returns c =
     let cat10 = c.in_ok-put_optional-9.ensures in
     let cat12 = c.in_ok-put_optional-10.ensures in
     let cat14 = c.in_ok-put_optional-11.ensures in
-    rule_again c.args.rule.now cat2.value cat3.value cat4.value cat5.value cat6.value cat7.value cat8.value cat9.value cat10.value cat12.value cat14.value _
-    (view-Object c.put_optional-11.new.members ∙ ap object (
+    let e = ap object (
       cat14.put ∙ ap (put_if (codes "cat14") cat14.value) (
       cat12.put ∙ ap (put_if (codes "cat12") cat12.value) (
       cat10.put ∙ ap (put_if (codes "cat10") cat10.value) (
@@ -31,5 +29,9 @@ returns c =
       cat5.put ∙ ap (put_if (codes "cat5") cat5.value) (
       cat4.put ∙ ap (put_if (codes "cat4") cat4.value) (
       cat3.put ∙ ap (put_if (codes "cat3") cat3.value) (
-      cat2.put ∙ ap (put_if (codes "cat2") cat2.value) (ap members_view c.new-members.ensures.empty)))))))))))))
-    cat2.spells cat3.spells cat4.spells cat5.spells cat6.spells cat7.spells cat8.spells cat9.spells cat10.spells cat12.spells cat14.spells
+      cat2.put ∙ ap (put_if (codes "cat2") cat2.value) (ap members_view c.new-members.ensures.empty)))))))))))) in
+    record {
+      again = rule_again c.args.rule.now cat2.value cat3.value cat4.value cat5.value cat6.value cat7.value cat8.value cat9.value cat10.value cat12.value cat14.value _ e
+        cat2.spells cat3.spells cat4.spells cat5.spells cat6.spells cat7.spells cat8.spells cat9.spells cat10.spells cat12.spells cat14.spells;
+      bare = rule_bare cat2.value cat3.value cat4.value cat5.value cat6.value cat7.value cat8.value cat9.value cat10.value cat12.value cat14.value _ e;
+    }
