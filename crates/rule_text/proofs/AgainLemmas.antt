@@ -1,12 +1,11 @@
 -- Parts of a rule within their limits are read again from their values.
-use Rattle.std.proofs.Common.{◌≡◌, ◌<◌, ◌≤◌, ◌≤ℤ◌, ◌+◌, ℕ, ℤ, zero, suc, max, int_le, nat_le, eq-eqb, Bool, true, false, ◌||◌, List, [], ◌∷◌, length, Option, Some, None, Result, Ok, Err, refl, arith, sym, subst, ap, ◌∙◌}
+use Rattle.std.proofs.Common.{◌≡◌, ◌<◌, ◌≤◌, ◌≤ℤ◌, ◌+◌, ℕ, ℤ, suc, int_le, nat_le, eq-eqb, true, false, List, [], ◌∷◌, length, Some, Result, Ok, refl, arith, sym, subst, ap, ◌∙◌}
 use Rattle.std.specs.Char.{is_ascii_uppercase}
-use Rattle.std.specs.Int.{IsInRange}
 use Rattle.std.specs.List.{list_all}
 use Rattle.std.proofs.lemmas.Bool.Decides.{nat_tests}
 use Rattle.std.proofs.lemmas.Int.{ints}
-use Rattle.serde_json.specs.Data.{Data, Items, no_items, item, Members, array, number, unsigned, string, object, depth, items_depth}
-use Rattle.serde_json.specs.Written.{has_float, items_have_float}
+use Rattle.serde_json.specs.Data.{Data, Items, no_items, item, array, number, unsigned, string, items_depth}
+use Rattle.serde_json.specs.Written.{items_have_float}
 use Rattle.fare_law.specs.Lists.{Each, EachPair}
 use Rattle.fare_law.specs.Order.{IsCarrier, IsCharacter}
 use Rattle.fare_law.specs.declared.names.Carrier.{Carrier}
@@ -24,10 +23,10 @@ use Rattle.market_time.specs.Clock.{minute_spelled}
 use Rattle.market_time.specs.Dates.{day_spelled}
 use Rattle.name_text.specs.Names.{IsCapital, IsPlace, place_of, carrier_of, is_character}
 use Rattle.rule_text.specs.declared.fault.RuleFault.{RuleFault}
-use Rattle.rule_text.specs.Limits.{IsListOf, IsWeekday, IsDays, IsDayRange, IsDayTime, IsFlightRange, IsFlightRule, IsMinStay, IsSurcharge, IsTransferRule, IsCombineRule}
-use Rattle.rule_text.specs.Members.{each_of, items_of, item_count, list_of}
+use Rattle.rule_text.specs.Limits.{IsListOf, IsWeekday, IsDays, IsDayRange, IsDayTime, IsFlightRange, IsMinStay, IsSurcharge, IsTransferRule, IsCombineRule}
+use Rattle.rule_text.specs.Members.{each_of, item_count, list_of}
 use Rattle.rule_text.specs.Parts.{ascend, ascend_from, date_of, day_range_of, days_of, flight_range_of, place_form, weekday_of}
-use Rattle.rule_text.specs.Rules.{combine_rule_of, day_time_of, end_on_end_spelled, flight_rule_of, min_stay_of, partners_spelled, place_of_kind, surcharge_of, transfer_rule_of, unit_kind_of, unit_kind_spelled}
+use Rattle.rule_text.specs.Rules.{combine_rule_of, day_time_of, end_on_end_spelled, flight_rule_of, min_stay_of, partners_spelled, rank_of_kind, surcharge_of, transfer_rule_of, unit_kind_of, unit_kind_spelled}
 use Rattle.rule_text.specs.Written.{Spells, SpellsEach, combine_rule_data, day_range_data, day_time_data, flight_range_data, flight_rule_data, min_stay_data, surcharge_data, transfer_rule_data}
 
 le_true : (a b : ℕ) → a ≤ b → nat_le a b ≡ true
@@ -151,12 +150,12 @@ list_again levels most form P xs ds v e h l =
       nests = let a = each_nests levels form xs ds h in omega arith;
     })
 
-module _ {A : Type 0} (place : A → ℕ) where
-  ascends : (x : A) (xs : List A) (least : ℕ) → least ≤ place x → EachPair (λ one other. place one < place other) (x ∷ xs) → ascend_from place least (x ∷ xs) ≡ true
-  ascends x [] least h p = rw (le_true least (place x) h) refl
-  ascends x (y ∷ ys) least h p = rw (le_true least (place x) h) (ascends y ys (place x + 1) (let a = p.0 in omega arith) p.1)
+module _ {A : Type 0} (rank : A → ℕ) where
+  ascends : (x : A) (xs : List A) (least : ℕ) → least ≤ rank x → EachPair (λ one other. rank one < rank other) (x ∷ xs) → ascend_from rank least (x ∷ xs) ≡ true
+  ascends x [] least h p = rw (le_true least (rank x) h) refl
+  ascends x (y ∷ ys) least h p = rw (le_true least (rank x) h) (ascends y ys (rank x + 1) (let a = p.0 in omega arith) p.1)
 
-  ascend_again : (xs : List A) → EachPair (λ one other. place one < place other) xs → ascend place xs ≡ true
+  ascend_again : (xs : List A) → EachPair (λ one other. rank one < rank other) xs → ascend rank xs ≡ true
   ascend_again [] p = refl
   ascend_again (x ∷ xs) p = ascends x xs 0 (omega arith) p
 
@@ -193,7 +192,7 @@ pub combine_rule_again : (r : CombineRule) (kinds v : Data) (end_on_end partners
 combine_rule_again r kinds v end_on_end partners e d one other h =
     subst (λ (x : Data). Spells 2 combine_rule_of r x) (sym e)
     (record {
-      again = rw (d.again, one, other, ascend_again place_of_kind r.kinds h.in_order) refl;
+      again = rw (d.again, one, other, ascend_again rank_of_kind r.kinds h.in_order) refl;
       no_float = rw (d.no_float) refl;
       nests = let a = d.nests in omega arith;
     })

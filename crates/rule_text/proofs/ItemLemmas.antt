@@ -1,5 +1,5 @@
 -- Items that were read, and those that are left.
-use Rattle.std.proofs.Common.{◌≡◌, ◌⊎◌, Bool, true, false, nat_le, ◌<◌, ◌≤◌, ◌+◌, ℕ, zero, suc, take, subst, List, [], ◌∷◌, ◌++◌, length, drop, get_or, refl, ap, sym, ◌∙◌, Result, Ok, Err, append_assoc, append-nil, drop-cons, add-one, arith}
+use Rattle.std.proofs.Common.{◌≡◌, true, false, nat_le, ◌<◌, ◌≤◌, ◌+◌, ℕ, zero, suc, take, subst, List, [], ◌∷◌, ◌++◌, length, drop, get_or, refl, ap, sym, ◌∙◌, Result, Ok, Err, append_assoc, append-nil, drop-cons, add-one, arith}
 use Rattle.std.proofs.lemmas.Bool.Decides.{nat_tests}
 use Rattle.std.proofs.lemmas.List.{drop_all, take_all, take_more}
 use Rattle.serde_json.specs.Data.{Data}

@@ -1,16 +1,14 @@
 -- Objects of members that may be absent.
-use Rattle.std.proofs.Common.{◌≡◌, ◌<◌, ◌≤◌, ℕ, zero, suc, max, not, length, get_or, Bool, true, false, ◌||◌, ◌&&◌, bytes_eq, true≢false, Ordering, Less, Equal, Greater, is_eq, List, [], ◌∷◌, Option, Some, None, Result, Ok, Err, refl, arith, sym, subst, ap, ◌∙◌}
+use Rattle.std.proofs.Common.{◌≡◌, ◌<◌, ◌≤◌, ℕ, zero, suc, not, length, get_or, Bool, true, false, ◌||◌, ◌&&◌, bytes_eq, true≢false, Ordering, Less, Equal, Greater, List, [], ◌∷◌, Option, Some, None, Result, Ok, refl, arith, sym, subst, ap, ◌∙◌}
 use Rattle.std.specs.Cmp.Lexicographic.{slice_cmp}
-use Rattle.std.specs.List.{list_all}
 use Rattle.std.specs.Ordering.{nat_cmp, match_ordering}
-use Rattle.std.proofs.lemmas.Map.Text.{is_eq-slice_cmp}
 use Rattle.std.proofs.lemmas.Slice.Eq.{bytes_eq-Decides}
 use Rattle.serde_json.proofs.Views.{get_member-put, get_member-put_other}
 use Rattle.serde_json.specs.Data.{Data, Members, no_members, member, object, put, depth, members_depth}
 use Rattle.serde_json.specs.Find.{get_member}
 use Rattle.serde_json.specs.Written.{has_float, members_have_float}
 use Rattle.rule_text.specs.declared.fault.RuleFault.{RuleFault}
-use Rattle.rule_text.specs.Members.{if_there, is_one_of, only_named, optional_at}
+use Rattle.rule_text.specs.Members.{is_one_of, only_named, optional_at}
 use Rattle.rule_text.specs.Written.{Puts, Spells, SpellsIf, put_if}
 
 untrue_test : (b : Bool) → (b ≡ true → ⊥) → b ≡ false

@@ -1,5 +1,5 @@
 -- Names that code has by reference, and the names themselves.
-use Rattle.std.proofs.Common.{◌≡◌, ℕ, Bool, List, [], ◌∷◌, map, refl, ap, Bor, bytes_eq, ◌||◌, ◌&&◌, is_some, String, Global, string_bytes}
+use Rattle.std.proofs.Common.{◌≡◌, ℕ, List, [], ◌∷◌, map, refl, ap, Bor, bytes_eq, ◌||◌, ◌&&◌, is_some, String, Global, string_bytes}
 use Rattle.std.specs.List.{list_all, list_any}
 use Rattle.std.specs.Map.{keys_of}
 use Rattle.serde_json.specs.Data.{Data}

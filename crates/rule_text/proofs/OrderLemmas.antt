@@ -5,9 +5,9 @@ use Rattle.std.proofs.lemmas.List.{drop_all}
 use Rattle.fare_law.specs.Lists.{EachPair}
 use Rattle.rule_text.specs.Parts.{ascend_from}
 
-module _ {A : Type 0} (place : A → ℕ) where
+module _ {A : Type 0} (rank : A → ℕ) where
   rest_is : (xs : List A) (least i : ℕ) (d : A) → i < length xs
-      → ascend_from place least (drop i xs) ≡ (nat_le least (place (get_or xs i d)) && ascend_from place (place (get_or xs i d) + 1) (drop (i + 1) xs))
+      → ascend_from rank least (drop i xs) ≡ (nat_le least (rank (get_or xs i d)) && ascend_from rank (rank (get_or xs i d) + 1) (drop (i + 1) xs))
   rest_is xs least i d l = rw (drop-cons xs i d l, add-one i) refl
 
   le_true : (a b : ℕ) → a ≤ b → nat_le a b ≡ true
@@ -16,19 +16,19 @@ module _ {A : Type 0} (place : A → ℕ) where
   le_false : (a b : ℕ) → b < a → nat_le a b ≡ false
   le_false a b h = grind (arith, nat_tests)
 
-  pub order_more : (xs : List A) (least i : ℕ) (d : A) → i < length xs → least ≤ place (get_or xs i d)
-      → ascend_from place least (drop i xs) ≡ ascend_from place 0 xs
-      → ascend_from place (place (get_or xs i d) + 1) (drop (i + 1) xs) ≡ ascend_from place 0 xs
+  pub order_more : (xs : List A) (least i : ℕ) (d : A) → i < length xs → least ≤ rank (get_or xs i d)
+      → ascend_from rank least (drop i xs) ≡ ascend_from rank 0 xs
+      → ascend_from rank (rank (get_or xs i d) + 1) (drop (i + 1) xs) ≡ ascend_from rank 0 xs
   order_more xs least i d l h e =
-      sym (rest_is xs least i d l ∙ ap (λ b. b && ascend_from place (place (get_or xs i d) + 1) (drop (i + 1) xs)) (le_true least (place (get_or xs i d)) h)) ∙ e
+      sym (rest_is xs least i d l ∙ ap (λ b. b && ascend_from rank (rank (get_or xs i d) + 1) (drop (i + 1) xs)) (le_true least (rank (get_or xs i d)) h)) ∙ e
 
-  pub order_bad : (xs : List A) (least i : ℕ) (d : A) → i < length xs → place (get_or xs i d) < least
-      → ascend_from place least (drop i xs) ≡ ascend_from place 0 xs → false ≡ ascend_from place 0 xs
+  pub order_bad : (xs : List A) (least i : ℕ) (d : A) → i < length xs → rank (get_or xs i d) < least
+      → ascend_from rank least (drop i xs) ≡ ascend_from rank 0 xs → false ≡ ascend_from rank 0 xs
   order_bad xs least i d l h e =
-      sym (rest_is xs least i d l ∙ ap (λ b. b && ascend_from place (place (get_or xs i d) + 1) (drop (i + 1) xs)) (le_false least (place (get_or xs i d)) h)) ∙ e
+      sym (rest_is xs least i d l ∙ ap (λ b. b && ascend_from rank (rank (get_or xs i d) + 1) (drop (i + 1) xs)) (le_false least (rank (get_or xs i d)) h)) ∙ e
 
-  pub order_all : (xs : List A) (least i : ℕ) → length xs ≤ i → ascend_from place least (drop i xs) ≡ ascend_from place 0 xs → true ≡ ascend_from place 0 xs
-  order_all xs least i l e = sym (ap (λ ys. ascend_from place least ys) (drop_all i xs l)) ∙ e
+  pub order_all : (xs : List A) (least i : ℕ) → length xs ≤ i → ascend_from rank least (drop i xs) ≡ ascend_from rank 0 xs → true ≡ ascend_from rank 0 xs
+  order_all xs least i l e = sym (ap (λ ys. ascend_from rank least ys) (drop_all i xs l)) ∙ e
 
   both : (a b : Bool) → (a && b) ≡ true → (a ≡ true) × (b ≡ true)
   both true b e = (refl, e)
@@ -38,12 +38,12 @@ module _ {A : Type 0} (place : A → ℕ) where
   true_le a b e = grind (arith, nat_tests)
 
   -- items that ascend stand each before the next
-  pub pairs_ascend : (xs : List A) (least : ℕ) → ascend_from place least xs ≡ true → EachPair (λ one other. place one < place other) xs
+  pub pairs_ascend : (xs : List A) (least : ℕ) → ascend_from rank least xs ≡ true → EachPair (λ one other. rank one < rank other) xs
   pairs_ascend [] least e = tt
   pairs_ascend (x ∷ []) least e = tt
   pairs_ascend (x ∷ y ∷ ys) least e =
-      let rest = (both (nat_le least (place x)) (ascend_from place (place x + 1) (y ∷ ys)) e).1 in
-      let first = true_le (place x + 1) (place y) ((both (nat_le (place x + 1) (place y)) (ascend_from place (place y + 1) ys) rest).0) in
-      (omega (arith, first), pairs_ascend (y ∷ ys) (place x + 1) rest)
+      let rest = (both (nat_le least (rank x)) (ascend_from rank (rank x + 1) (y ∷ ys)) e).1 in
+      let first = true_le (rank x + 1) (rank y) ((both (nat_le (rank x + 1) (rank y)) (ascend_from rank (rank y + 1) ys) rest).0) in
+      (omega (arith, first), pairs_ascend (y ∷ ys) (rank x + 1) rest)
 
 pub ruleset order_steps = (order_more, order_bad, order_all, pairs_ascend)

@@ -1,5 +1,5 @@
 -- Objects of optional members are read again: stopovers, travel dates, and the rule itself.
-use Rattle.std.proofs.Common.{◌≡◌, ◌≤◌, ◌<◌, ℕ, ℤ, suc, nat_le, Bool, true, false, bytes_eq, List, [], ◌∷◌, length, get_or, Option, Some, None, Result, Ok, Err, codes, refl, arith, sym, subst, ap, ◌∙◌}
+use Rattle.std.proofs.Common.{◌≡◌, ◌≤◌, ℕ, ℤ, nat_le, true, false, bytes_eq, List, [], ◌∷◌, Option, Some, None, Ok, codes, refl, arith, sym, subst, ◌∙◌}
 use Rattle.std.proofs.lemmas.Bool.Decides.{nat_tests}
 use Rattle.serde_json.specs.Data.{Data, Members, no_members, object, put}
 use Rattle.serde_json.specs.Find.{get_member}
@@ -55,8 +55,8 @@ travel_rule_again r ranges by v e one other =
     subst (λ (x : Data). Spells 3 travel_rule_of r x) (sym e)
     (record {
       again = travel_of_members r.ranges r.by (built gs) (built_named [] (codes "ranges" ∷ codes "by" ∷ []) gs refl)
-        (optional_again 2 (list_of 8 day_range_of) r.ranges (codes "ranges") ranges (built gs) one (found gs 0 d (omega arith) refl))
-        (optional_again 0 date_of r.by (codes "by") by (built gs) other (found gs 1 d (omega arith) refl));
+          (optional_again 2 (list_of 8 day_range_of) r.ranges (codes "ranges") ranges (built gs) one (found gs 0 d (omega arith) refl))
+          (optional_again 0 date_of r.by (codes "by") by (built gs) other (found gs 1 d (omega arith) refl));
       no_float = built_floats 2 gs plain;
       nests = let h = built_depth 2 gs plain in omega arith;
     })
@@ -96,44 +96,63 @@ pub rule_again : (r : Rule) (o2 o3 o4 o5 o6 o7 o8 o9 o10 o12 o14 : Option Data) 
     → Spells 4 rule_of r v
 rule_again r o2 o3 o4 o5 o6 o7 o8 o9 o10 o12 o14 v e h2 h3 h4 h5 h6 h7 h8 h9 h10 h12 h14 =
     let gs : List Given =
-      (codes "cat14", o14)
-      ∷ (codes "cat12", o12)
-      ∷ (codes "cat10", o10)
-      ∷ (codes "cat9", o9)
-      ∷ (codes "cat8", o8)
-      ∷ (codes "cat7", o7)
-      ∷ (codes "cat6", o6)
-      ∷ (codes "cat5", o5)
-      ∷ (codes "cat4", o4)
-      ∷ (codes "cat3", o3)
-      ∷ (codes "cat2", o2) ∷ [] in
+    (codes "cat14", o14)
+    ∷ (codes "cat12", o12)
+    ∷ (codes "cat10", o10)
+    ∷ (codes "cat9", o9)
+    ∷ (codes "cat8", o8)
+    ∷ (codes "cat7", o7)
+    ∷ (codes "cat6", o6)
+    ∷ (codes "cat5", o5)
+    ∷ (codes "cat4", o4)
+    ∷ (codes "cat3", o3)
+    ∷ (codes "cat2", o2) ∷ [] in
     let d : Given = ([], None) in
-    let plain : EachPlain 3 gs =
-      (spells_plain 3 3 travel_rule_of r.cat14 o14 h14 (omega arith),
-      (spells_plain 2 3 (list_of 8 surcharge_of) r.cat12 o12 h12 (omega arith),
-      (spells_plain 2 3 combine_rule_of r.cat10 o10 h10 (omega arith),
-      (spells_plain 1 3 transfer_rule_of r.cat9 o9 h9 (omega arith),
-      (spells_plain 2 3 stop_rule_of r.cat8 o8 h8 (omega arith),
-      (spells_plain 0 3 days_of r.cat7 o7 h7 (omega arith),
-      (spells_plain 1 3 min_stay_of r.cat6 o6 h6 (omega arith),
-      (spells_plain 0 3 days_of r.cat5 o5 h5 (omega arith),
-      (spells_plain 3 3 flight_rule_of r.cat4 o4 h4 (omega arith),
-      (spells_plain 2 3 (list_of 8 day_range_of) r.cat3 o3 h3 (omega arith),
-      (spells_plain 2 3 day_time_of r.cat2 o2 h2 (omega arith), tt))))))))))) in
+    let plain : EachPlain 3 gs = (
+      spells_plain 3 3 travel_rule_of r.cat14 o14 h14 (omega arith),
+      (
+        spells_plain 2 3 (list_of 8 surcharge_of) r.cat12 o12 h12 (omega arith),
+        (
+          spells_plain 2 3 combine_rule_of r.cat10 o10 h10 (omega arith),
+          (
+            spells_plain 1 3 transfer_rule_of r.cat9 o9 h9 (omega arith),
+            (
+              spells_plain 2 3 stop_rule_of r.cat8 o8 h8 (omega arith),
+              (
+                spells_plain 0 3 days_of r.cat7 o7 h7 (omega arith),
+                (
+                  spells_plain 1 3 min_stay_of r.cat6 o6 h6 (omega arith),
+                  (
+                    spells_plain 0 3 days_of r.cat5 o5 h5 (omega arith),
+                    (
+                      spells_plain 3 3 flight_rule_of r.cat4 o4 h4 (omega arith),
+                      (
+                        spells_plain 2 3 (list_of 8 day_range_of) r.cat3 o3 h3 (omega arith),
+                        (spells_plain 2 3 day_time_of r.cat2 o2 h2 (omega arith), tt),
+                      ),
+                    ),
+                  ),
+                ),
+              ),
+            ),
+          ),
+        ),
+      ),
+    ) in
     subst (λ (x : Data). Spells 4 rule_of r x) (sym e)
     (record {
       again = rule_of_members r (built gs) (built_named [] rule_names gs refl)
-        (optional_again 2 day_time_of r.cat2 (codes "cat2") o2 (built gs) h2 (found gs 10 d (omega arith) refl))
-        (optional_again 2 (list_of 8 day_range_of) r.cat3 (codes "cat3") o3 (built gs) h3 (found gs 9 d (omega arith) refl))
-        (optional_again 3 flight_rule_of r.cat4 (codes "cat4") o4 (built gs) h4 (found gs 8 d (omega arith) refl))
-        (optional_again 0 days_of r.cat5 (codes "cat5") o5 (built gs) h5 (found gs 7 d (omega arith) refl))
-        (optional_again 1 min_stay_of r.cat6 (codes "cat6") o6 (built gs) h6 (found gs 6 d (omega arith) refl))
-        (optional_again 0 days_of r.cat7 (codes "cat7") o7 (built gs) h7 (found gs 5 d (omega arith) refl))
-        (optional_again 2 stop_rule_of r.cat8 (codes "cat8") o8 (built gs) h8 (found gs 4 d (omega arith) refl))
-        (optional_again 1 transfer_rule_of r.cat9 (codes "cat9") o9 (built gs) h9 (found gs 3 d (omega arith) refl))
-        (optional_again 2 combine_rule_of r.cat10 (codes "cat10") o10 (built gs) h10 (found gs 2 d (omega arith) refl))
-        (optional_again 2 (list_of 8 surcharge_of) r.cat12 (codes "cat12") o12 (built gs) h12 (found gs 1 d (omega arith) refl))
-        (optional_again 3 travel_rule_of r.cat14 (codes "cat14") o14 (built gs) h14 (found gs 0 d (omega arith) refl));
+          (optional_again 2 day_time_of r.cat2 (codes "cat2") o2 (built gs) h2 (found gs 10 d (omega arith) refl))
+          (optional_again 2 (list_of 8 day_range_of) r.cat3 (codes "cat3") o3 (built gs) h3 (found gs 9 d (omega arith) refl))
+          (optional_again 3 flight_rule_of r.cat4 (codes "cat4") o4 (built gs) h4 (found gs 8 d (omega arith) refl))
+          (optional_again 0 days_of r.cat5 (codes "cat5") o5 (built gs) h5 (found gs 7 d (omega arith) refl))
+          (optional_again 1 min_stay_of r.cat6 (codes "cat6") o6 (built gs) h6 (found gs 6 d (omega arith) refl))
+          (optional_again 0 days_of r.cat7 (codes "cat7") o7 (built gs) h7 (found gs 5 d (omega arith) refl))
+          (optional_again 2 stop_rule_of r.cat8 (codes "cat8") o8 (built gs) h8 (found gs 4 d (omega arith) refl))
+          (optional_again 1 transfer_rule_of r.cat9 (codes "cat9") o9 (built gs) h9 (found gs 3 d (omega arith) refl))
+          (optional_again 2 combine_rule_of r.cat10 (codes "cat10") o10 (built gs) h10 (found gs 2 d (omega arith) refl))
+          (optional_again 2 (list_of 8 surcharge_of) r.cat12 (codes "cat12") o12 (built gs) h12 (found gs 1 d (omega arith) refl))
+          (optional_again 3 travel_rule_of r.cat14 (codes "cat14") o14 (built gs) h14 (found gs 0 d (omega arith) refl));
       no_float = built_floats 3 gs plain;
       nests = let h = built_depth 3 gs plain in omega arith;
     })
@@ -143,17 +162,17 @@ pub rule_bare : (o2 o3 o4 o5 o6 o7 o8 o9 o10 o12 o14 : Option Data) (v : Data)
     → IsBare v
 rule_bare o2 o3 o4 o5 o6 o7 o8 o9 o10 o12 o14 v e =
     let gs : List Given =
-      (codes "cat14", o14)
-      ∷ (codes "cat12", o12)
-      ∷ (codes "cat10", o10)
-      ∷ (codes "cat9", o9)
-      ∷ (codes "cat8", o8)
-      ∷ (codes "cat7", o7)
-      ∷ (codes "cat6", o6)
-      ∷ (codes "cat5", o5)
-      ∷ (codes "cat4", o4)
-      ∷ (codes "cat3", o3)
-      ∷ (codes "cat2", o2) ∷ [] in
+    (codes "cat14", o14)
+    ∷ (codes "cat12", o12)
+    ∷ (codes "cat10", o10)
+    ∷ (codes "cat9", o9)
+    ∷ (codes "cat8", o8)
+    ∷ (codes "cat7", o7)
+    ∷ (codes "cat6", o6)
+    ∷ (codes "cat5", o5)
+    ∷ (codes "cat4", o4)
+    ∷ (codes "cat3", o3)
+    ∷ (codes "cat2", o2) ∷ [] in
     subst (λ (x : Data). IsBare x) (sym e) (record { carrier = absent (codes "carrier") gs refl; rule = absent (codes "rule") gs refl })
 
 -- members of other names change nothing
@@ -179,7 +198,7 @@ names_aside carrier number ms =
     let rest = put (codes "rule") number ms in
     let whole = put (codes "carrier") carrier rest in
     let same = λ (q : List ℕ) (one : bytes_eq q (codes "carrier") ≡ false) (other : bytes_eq q (codes "rule") ≡ false).
-        get_other q (codes "carrier") (Some carrier) rest one ∙ get_other q (codes "rule") (Some number) ms other in
+    get_other q (codes "carrier") (Some carrier) rest one ∙ get_other q (codes "rule") (Some number) ms other in
     same_members whole ms (named_put [] rule_names (codes "carrier") carrier rest refl ∙ named_put [] rule_names (codes "rule") number ms refl)
     (same (codes "cat2") refl refl)
     (same (codes "cat3") refl refl)

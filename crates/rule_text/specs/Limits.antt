@@ -1,5 +1,5 @@
 -- The limits of a rule.
-use Rattle.std.specs.Prelude.{◌<◌, ◌≤◌, ◌≤ℤ◌, ℕ, ℤ, List, length, IfSome}
+use Rattle.std.specs.Prelude.{◌<◌, ◌≤◌, ◌≤ℤ◌, ℕ, List, length, IfSome}
 use Rattle.std.specs.Int.{IsInRange}
 use Rattle.fare_law.specs.Lists.{Each, EachPair}
 use Rattle.fare_law.specs.Order.{IsCarrier}
@@ -17,7 +17,7 @@ use Rattle.fare_law.specs.declared.rules.TravelRule.{TravelRule}
 use Rattle.fare_law.specs.declared.rules.UnitKind.{UnitKind}
 use Rattle.market_time.specs.Dates.{IsInCentury}
 use Rattle.name_text.specs.Names.{IsPlace}
-use Rattle.rule_text.specs.Rules.{place_of_kind}
+use Rattle.rule_text.specs.Rules.{rank_of_kind}
 
 -- 1 to `most` of these
 pub record IsListOf {A : Type 0} (most : ℕ) (P : A → Type 0) (xs : List A) : Type 0 where
@@ -67,7 +67,7 @@ IsAnyKind kind = Unit {0}
 
 -- the one kind stands before the other in their order
 abbrev pub StandsBefore : UnitKind → UnitKind → Type 0
-StandsBefore one other = place_of_kind one < place_of_kind other
+StandsBefore one other = rank_of_kind one < rank_of_kind other
 
 pub record IsCombineRule (r : CombineRule) : Type 0 where
   pub kinds : IsInRange 1 4 (length r.kinds)

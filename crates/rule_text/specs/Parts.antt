@@ -76,11 +76,11 @@ truth_at name d = option_and_then as_bool (get name d)
 abbrev pub minute_at : List ℕ → Data → Option ℕ
 minute_at name d = option_and_then minute_spelled (text_at name d)
 
--- items whose places are each at least this, and each beyond the one before
+-- items whose ranks are each at least this, and each beyond the one before
 abbrev pub ascend_from : {A : Type 0} → (A → ℕ) → ℕ → List A → Bool
-ascend_from place least [] = true
-ascend_from place least (x ∷ xs) = nat_le least (place x) && ascend_from place (place x + 1) xs
+ascend_from rank least [] = true
+ascend_from rank least (x ∷ xs) = nat_le least (rank x) && ascend_from rank (rank x + 1) xs
 
--- items in the order of their places, each at most once
+-- items in the order of their ranks, each at most once
 abbrev pub ascend : {A : Type 0} → (A → ℕ) → List A → Bool
-ascend place xs = ascend_from place 0 xs
+ascend rank xs = ascend_from rank 0 xs

@@ -78,11 +78,11 @@ abbrev pub unit_kind_of : Data → Result UnitKind RuleFault
 unit_kind_of d = ok_or (option_and_then unit_kind_spelled (as_str d)) Range
 
 -- where a kind stands in their order
-abbrev pub place_of_kind : UnitKind → ℕ
-place_of_kind OneWay = 0
-place_of_kind RoundTrip = 1
-place_of_kind OpenJaw = 2
-place_of_kind Circle = 3
+abbrev pub rank_of_kind : UnitKind → ℕ
+rank_of_kind OneWay = 0
+rank_of_kind RoundTrip = 1
+rank_of_kind OpenJaw = 2
+rank_of_kind Circle = 3
 
 abbrev pub partners_spelled : List ℕ → Option Partners
 partners_spelled text =
@@ -110,7 +110,7 @@ combine_rule_of d = do
   kinds ← part_at (list_of 4 unit_kind_of) (codes "kinds") d
   partners ← ok_or (partners_at d) Range
   end_on_end ← ok_or (end_on_end_at d) Range
-  if ascend place_of_kind kinds then Ok (record { kinds = kinds; partners = partners; end_on_end = end_on_end }) else Err Range
+  if ascend rank_of_kind kinds then Ok (record { kinds = kinds; partners = partners; end_on_end = end_on_end }) else Err Range
 
 -- an entry of category 12
 abbrev pub surcharge_names : List (List ℕ)

@@ -1,14 +1,13 @@
 //! The categories on days, flights, stays and transfers.
 ghost use Rattle.std.specs.Prelude.{◌≡◌};
 
-use crate::RuleFault;
 use crate::members::{check_members, optional_at, part_at};
-use crate::order::ascend;
-use crate::objects;
 use crate::objects::put_optional;
+use crate::order::ascend;
 use crate::part::RulePart;
 use crate::singles::{minute_at, truth_at};
 use crate::texts::{ascii_text, carrier_text, minute_text};
+use crate::{RuleFault, objects};
 use fare_law::{
     ArrayVec, DayTime, FlightRule, Mem, MinStay, StopRule, Surcharge, TransferRule, TravelRule,
 };
@@ -157,7 +156,11 @@ impl RulePart for Surcharge {
     ghost levels = { 1 };
 
     fn read_part(value: &Value) -> Result<Surcharge, RuleFault> {
-        check_members(value, &["carrier", "low", "high", "first", "last", "amount"], &[])?;
+        check_members(
+            value,
+            &["carrier", "low", "high", "first", "last", "amount"],
+            &[],
+        )?;
         let carrier = carrier_at(value, "carrier").ok_or(RuleFault::Range)?;
         let low = between_at(value, "low", 1, 9999).ok_or(RuleFault::Range)? as u16;
         let high = between_at(value, "high", 1, 9999).ok_or(RuleFault::Range)? as u16;
@@ -180,7 +183,13 @@ impl RulePart for Surcharge {
     fn part_value(&self, alloc: Global) -> Result<Value, Mem> {
         let first = day_text(self.first);
         let last = day_text(self.last);
-        Ok(objects::surcharge_entry(alloc, self, carrier_text(&self.carrier), ascii_text(&first), ascii_text(&last))?)
+        Ok(objects::surcharge_entry(
+            alloc,
+            self,
+            carrier_text(&self.carrier),
+            ascii_text(&first),
+            ascii_text(&last),
+        )?)
     }
 }
 

@@ -3,11 +3,10 @@ ghost use Rattle.std.specs.Prelude.{◌≡◌, Some};
 ghost use Rattle.serde_json.specs.View.{view};
 ghost use Rattle.rule_text.specs.Rules as Rules;
 
-use crate::RuleFault;
 use crate::members::{check_members, part_at};
-use crate::objects;
 use crate::order::ascend;
 use crate::part::RulePart;
+use crate::{RuleFault, objects};
 use fare_law::{ArrayVec, CombineRule, EndOnEnd, Mem, Partners, UnitKind};
 use json_form::text_at;
 use serde_json::Value;

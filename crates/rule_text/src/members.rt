@@ -12,11 +12,7 @@ use serde_json::{Map, Value};
 ///
 /// `Range` where the value is no object, else `Unknown` where it has another member, else
 /// `Missing` where one of `required` is absent.
-pub fn check_members(
-    value: &Value,
-    required: &[&str],
-    optional: &[&str],
-) -> Result<(), RuleFault>
+pub fn check_members(value: &Value, required: &[&str], optional: &[&str]) -> Result<(), RuleFault>
     ensures { result
         ≡ Members.with_members (map (λ n. n.now) required.now) (map (λ n. n.now) optional.now) (view value.now) }
 {
@@ -35,9 +31,7 @@ fn only_named(these: &[&str], those: &[&str], members: &Map<String, Value>) -> b
     ensures { result
         ≡ Members.only_named (map (λ n. n.now) these.now) (map (λ n. n.now) those.now) (members_view members.now.entries) }
 {
-    members
-        .keys()
-        .all(|name| is_one_of(these, name.as_str()) || is_one_of(those, name.as_str()))
+    members.keys().all(|name| is_one_of(these, name.as_str()) || is_one_of(those, name.as_str()))
 }
 
 // Whether the name is one of these.

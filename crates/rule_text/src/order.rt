@@ -6,29 +6,29 @@ ghost use Rattle.rule_text.specs.Parts as Parts;
 use fare_law::UnitKind;
 
 /// A type whose values have places in an order.
-pub trait Placed {
-    ghost place: { Self → ℕ };
+pub trait Ranked {
+    ghost rank: { Self → ℕ };
 
     /// Where it stands.
-    fn place(&self) -> u8
-        ensures { result ≡ place self.now };
+    fn rank(&self) -> u8
+        ensures { result ≡ rank self.now };
 }
 
 // A weekday.
-impl Placed for u8 {
-    ghost place = { λ day. day };
+impl Ranked for u8 {
+    ghost rank = { λ day. day };
 
-    fn place(&self) -> u8 {
+    fn rank(&self) -> u8 {
         *self
     }
 }
 
-impl Placed for UnitKind {
-    ghost use Rattle.rule_text.specs.Rules.{place_of_kind};
+impl Ranked for UnitKind {
+    ghost use Rattle.rule_text.specs.Rules.{rank_of_kind};
 
-    ghost place = { place_of_kind };
+    ghost rank = { rank_of_kind };
 
-    fn place(&self) -> u8 {
+    fn rank(&self) -> u8 {
         match self {
             UnitKind::OneWay => 0,
             UnitKind::RoundTrip => 1,
@@ -40,17 +40,17 @@ impl Placed for UnitKind {
 
 /// Whether each item stands beyond the one before it.
 #[tactic(auto, using(crate::proofs::OrderLemmas::order_steps))]
-pub fn ascend<T: Placed>(items: &[T]) -> bool
-    ensures test { result ≡ Parts.ascend T.place items.now }
-    ensures pairs { IsTrue result → EachPair (λ one other. T.place one < T.place other) items.now }
+pub fn ascend<T: Ranked>(items: &[T]) -> bool
+    ensures test { result ≡ Parts.ascend T.rank items.now }
+    ensures pairs { IsTrue result → EachPair (λ one other. T.rank one < T.rank other) items.now }
 {
     let mut least = 0;
     for item in items {
-        let place = u16::from(item.place());
-        if place < least {
+        let rank = u16::from(item.rank());
+        if rank < least {
             return false;
         }
-        least = place + 1;
+        least = rank + 1;
     }
     true
 }

@@ -109,12 +109,7 @@ fn day_range_json(alloc: Global, first: &str, last: &str) -> Result<Value, Alloc
     json!(in alloc; [first, last])
 }
 
-fn flight_range_json(
-    alloc: Global,
-    carrier: &str,
-    low: u16,
-    high: u16,
-) -> Result<Value, AllocError>
+fn flight_range_json(alloc: Global, carrier: &str, low: u16, high: u16) -> Result<Value, AllocError>
     ensures { IfOk result (λ value. view value ≡ Written.flight_range_data carrier.now low high) }
 {
     json!(in alloc; [carrier, low, high])

@@ -171,14 +171,22 @@ fn names_the_first_fault(rt: HostRuntime) -> Result<(), Fail> {
             RuleFault::Range,
         ),
         ("366 days", br#"{"cat5":366}"#, RuleFault::Range),
-        ("a number with a point", br#"{"cat7":1.0}"#, RuleFault::Range),
+        (
+            "a number with a point",
+            br#"{"cat7":1.0}"#,
+            RuleFault::Range,
+        ),
         ("minus zero", br#"{"cat7":-0}"#, RuleFault::Range),
         (
             "no word on Sunday",
             br#"{"cat6":{"days":0}}"#,
             RuleFault::Missing,
         ),
-        ("category 6 is no object", br#"{"cat6":3}"#, RuleFault::Range),
+        (
+            "category 6 is no object",
+            br#"{"cat6":3}"#,
+            RuleFault::Range,
+        ),
         (
             "null for places",
             br#"{"cat8":{"max":0,"charge":0,"places":null}}"#,
@@ -204,11 +212,7 @@ fn names_the_first_fault(rt: HostRuntime) -> Result<(), Fail> {
             br#"{"cat12":[{},{},{},{},{},{},{},{},{}]}"#,
             RuleFault::Range,
         ),
-        (
-            "null for by",
-            br#"{"cat14":{"by":null}}"#,
-            RuleFault::Range,
-        ),
+        ("null for by", br#"{"cat14":{"by":null}}"#, RuleFault::Range),
         ("null for a category", br#"{"cat5":null}"#, RuleFault::Range),
     ];
     for (name, text, fault) in cases {
@@ -219,7 +223,8 @@ fn names_the_first_fault(rt: HostRuntime) -> Result<(), Fail> {
 
 #[test]
 fn writes_rules(rt: HostRuntime) -> Result<(), Fail> {
-    let expected = "{\"cat10\":{\"end_on_end\":\"same_carrier\",\"kinds\":[\"round_trip\",\"circle\"],\"partners\":\"same_rule\"},\
+    let expected =
+        "{\"cat10\":{\"end_on_end\":\"same_carrier\",\"kinds\":[\"round_trip\",\"circle\"],\"partners\":\"same_rule\"},\
         \"cat12\":[{\"amount\":1500,\"carrier\":\"QX\",\"first\":\"2031-03-03\",\"high\":9999,\"last\":\"2031-03-03\",\"low\":101}],\
         \"cat14\":{\"by\":\"2031-03-31\",\"ranges\":[[\"2031-01-01\",\"2031-06-30\"]]},\
         \"cat2\":{\"days\":[1,7],\"from\":\"06:30\",\"to\":\"23:59\"},\

@@ -1,5 +1,5 @@
 use borrow.Author.Tests.{tests}
-use Rattle.std.proofs.Common.{◌∙◌, ◌||◌, ℕ, List, String, Global, string_bytes, rules}
+use Rattle.std.proofs.Common.{◌∙◌, ◌||◌, String, Global, string_bytes, rules}
 use Rattle.std.proofs.lemmas.Iterator.Consumers.{YieldsList-from_rest}
 use Rattle.std.proofs.lemmas.Iterator.Search.{all_from_yields_List}
 use Rattle.std.specs.Map.{keys_of}

@@ -3,4 +3,4 @@ use Rattle.rule_text.specs.Parts.{ascend_from}
 use Rattle.rule_text.proofs.order.ascend.Given as goal
 
 abbrev pub invariant-loop-item : goal.invariant-loop-item
-invariant-loop-item g l = ascend_from g.T.Placed.place l.least (drop l.item-index l.items) ≡ ascend_from g.T.Placed.place 0 l.items
+invariant-loop-item g l = ascend_from g.T.Ranked.rank l.least (drop l.item-index l.items) ≡ ascend_from g.T.Ranked.rank 0 l.items

@@ -12,6 +12,6 @@ returns c =
     let ranges = c.in_ok-put_optional-2.ensures in
     travel_rule_again c.args.self.now ranges.value by.value _
     (view-Object c.put_optional-2.new.members ∙ ap object (
-      ranges.put ∙ ap (put_if (codes "ranges") ranges.value) (
-      by.put ∙ ap (put_if (codes "by") by.value) (ap members_view c.new-members.ensures.empty))))
+    ranges.put ∙ ap (put_if (codes "ranges") ranges.value) (
+    by.put ∙ ap (put_if (codes "by") by.value) (ap members_view c.new-members.ensures.empty))))
     ranges.spells by.spells
