@@ -1,0 +1,103 @@
+-- Items that were read, and those that are left.
+use Rattle.std.proofs.Common.{◌≡◌, true, false, nat_le, ◌<◌, ◌≤◌, ◌+◌, ℕ, zero, suc, take, subst, List, [], ◌∷◌, ◌++◌, length, drop, get_or, refl, ap, sym, ◌∙◌, Result, Ok, Err, append_assoc, append-nil, drop-cons, add-one, arith}
+use Rattle.std.proofs.lemmas.Bool.Decides.{nat_tests}
+use Rattle.std.proofs.lemmas.List.{drop_all, take_all, take_more}
+use Rattle.serde_json.specs.Data.{Data}
+use Rattle.serde_json.specs.View.{view, items_view}
+use Rattle.serde_json.specs.declared.value.Value.{Value}
+use Rattle.fare_law.specs.Lists.{Each}
+use Rattle.rule_text.specs.Members.{each_of, items_of, then_rest, item_count}
+use Rattle.rule_text.specs.Written.{Spells, SpellsEach}
+use Rattle.rule_text.specs.declared.fault.RuleFault.{RuleFault}
+use Rattle.rule_text.specs.declared.fault.RuleFault.TheVariants.{Range}
+
+pub count_items : (vs : List Value) → item_count (items_view vs) ≡ length vs
+count_items [] = refl
+count_items (v ∷ vs) = ap suc (count_items vs)
+
+-- items that stand before the others
+abbrev pub after : {A : Type 0} → List A → Result (List A) RuleFault → Result (List A) RuleFault
+after front (Ok rest) = Ok (front ++ rest)
+after front (Err fault) = Err fault
+
+pub after_none : {A : Type 0} (r : Result (List A) RuleFault) → after [] r ≡ r
+after_none (Ok xs) = refl
+after_none (Err fault) = refl
+
+after_push : {A : Type 0} (front : List A) (a : A) (r : Result (List A) RuleFault) → after (front ++ a ∷ []) r ≡ after front (then_rest (Ok a) r)
+after_push front a (Ok xs) = ap Ok (append_assoc front (a ∷ []) xs)
+after_push front a (Err fault) = refl
+
+module _ {A : Type 0} (f : Data → Result A RuleFault) where
+  rest_is : (vs : List Value) (i : ℕ) (d : Value) → i < length vs
+      → each_of f (items_view (drop i vs)) ≡ then_rest (f (view (get_or vs i d))) (each_of f (items_view (drop (i + 1) vs)))
+  rest_is vs i d l = rw (drop-cons vs i d l, add-one) refl
+
+  pub items_more : (front : List A) (a : A) (vs : List Value) (i : ℕ) (d : Value) → i < length vs → f (view (get_or vs i d)) ≡ Ok a
+      → after front (each_of f (items_view (drop i vs))) ≡ each_of f (items_view vs)
+      → after (front ++ a ∷ []) (each_of f (items_view (drop (i + 1) vs))) ≡ each_of f (items_view vs)
+  items_more front a vs i d l e h =
+      after_push front a (each_of f (items_view (drop (i + 1) vs)))
+      ∙ ap (after front) (ap (λ r. then_rest r (each_of f (items_view (drop (i + 1) vs)))) (sym e) ∙ sym (rest_is vs i d l)) ∙ h
+
+  pub items_bad : (front : List A) (fault : RuleFault) (vs : List Value) (i : ℕ) (d : Value) → i < length vs → f (view (get_or vs i d)) ≡ Err fault
+      → after front (each_of f (items_view (drop i vs))) ≡ each_of f (items_view vs) → Err fault ≡ each_of f (items_view vs)
+  items_bad front fault vs i d l e h =
+      sym (ap (after front) (rest_is vs i d l ∙ ap (λ r. then_rest r (each_of f (items_view (drop (i + 1) vs)))) e)) ∙ h
+
+  pub items_all : (front : List A) (vs : List Value) (i : ℕ) → length vs ≤ i → after front (each_of f (items_view (drop i vs))) ≡ each_of f (items_view vs) → Ok front ≡ each_of f (items_view vs)
+  items_all front vs i l h = sym (ap (λ ys. after front (each_of f (items_view ys))) (drop_all i vs l) ∙ ap Ok (append-nil front)) ∙ h
+
+-- one more that has P
+pub each_more : {A : Type 0} (P : A → Type 0) (front : List A) (a : A) → Each P front → P a → Each P (front ++ a ∷ [])
+each_more P [] a h p = (p, tt)
+each_more P (x ∷ xs) a h p = (h.0, each_more P xs a h.1 p)
+
+pub ruleset item_steps = (after_none, items_more, items_bad, items_all, each_more)
+
+le_true : (a b : ℕ) → a ≤ b → nat_le a b ≡ true
+le_true a b h = grind (arith, nat_tests)
+
+le_false : (a b : ℕ) → b < a → nat_le a b ≡ false
+le_false a b h = grind (arith, nat_tests)
+
+-- lists of a length that is allowed, and the others
+
+module _ {A : Type 0} (f : Data → Result A RuleFault) where
+  pub count_right : (most : ℕ) (vs : List Value) → 1 ≤ length vs → length vs ≤ most → each_of f (items_view vs) ≡ items_of most f (items_view vs)
+  count_right most vs low high =
+      rw (count_items vs, le_true 1 (length vs) low, le_true (length vs) most high) refl
+
+  pub count_none : (most : ℕ) (vs : List Value) → length vs < 1 → Err Range ≡ items_of most f (items_view vs)
+  count_none most vs low = rw (count_items vs, le_false 1 (length vs) low) refl
+
+  pub count_many : (most : ℕ) (vs : List Value) → 1 ≤ length vs → most < length vs → Err Range ≡ items_of most f (items_view vs)
+  count_many most vs low high =
+      rw (count_items vs, le_true 1 (length vs) low, le_false (length vs) most high) refl
+
+pub ruleset count_steps = (count_right, count_none, count_many)
+
+-- values that were written for the items so far
+
+grows : {A : Type 0} (levels : ℕ) (form : Data → Result A RuleFault) (xs : List A) (vs : List Value) (x : A) (v : Value)
+    → SpellsEach levels form xs (items_view vs) → Spells levels form x (view v) → SpellsEach levels form (xs ++ x ∷ []) (items_view (vs ++ v ∷ []))
+grows levels form [] [] x v h w = (w, tt)
+grows levels form [] (u ∷ vs) x v h w = absurd h
+grows levels form (y ∷ xs) [] x v h w = absurd h
+grows levels form (y ∷ xs) (u ∷ vs) x v h w = (h.0, grows levels form xs vs x v h.1 w)
+
+pub values_grow : {A : Type 0} (levels : ℕ) (form : Data → Result A RuleFault) (xs : List A) (vs : List Value) (i : ℕ) (d : A) (v : Value) → i < length xs
+    → SpellsEach levels form (take i xs) (items_view vs) → Spells levels form (get_or xs i d) (view v) → SpellsEach levels form (take (i + 1) xs) (items_view (vs ++ v ∷ []))
+values_grow levels form xs vs i d v l h w = rw (take_more xs i d l) (grows levels form (take i xs) vs (get_or xs i d) v h w)
+
+pub values_whole : {A : Type 0} (levels : ℕ) (form : Data → Result A RuleFault) (xs : List A) (vs : List Value) (i : ℕ) → length xs ≤ i
+    → SpellsEach levels form (take i xs) (items_view vs) → SpellsEach levels form xs (items_view vs)
+values_whole levels form xs vs i l h = subst (λ ys. SpellsEach levels form ys (items_view vs)) (take_all i xs l) h
+
+-- what each item has, the one at this place has
+pub holds_at : {A : Type 0} (P : A → Type 0) (xs : List A) (i : ℕ) (d : A) → i < length xs → Each P xs → P (get_or xs i d)
+holds_at P [] i d l h = absurd (omega arith)
+holds_at P (x ∷ xs) zero d l h = h.0
+holds_at P (x ∷ xs) (suc i) d l h = holds_at P xs i d (omega arith) h.1
+
+pub ruleset value_steps = (values_grow, values_whole, holds_at)

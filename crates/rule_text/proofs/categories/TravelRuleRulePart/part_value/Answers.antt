@@ -1,0 +1,17 @@
+use Rattle.std.proofs.Common.{◌∙◌, ap, codes}
+use Rattle.serde_json.proofs.Views.{view-Object}
+use Rattle.serde_json.specs.Data.{object}
+use Rattle.serde_json.specs.View.{members_view}
+use Rattle.rule_text.specs.Written.{put_if}
+use Rattle.rule_text.proofs.RuleLemmas.{travel_rule_again}
+use Rattle.rule_text.proofs.categories.TravelRuleRulePart.part_value.Goals as goal
+
+pub returns : goal.returns
+returns c =
+    let by = c.in_ok-put_optional.ensures in
+    let ranges = c.in_ok-put_optional-2.ensures in
+    travel_rule_again c.args.self.now ranges.value by.value _
+    (view-Object c.put_optional-2.new.members ∙ ap object (
+    ranges.put ∙ ap (put_if (codes "ranges") ranges.value) (
+    by.put ∙ ap (put_if (codes "by") by.value) (ap members_view c.new-members.ensures.empty))))
+    ranges.spells by.spells

@@ -1,0 +1,5 @@
+pub mod Limits
+pub mod Members
+pub mod Parts
+pub mod Rules
+pub mod Written
