@@ -39,10 +39,11 @@ fn line(bytes: &[u8]) -> Line<'_> {
 fn cuts_lines(rt: HostRuntime) {
     let lines = case_lines(rt.alloc(), b"#places\r\n\nLON,60\nNYC\r").expect(&rt, "memory");
     let wanted: [(u32, &[u8]); 3] = [(1, b"#places"), (3, b"LON,60"), (4, b"NYC\r")];
+    assert_eq!(rt; lines.len(), wanted.len());
     for (found, (number, bytes)) in lines.iter().zip(wanted) {
-        assert_eq!(rt; (found.line, found.bytes), (number, bytes));
+        assert_eq!(rt; found.line, number);
+        assert_eq!(rt; found.bytes, bytes);
     }
-    assert_eq!(rt; lines.len(), 3);
 }
 
 #[test]
