@@ -1,3 +1,4 @@
 pub mod Words
 pub mod Complete
 pub mod Finishing
+pub mod Unread

@@ -1,8 +1,8 @@
 //! The top call.
-ghost use Rattle.std.specs.Prelude.{◌≡◌, ◌≢◌, ◌↔◌, ◌⊎◌, ◌≤◌, ◌<◌, ◌++◌, codes, map, length, Some, IfOk, IfSome, IsTrue, OnOk, OnSome, string_bytes};
+ghost use Rattle.std.specs.Prelude.{◌≡◌, ◌≢◌, ◌↔◌, ◌⊎◌, ◌≤◌, ◌<◌, ◌+◌, ◌++◌, codes, map, length, Some, IfOk, IfSome, IsTrue, OnOk, OnSome, string_bytes};
 ghost use Rattle.std.specs.Io.KnownBytes.{Appends};
 ghost use Rattle.fare_io.specs.Counts.{Rose};
-ghost use Rattle.fare_io.specs.Streams.{AppendsFront};
+ghost use Rattle.fare_io.specs.Streams.{AppendsFront, GivesAtMost};
 ghost use Rattle.fare_law.specs.declared.tickets.Ticket.{Ticket};
 ghost use Rattle.fare_law.specs.Order.{Best};
 ghost use Rattle.market_time.specs.Dates.{IsInCentury};
@@ -37,12 +37,15 @@ pub fn run<S: Source, K: Sink>(
     ensures says { Says result (map string_bytes words.now) (S.left source.old) (S.left source.new) (K.held sink.old) (K.held sink.new)
         (S.faults source.old) (S.faults source.new) (K.faults sink.old) (K.faults sink.new) (K.stalls sink.old) (K.stalls sink.new) }
     ensures unread { (IsCommand (map string_bytes words.now) → ⊥) → source.new ≡ source.old }
+    // Whatever the status, no byte is read past the one that is too many.
+    ensures gives { GivesAtMost (S.left source.old) (S.left source.new) (most_bytes + 1) }
     ensures complete { IsComplete result (map string_bytes words.now) (S.left source.old)
         (S.faults source.old) (S.faults source.new) (K.faults sink.old) (K.faults sink.new) (K.stalls sink.old) (K.stalls sink.new) }
 {
     run_words(alloc, words, source, sink)
 }
 
+#[tactic(auto, using(crate::proofs::Unread::gave_nothing))]
 fn run_words<S: Source, K: Sink>(
     alloc: Global,
     words: &[String],
@@ -52,6 +55,7 @@ fn run_words<S: Source, K: Sink>(
     ensures says { Says result (map string_bytes words.now) (S.left source.old) (S.left source.new) (K.held sink.old) (K.held sink.new)
         (S.faults source.old) (S.faults source.new) (K.faults sink.old) (K.faults sink.new) (K.stalls sink.old) (K.stalls sink.new) }
     ensures unread { (IsCommand (map string_bytes words.now) → ⊥) → source.new ≡ source.old }
+    ensures gives { GivesAtMost (S.left source.old) (S.left source.new) (most_bytes + 1) }
 {
     if !is_command(words) {
         return finish(sink, b"usage: lowfare search\n", Status::Usage);
