@@ -5,3 +5,6 @@ pub mod Cut
 pub mod Marks
 pub mod Rows
 pub mod Gives
+pub mod Headers
+pub mod Contents
+pub mod Entries

@@ -1,15 +1,21 @@
 //! The text of a case: its lines, the rows of its tables.
 #![tactic(auto)]
 
+mod contents;
 mod faults;
 mod fields;
+mod headers;
+mod judging;
+mod kinds;
 mod lines;
 mod marks;
 mod numbers;
 mod rows;
+mod standing;
 
-pub use faults::RowFault;
-pub use fields::{is_plain, line_fields};
+pub use contents::Case;
+pub use faults::{CaseFault, RowFault};
+pub use kinds::CaseKind;
 pub use lines::{Line, case_lines};
 pub use numbers::number_within;
 pub use rows::{flight_row, place_row, seat_row};
