@@ -10,7 +10,7 @@ use Rattle.case_text.specs.declared.faults.CaseFault.TheVariants.{NoEnd, Unknown
 use Rattle.case_text.specs.declared.headers.Header.{Header}
 use Rattle.case_text.specs.declared.headers.Header.TheVariants.{Places, Flights, Seats, Filings, Later, Request, Script, Certificate, Ticket, End}
 use Rattle.case_text.specs.declared.kinds.CaseKind.{CaseKind}
-use Rattle.case_text.specs.declared.kinds.CaseKind.TheVariants.{Search, Check, Serve, Verdict}
+use Rattle.case_text.specs.declared.kinds.CaseKind.TheVariants.{Serve}
 use Rattle.case_text.specs.declared.standing.Standing.{Standing}
 use Rattle.case_text.specs.Contents.{case_with}
 use Rattle.case_text.specs.Headers.{due, is_name, is_named}
@@ -123,8 +123,12 @@ entries kind next standing (l ∷ ls) = do
   more ← entries kind next (moved standing entry) ls
   Ok (entry ∷ more)
 
--- the case that bytes spell, or the first fault
-abbrev pub case_of : CaseKind → List ℕ → Result Case CaseFault
-case_of kind bytes = do
-  found ← entries kind (length (lines bytes) + 1) at_start (text_lines bytes)
+-- the case that these lines spell, or the first fault
+abbrev pub case_read : CaseKind → ℕ → List TextLine → Result Case CaseFault
+case_read kind next lines = do
+  found ← entries kind next at_start lines
   Ok (case_with found)
+
+-- the case that bytes spell, or the first fault: without #end at the line that would follow the last one, empty lines counted
+abbrev pub case_of : CaseKind → List ℕ → Result Case CaseFault
+case_of kind bytes = case_read kind (length (lines bytes) + 1) (text_lines bytes)

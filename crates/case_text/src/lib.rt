@@ -10,6 +10,7 @@ mod kinds;
 mod lines;
 mod marks;
 mod numbers;
+mod reading;
 mod rows;
 mod standing;
 
@@ -18,4 +19,5 @@ pub use faults::{CaseFault, RowFault};
 pub use kinds::CaseKind;
 pub use lines::{Line, case_lines};
 pub use numbers::number_within;
+pub use reading::sections;
 pub use rows::{flight_row, place_row, seat_row};
