@@ -27,7 +27,8 @@ joined a b = record {
   requests = a.requests ++ b.requests;
   script = a.script ++ b.script;
   certificate = a.certificate ++ b.certificate;
-  ticket = a.ticket ++ b.ticket }
+  ticket = a.ticket ++ b.ticket;
+}
 
 -- what stands before, and what is still to be read
 abbrev pub read_on : Case → Result (List Entry) CaseFault → Result Case CaseFault
@@ -95,8 +96,8 @@ pub read_entry : (kind : CaseKind) (next : ℕ) (standing : Standing) (before : 
     → from_line kind next (moved standing entry) (added before entry) (i + 1) lines ≡ case_read kind next (map shown lines)
 read_entry kind next standing before i lines d entry l e h =
     sym (line_here kind next standing before i lines d l
-      ∙ ap (λ r. read_on before (r >>= (λ entry. entries kind next (moved standing entry) (map shown (drop (i + 1) lines)) >>= (λ es. Ok (entry ∷ es))))) e
-      ∙ follows before entry (entries kind next (moved standing entry) (map shown (drop (i + 1) lines))))
+    ∙ ap (λ r. read_on before (r >>= (λ entry. entries kind next (moved standing entry) (map shown (drop (i + 1) lines)) >>= (λ es. Ok (entry ∷ es))))) e
+    ∙ follows before entry (entries kind next (moved standing entry) (map shown (drop (i + 1) lines))))
     ∙ h
 
 pub read_fault : (kind : CaseKind) (next : ℕ) (standing : Standing) (before : Case) (i : ℕ) (lines : List Line) (d : Line) (fault : CaseFault) → i < length lines

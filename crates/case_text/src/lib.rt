@@ -13,6 +13,8 @@ mod numbers;
 mod reading;
 mod rows;
 mod standing;
+#[cfg(test)]
+mod tests;
 
 pub use contents::Case;
 pub use faults::{CaseFault, RowFault};
