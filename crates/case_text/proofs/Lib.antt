@@ -5,3 +5,4 @@ pub mod Classes
 pub mod Columns
 pub mod Counting
 pub mod Growing
+pub mod Feed

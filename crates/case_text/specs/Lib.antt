@@ -4,6 +4,7 @@ pub mod Numbers
 pub mod Cut
 pub mod Marks
 pub mod Rows
+pub mod Readers
 pub mod Gives
 pub mod Headers
 pub mod Contents

@@ -1,24 +1,31 @@
 //! What a line is where it stands.
-ghost use Rattle.std.specs.Prelude.{◌≡◌, IfOk};
+ghost use Rattle.std.specs.Prelude.{◌≡◌, IfOk, IfSome};
+ghost use Rattle.csv.specs.Records.{fields_of};
+ghost use Rattle.case_text.specs.declared.contents.Entry.TheVariants.{Place, Flight, Seat};
+ghost use Rattle.case_text.specs.Readers.{HasFields};
+ghost use Rattle.case_text.specs.Rows as Rows;
 ghost use Rattle.case_text.specs.Entries as Entries;
 ghost use Rattle.case_text.specs.Gives.{Told, row_fault as row_fault_of};
 ghost use Rattle.case_text.specs.Lines.{shown};
 
 use crate::contents::Entry;
 use crate::headers::{Header, due, is_name, name_of};
-use crate::rows::{flight_row, place_row, seat_row};
+use crate::rows::{flight_fields, flight_row, place_fields, place_row, seat_fields, seat_row};
 use crate::standing::Standing;
 use crate::{CaseFault, CaseKind, Line, RowFault};
+use csv::ByteRecord;
 use fare_law::{List, Mem, TextLine};
 use std::alloc::Global;
 
-/// What the line is, or its fault.
+/// What the line is, or its fault. Its fields are given where they were read with other lines.
 pub fn judged(
     alloc: Global,
     kind: CaseKind,
     standing: Standing,
     line: &Line<'_>,
+    fields: Option<&ByteRecord>,
 ) -> Result<Entry, CaseFault>
+    requires { IfSome fields (λ row. HasFields (fields_of row.now) line.now.bytes.now) }
     ensures { Told result (Entries.judged kind standing (shown line.now)) }
 {
     if standing.is_over() {
@@ -29,7 +36,7 @@ pub fn judged(
         match standing.under {
             None => Err(CaseFault::Order { line: line.line }),
             Some(header) => {
-                let entry = entry_of(alloc, header, line)?;
+                let entry = entry_of(alloc, header, line, fields)?;
                 if has_room(limit(kind, header), standing.count) {
                     Ok(entry)
                 } else {
@@ -126,23 +133,62 @@ fn has_room(limit: Option<usize>, count: usize) -> bool
 }
 
 /// What a line under this header is, whatever stands before it.
-fn entry_of(alloc: Global, header: Header, line: &Line<'_>) -> Result<Entry, CaseFault>
+fn entry_of(
+    alloc: Global,
+    header: Header,
+    line: &Line<'_>,
+    fields: Option<&ByteRecord>,
+) -> Result<Entry, CaseFault>
+    requires { IfSome fields (λ row. HasFields (fields_of row.now) line.now.bytes.now) }
     ensures { Told result (Entries.entry_of header (shown line.now)) }
 {
     match header {
-        Header::Places => match place_row(alloc, line) {
-            Ok(row) => Ok(Entry::Place(row)),
-            Err(fault) => Err(row_fault(line.line, fault)),
-        },
-        Header::Flights => match flight_row(alloc, line) {
-            Ok(row) => Ok(Entry::Flight(row)),
-            Err(fault) => Err(row_fault(line.line, fault)),
-        },
-        Header::Seats => match seat_row(alloc, line) {
-            Ok(row) => Ok(Entry::Seat(row)),
-            Err(fault) => Err(row_fault(line.line, fault)),
-        },
+        Header::Places => place(alloc, line, fields),
+        Header::Flights => flight(alloc, line, fields),
+        Header::Seats => seat(alloc, line, fields),
         _ => Ok(Entry::Text(header, text_line(alloc, line)?)),
+    }
+}
+
+fn place(alloc: Global, line: &Line<'_>, fields: Option<&ByteRecord>) -> Result<Entry, CaseFault>
+    requires { IfSome fields (λ row. HasFields (fields_of row.now) line.now.bytes.now) }
+    ensures { Told result (Entries.row_judged Place (shown line.now) (Rows.place_row (shown line.now))) }
+{
+    let row = match fields {
+        Some(row) => place_fields(row, line),
+        None => place_row(alloc, line),
+    };
+    match row {
+        Ok(row) => Ok(Entry::Place(row)),
+        Err(fault) => Err(row_fault(line.line, fault)),
+    }
+}
+
+fn flight(alloc: Global, line: &Line<'_>, fields: Option<&ByteRecord>) -> Result<Entry, CaseFault>
+    requires { IfSome fields (λ row. HasFields (fields_of row.now) line.now.bytes.now) }
+    ensures { Told result (Entries.row_judged Flight (shown line.now) (Rows.flight_row (shown line.now))) }
+{
+    let row = match fields {
+        Some(row) => flight_fields(row, line),
+        None => flight_row(alloc, line),
+    };
+    match row {
+        Ok(row) => Ok(Entry::Flight(row)),
+        Err(fault) => Err(row_fault(line.line, fault)),
+    }
+}
+
+fn seat(alloc: Global, line: &Line<'_>, fields: Option<&ByteRecord>) -> Result<Entry, CaseFault>
+    requires { IfSome fields (λ row. HasFields (fields_of row.now) line.now.bytes.now) }
+    ensures { Told result (Entries.row_judged Seat (shown line.now) (Rows.seat_row (shown line.now))) }
+{
+    let row = match fields {
+        Some(row) => seat_fields(row, line),
+        None => seat_row(alloc, line),
+    };
+    match row {
+        Ok(row) => Ok(Entry::Seat(row)),
+        Err(fault) => Err(row_fault(line.line, fault)),
     }
 }
 

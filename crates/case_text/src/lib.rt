@@ -3,6 +3,7 @@
 
 mod contents;
 mod faults;
+mod feeding;
 mod fields;
 mod headers;
 mod judging;

@@ -5,11 +5,15 @@ ghost use Rattle.case_text.specs.Entries as Entries;
 ghost use Rattle.case_text.specs.Gives.{Told};
 ghost use Rattle.case_text.specs.Lines.{shown};
 ghost use Rattle.case_text.specs.Parts.{ends_at};
+ghost use Rattle.case_text.specs.Readers.{Awaits, row_text as row_text_of};
 
+use crate::feeding::{fields_ahead, row_text};
 use crate::judging::judged;
 use crate::standing::Standing;
 use crate::{Case, CaseFault, CaseKind, Line, case_lines};
+use csv::{ByteRecord, Reader, ReaderBuilder};
 use std::alloc::Global;
+use std::io::Read;
 
 /// The case that the bytes spell, or the first fault in the order of lines.
 pub fn sections(alloc: Global, bytes: &[u8], kind: CaseKind) -> Result<Case, CaseFault>
@@ -45,7 +49,6 @@ fn ends_line(bytes: &[u8], i: usize) -> bool
 }
 
 /// The case that these lines spell, where `next` is the number of the line after the last.
-#[tactic(auto, using(crate::proofs::Growing::reading_steps))]
 fn read_lines(
     alloc: Global,
     kind: CaseKind,
@@ -54,10 +57,34 @@ fn read_lines(
 ) -> Result<Case, CaseFault>
     ensures { Told result (Entries.case_read kind next (map shown lines.now)) }
 {
+    let text = row_text(alloc, lines)?;
+    let mut reader = ReaderBuilder::new()
+        .has_headers(false)
+        .flexible(true)
+        .from_reader(alloc, text.as_slice());
+    read_with(alloc, kind, lines, next, &mut reader)
+}
+
+/// The same with a reader that has the rows among the lines before it.
+#[tactic(auto, using(crate::proofs::Growing::reading_steps))]
+fn read_with<R: Read>(
+    alloc: Global,
+    kind: CaseKind,
+    lines: &[Line<'_>],
+    next: u32,
+    reader: &mut Reader<R>,
+) -> Result<Case, CaseFault>
+    requires { Awaits R.remaining reader.old (row_text_of (map shown lines.now)) }
+    ensures { Told result (Entries.case_read kind next (map shown lines.now)) }
+{
     let mut standing = Standing::at_start();
     let mut case = Case::new(alloc);
+    let mut row = ByteRecord::new(alloc);
+    let mut in_step = true;
     for line in lines {
-        let entry = judged(alloc, kind, standing, line)?;
+        let fields = fields_ahead(reader, &mut row, line, in_step)?;
+        in_step = fields.is_some();
+        let entry = judged(alloc, kind, standing, line, fields)?;
         standing = standing.moved(&entry);
         case.add(entry)?;
     }
