@@ -1,4 +1,5 @@
--- What each line of a case is where it stands, or the fault that it has there.
+-- What each line of a case is where it stands, or the fault that it has there. Where a line stands is told by the last header
+-- before it and the count of lines since; of several faults the one that is tested first decides.
 use Rattle.std.specs.Prelude.{ℕ, ◌+◌, ◌==◌, ◌&&◌, Bool, true, false, not, nat_lt, List, [], ◌∷◌, length, Option, Some, None, Result, Ok, Err, if◌then◌else◌}
 use Rattle.std.specs.Str.Lines.{lines}
 use Rattle.fare_law.specs.declared.rows.TextLine.{TextLine}
@@ -40,7 +41,7 @@ abbrev pub is_header : Option Header → List ℕ → Bool
 is_header (Some Certificate) line = is_named line End
 is_header under line = begins_header line
 
--- a serve case has a list of requests, each other case has one
+-- a serve case has as many requests as its limit allows, each other case has one
 abbrev pub has_one_request : CaseKind → Bool
 has_one_request Serve = false
 has_one_request kind = true

@@ -33,7 +33,7 @@ pub enum Entry {
 
 impl Case {
     /// A case with nothing in it.
-    pub fn new(alloc: Global) -> Case
+    pub(crate) fn new(alloc: Global) -> Case
         ensures { result ≡ no_contents }
     {
         Case {
@@ -50,7 +50,7 @@ impl Case {
     }
 
     /// Adds an entry at the end of its section. A header adds nothing.
-    pub fn add(&mut self, entry: Entry) -> Result<(), Mem>
+    pub(crate) fn add(&mut self, entry: Entry) -> Result<(), Mem>
         ensures { OnOk result (self.new ≡ added self.old entry) }
     {
         match entry {

@@ -20,21 +20,23 @@ pub enum Header {
     End,
 }
 
-/// The line that the header is.
-pub fn name_of(header: Header) -> &'static [u8]
-    ensures { result.now ≡ Headers.name_of header }
-{
-    match header {
-        Header::Places => b"#places",
-        Header::Flights => b"#flights",
-        Header::Seats => b"#seats",
-        Header::Filings => b"#filings",
-        Header::Later => b"#later",
-        Header::Request => b"#request",
-        Header::Script => b"#script",
-        Header::Certificate => b"#certificate",
-        Header::Ticket => b"#ticket",
-        Header::End => b"#end",
+impl Header {
+    /// The line that the header is.
+    pub fn name(self) -> &'static [u8]
+        ensures { result.now ≡ Headers.name_of self }
+    {
+        match self {
+            Header::Places => b"#places",
+            Header::Flights => b"#flights",
+            Header::Seats => b"#seats",
+            Header::Filings => b"#filings",
+            Header::Later => b"#later",
+            Header::Request => b"#request",
+            Header::Script => b"#script",
+            Header::Certificate => b"#certificate",
+            Header::Ticket => b"#ticket",
+            Header::End => b"#end",
+        }
     }
 }
 
@@ -42,16 +44,16 @@ pub fn name_of(header: Header) -> &'static [u8]
 pub fn is_name(text: &[u8]) -> bool
     ensures { result ≡ Headers.is_name text.now }
 {
-    text == name_of(Header::Places)
-        || text == name_of(Header::Flights)
-        || text == name_of(Header::Seats)
-        || text == name_of(Header::Filings)
-        || text == name_of(Header::Later)
-        || text == name_of(Header::Request)
-        || text == name_of(Header::Script)
-        || text == name_of(Header::Certificate)
-        || text == name_of(Header::Ticket)
-        || text == name_of(Header::End)
+    text == Header::Places.name()
+        || text == Header::Flights.name()
+        || text == Header::Seats.name()
+        || text == Header::Filings.name()
+        || text == Header::Later.name()
+        || text == Header::Request.name()
+        || text == Header::Script.name()
+        || text == Header::Certificate.name()
+        || text == Header::Ticket.name()
+        || text == Header::End.name()
 }
 
 /// The header that is due in a case of this kind: the first one, or the one after the last met.

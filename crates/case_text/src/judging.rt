@@ -9,7 +9,7 @@ ghost use Rattle.case_text.specs.Gives.{Told, row_fault as row_fault_of};
 ghost use Rattle.case_text.specs.Lines.{shown};
 
 use crate::contents::Entry;
-use crate::headers::{Header, due, is_name, name_of};
+use crate::headers::{Header, due, is_name};
 use crate::rows::{flight_fields, flight_row, place_fields, place_row, seat_fields, seat_row};
 use crate::standing::Standing;
 use crate::{CaseFault, CaseKind, Line, RowFault};
@@ -52,7 +52,7 @@ fn is_header(under: Option<Header>, line: &[u8]) -> bool
     ensures { result ≡ Entries.is_header under line.now }
 {
     match under {
-        Some(Header::Certificate) => line == name_of(Header::End),
+        Some(Header::Certificate) => line == Header::End.name(),
         _ => begins_header(line),
     }
 }
@@ -77,7 +77,7 @@ fn header(kind: CaseKind, standing: Standing, line: &Line<'_>) -> Result<Entry, 
     }
     match due(kind, standing.under) {
         Some(header) => {
-            if line.bytes == name_of(header) {
+            if line.bytes == header.name() {
                 Ok(Entry::Opens(header))
             } else {
                 Err(CaseFault::Order { line: line.line })

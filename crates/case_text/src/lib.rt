@@ -1,4 +1,6 @@
-//! The text of a case: its lines, the rows of its tables.
+//! The text of a case: `sections` gives the rows and lines of each of its sections, or the first
+//! fault in the order of the lines. The lines of a text and the row of a single line are calls of
+//! their own.
 #![tactic(auto)]
 
 mod contents;

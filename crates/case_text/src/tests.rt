@@ -8,7 +8,7 @@ const LON: Place = Place(*b"LON");
 
 const NYC: Place = Place(*b"NYC");
 
-const ONE_WAY: &[u8] = b"#places
+const ONE_WAY: &[u8] = br#"#places
 LON,60
 NYC,60
 #flights
@@ -16,11 +16,11 @@ QX,101,LON,NYC,10:00,+00:00,13:00,-05:00,0,2031-03-03,2031-03-03,1
 #seats
 QX,101,LON,*,Y9
 #filings
-{\"actions\":[]}
+{"actions":[{"put_fare":{"carrier":"QX","from":"LON","to":"NYC","basis":"Y1","class":"Y","kind":"O","amount":20000,"rule":0}}]}
 #request
-{\"party\":1}
+{"sale":"2031-02-01","party":1,"best":3,"slices":[{"from":"LON","to":"NYC","first":"2031-03-03","days":1}]}
 #end
-";
+"#;
 
 // How many rows or lines each section has, in the order of the fields.
 fn counts(case: &Case) -> [usize; 9] {
@@ -104,11 +104,17 @@ fn reads_the_one_way_case(rt: HostRuntime) -> Result<(), Fail> {
     assert_eq!(rt; case.seats.as_slice(), seats.as_slice());
     assert_eq!(rt;
         text_of(&case.filings),
-        Some((9, b"{\"actions\":[]}".as_slice()))
+        Some((
+            9,
+            br#"{"actions":[{"put_fare":{"carrier":"QX","from":"LON","to":"NYC","basis":"Y1","class":"Y","kind":"O","amount":20000,"rule":0}}]}"#.as_slice()
+        ))
     );
     assert_eq!(rt;
         text_of(&case.requests),
-        Some((11, b"{\"party\":1}".as_slice()))
+        Some((
+            11,
+            br#"{"sale":"2031-02-01","party":1,"best":3,"slices":[{"from":"LON","to":"NYC","first":"2031-03-03","days":1}]}"#.as_slice()
+        ))
     );
     assert_eq!(rt; counts(&case), [2, 1, 1, 1, 0, 1, 0, 0, 0]);
     Ok(())
@@ -125,12 +131,12 @@ fn names_the_first_fault(rt: HostRuntime) -> Result<(), Fail> {
         ),
         (
             "the last line missing",
-            &ONE_WAY[..166],
+            &ONE_WAY[..ONE_WAY.len() - b"#end\n".len()],
             Err(CaseFault::NoEnd { line: 12 }),
         ),
         (
             "a place of two letters",
-            b"#places\nLON,60\nNYC,60\n#flights\nQX,101,LON,NY,10:00,+00:00,13:00,-05:00,0,2031-03-03,2031-03-03,1\n",
+            b"#places\nLON,60\nNYC,60\n#flights\nQX,101,LON,NY,10:00,+00:00,13:00,-05:00,0,2031-03-03,2031-03-03,1\n#seats\n",
             Err(CaseFault::BadRow { line: 5, column: 4 }),
         ),
         (

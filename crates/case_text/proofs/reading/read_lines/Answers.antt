@@ -15,4 +15,5 @@ read_with-requires c =
       trim = f.trim ∙ ap builder_trim x ∙ ap builder_trim h ∙ n.trim;
       ready = inr (inr (f.has_headers ∙ ap builder_names_headers x ∙ ap builder_names_headers h, f.headers));
       state = f.state;
-      source = f.source ∙ ap (λ text. Some (strip_bom text)) (c.as_slice.ensures.value ∙ c.in_ok-text.ensures) ∙ ap Some (no_mark (map shown c.args.lines.now)) }
+      source = f.source ∙ ap (λ text. Some (strip_bom text)) (c.as_slice.ensures.value ∙ c.in_ok-text.ensures) ∙ ap Some (no_mark (map shown c.args.lines.now));
+    }

@@ -13,4 +13,5 @@ pub loop-line-preserved : goal.loop-line-preserved
 loop-line-preserved g c = record {
   few = grind (arith, common_steps);
   rest = grind (arith, reading_steps);
-  ahead = λ t. c.in_ok-fields.ensures.step (map shown (drop (c.loop-line.line-index + 1) c.args.lines.now)) (follows_here _ _ _ c.args.lines.now c.loop-line.line-index _ (omega arith) c.loop-line.invariant.ahead) (sym c.is_some-in_step.ensures ∙ t) }
+  ahead = λ t. c.in_ok-fields.ensures.step (map shown (drop (c.loop-line.line-index + 1) c.args.lines.now)) (follows_here _ _ _ c.args.lines.now c.loop-line.line-index _ (omega arith) c.loop-line.invariant.ahead) (sym c.is_some-in_step.ensures ∙ t);
+}
