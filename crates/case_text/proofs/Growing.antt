@@ -1,6 +1,8 @@
 -- Lines that were read, and lines that are left.
-use Rattle.std.proofs.Common.{◌≡◌, ◌<◌, ◌≤◌, ◌+◌, ℕ, List, [], ◌∷◌, ◌++◌, length, drop, get_or, map, refl, ap, sym, ◌∙◌, append_assoc, append-nil, add-one, Result, Ok, Err, drop-cons, true, false, cond}
+use Rattle.std.proofs.Common.{◌≡◌, ◌<◌, ◌≤◌, ◌+◌, ℕ, List, [], ◌∷◌, ◌++◌, length, drop, get_or, map, refl, ap, sym, ◌∙◌, append_assoc, append-nil, add-one, Result, Ok, Err, drop-cons, true, false, cond, subst}
 use Rattle.std.proofs.lemmas.List.{drop_all}
+use Rattle.std.proofs.lemmas.List.Elements.{All-push}
+use Rattle.std.specs.List.{All}
 use Rattle.fare_law.specs.declared.rows.TextLine.{TextLine}
 use Rattle.case_text.specs.declared.contents.Case.{Case}
 use Rattle.case_text.specs.declared.contents.Entry.{Entry}
@@ -12,7 +14,7 @@ use Rattle.case_text.specs.declared.headers.Header.TheVariants.{Places, Flights,
 use Rattle.case_text.specs.declared.kinds.CaseKind.{CaseKind}
 use Rattle.case_text.specs.declared.lines.Line.{Line}
 use Rattle.case_text.specs.declared.standing.Standing.{Standing}
-use Rattle.case_text.specs.Contents.{case_with, added, line_added, no_contents}
+use Rattle.case_text.specs.Contents.{case_with, added, line_added, no_contents, HasDays, KeepsDays}
 use Rattle.case_text.specs.Entries.{entries, judged, moved, is_over, at_start, case_read, ◌>>=◌}
 use Rattle.case_text.specs.Lines.{shown}
 
@@ -62,6 +64,27 @@ added_first before (Place row) found = rw (append_cons before.places row (case_w
 added_first before (Flight row) found = rw (append_cons before.flights row (case_with found).flights) refl
 added_first before (Seat row) found = rw (append_cons before.seats row (case_with found).seats) refl
 added_first before (Text header line) found = line_first before header line found
+
+-- a line of a section without rows adds no flight
+same_flights : (before : Case) (header : Header) (line : TextLine) → (line_added before header line).flights ≡ before.flights
+same_flights before Places line = refl
+same_flights before Flights line = refl
+same_flights before Seats line = refl
+same_flights before Filings line = refl
+same_flights before Later line = refl
+same_flights before Request line = refl
+same_flights before Script line = refl
+same_flights before Certificate line = refl
+same_flights before Ticket line = refl
+same_flights before End line = refl
+
+-- one entry more, and the days of all flights still lie in the calendar
+pub days_added : (before : Case) (entry : Entry) → All HasDays before.flights → KeepsDays entry → All HasDays (added before entry).flights
+days_added before (Opens header) days keeps = days
+days_added before (Place row) days keeps = days
+days_added before (Flight row) days keeps = All-push HasDays before.flights row days keeps
+days_added before (Seat row) days keeps = days
+days_added before (Text header line) days keeps = subst (All HasDays) (sym (same_flights before header line)) days
 
 -- a case before nothing
 joined_none : (before : Case) → joined before (case_with []) ≡ before

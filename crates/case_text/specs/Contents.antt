@@ -1,10 +1,11 @@
 -- What stands in a case: its entries by their sections.
-use Rattle.std.specs.Prelude.{List, [], ◌∷◌, ◌++◌, if◌then◌else◌}
+use Rattle.std.specs.Prelude.{List, [], ◌∷◌, ◌++◌, ⊤, if◌then◌else◌}
 use Rattle.std.specs.List.{flat_map}
 use Rattle.fare_law.specs.declared.rows.FlightRow.{FlightRow}
 use Rattle.fare_law.specs.declared.rows.PlaceRow.{PlaceRow}
 use Rattle.fare_law.specs.declared.rows.SeatRow.{SeatRow}
 use Rattle.fare_law.specs.declared.rows.TextLine.{TextLine}
+use Rattle.market_time.specs.Dates.{IsInCentury}
 use Rattle.case_text.specs.declared.contents.Case.{Case}
 use Rattle.case_text.specs.declared.contents.Entry.{Entry}
 use Rattle.case_text.specs.declared.contents.Entry.TheVariants.{Opens, Place, Flight, Seat, Text}
@@ -68,3 +69,12 @@ added c (Place row) = record c { places = c.places ++ row ∷ [] }
 added c (Flight row) = record c { flights = c.flights ++ row ∷ [] }
 added c (Seat row) = record c { seats = c.seats ++ row ∷ [] }
 added c (Text header line) = line_added c header line
+
+-- the first and the last day of the row lie in the calendar
+abbrev pub HasDays : FlightRow → Type 0
+HasDays row = IsInCentury row.first × IsInCentury row.last
+
+-- the entry is no flight, or one whose days lie in the calendar
+abbrev pub KeepsDays : Entry → Type 0
+KeepsDays (Flight row) = HasDays row
+KeepsDays entry = ⊤

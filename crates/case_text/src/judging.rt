@@ -2,6 +2,7 @@
 ghost use Rattle.std.specs.Prelude.{◌≡◌, IfOk, IfSome};
 ghost use Rattle.csv.specs.Records.{fields_of};
 ghost use Rattle.case_text.specs.declared.contents.Entry.TheVariants.{Place, Flight, Seat};
+ghost use Rattle.case_text.specs.Contents.{KeepsDays};
 ghost use Rattle.case_text.specs.Readers.{HasFields};
 ghost use Rattle.case_text.specs.Rows as Rows;
 ghost use Rattle.case_text.specs.Entries as Entries;
@@ -26,7 +27,8 @@ pub fn judged(
     fields: Option<&ByteRecord>,
 ) -> Result<Entry, CaseFault>
     requires { IfSome fields (λ row. HasFields (fields_of row.now) line.now.bytes.now) }
-    ensures { Told result (Entries.judged kind standing (shown line.now)) }
+    ensures told { Told result (Entries.judged kind standing (shown line.now)) }
+    ensures days { IfOk result KeepsDays }
 {
     if standing.is_over() {
         Err(CaseFault::AfterEnd { line: line.line })
@@ -67,7 +69,8 @@ fn begins_header(line: &[u8]) -> bool
 }
 
 fn header(kind: CaseKind, standing: Standing, line: &Line<'_>) -> Result<Entry, CaseFault>
-    ensures { result ≡ Entries.header_judged kind standing (shown line.now) }
+    ensures told { result ≡ Entries.header_judged kind standing (shown line.now) }
+    ensures days { IfOk result KeepsDays }
 {
     if !is_name(line.bytes) {
         return Err(CaseFault::UnknownSection { line: line.line });
@@ -140,7 +143,8 @@ fn entry_of(
     fields: Option<&ByteRecord>,
 ) -> Result<Entry, CaseFault>
     requires { IfSome fields (λ row. HasFields (fields_of row.now) line.now.bytes.now) }
-    ensures { Told result (Entries.entry_of header (shown line.now)) }
+    ensures told { Told result (Entries.entry_of header (shown line.now)) }
+    ensures days { IfOk result KeepsDays }
 {
     match header {
         Header::Places => place(alloc, line, fields),
@@ -152,7 +156,8 @@ fn entry_of(
 
 fn place(alloc: Global, line: &Line<'_>, fields: Option<&ByteRecord>) -> Result<Entry, CaseFault>
     requires { IfSome fields (λ row. HasFields (fields_of row.now) line.now.bytes.now) }
-    ensures { Told result (Entries.row_judged Place (shown line.now) (Rows.place_row (shown line.now))) }
+    ensures told { Told result (Entries.row_judged Place (shown line.now) (Rows.place_row (shown line.now))) }
+    ensures days { IfOk result KeepsDays }
 {
     let row = match fields {
         Some(row) => place_fields(row, line),
@@ -166,7 +171,8 @@ fn place(alloc: Global, line: &Line<'_>, fields: Option<&ByteRecord>) -> Result<
 
 fn flight(alloc: Global, line: &Line<'_>, fields: Option<&ByteRecord>) -> Result<Entry, CaseFault>
     requires { IfSome fields (λ row. HasFields (fields_of row.now) line.now.bytes.now) }
-    ensures { Told result (Entries.row_judged Flight (shown line.now) (Rows.flight_row (shown line.now))) }
+    ensures told { Told result (Entries.row_judged Flight (shown line.now) (Rows.flight_row (shown line.now))) }
+    ensures days { IfOk result KeepsDays }
 {
     let row = match fields {
         Some(row) => flight_fields(row, line),
@@ -180,7 +186,8 @@ fn flight(alloc: Global, line: &Line<'_>, fields: Option<&ByteRecord>) -> Result
 
 fn seat(alloc: Global, line: &Line<'_>, fields: Option<&ByteRecord>) -> Result<Entry, CaseFault>
     requires { IfSome fields (λ row. HasFields (fields_of row.now) line.now.bytes.now) }
-    ensures { Told result (Entries.row_judged Seat (shown line.now) (Rows.seat_row (shown line.now))) }
+    ensures told { Told result (Entries.row_judged Seat (shown line.now) (Rows.seat_row (shown line.now))) }
+    ensures days { IfOk result KeepsDays }
 {
     let row = match fields {
         Some(row) => seat_fields(row, line),

@@ -1,6 +1,7 @@
 //! Reading a case.
-ghost use Rattle.std.specs.Prelude.{◌≡◌, ◌+◌, ◌<◌, ◌≤◌, ◌^◌, length, map};
+ghost use Rattle.std.specs.Prelude.{◌≡◌, ◌+◌, ◌<◌, ◌≤◌, ◌^◌, length, map, All, IfOk};
 ghost use Rattle.std.specs.Str.Lines.{lines as lines_of};
+ghost use Rattle.case_text.specs.Contents.{HasDays};
 ghost use Rattle.case_text.specs.Entries as Entries;
 ghost use Rattle.case_text.specs.Gives.{Told};
 ghost use Rattle.case_text.specs.Lines.{shown};
@@ -15,10 +16,12 @@ use csv::{ByteRecord, Reader, ReaderBuilder};
 use std::alloc::Global;
 use std::io::Read;
 
-/// The case that the bytes spell, or the first fault in the order of lines.
+/// The case that the bytes spell, or the first fault in the order of the lines. The days of its
+/// flight rows lie from 10957 to 47481.
 pub fn sections(alloc: Global, bytes: &[u8], kind: CaseKind) -> Result<Case, CaseFault>
     requires { length bytes.now + 1 < 2 ^ 32 }
-    ensures { Told result (Entries.case_of kind bytes.now) }
+    ensures told { Told result (Entries.case_of kind bytes.now) }
+    ensures days { IfOk result (λ case. All HasDays case.flights) }
 {
     let lines = case_lines(alloc, bytes)?;
     let next = (line_count(bytes) + 1) as u32;
@@ -55,7 +58,8 @@ fn read_lines(
     lines: &[Line<'_>],
     next: u32,
 ) -> Result<Case, CaseFault>
-    ensures { Told result (Entries.case_read kind next (map shown lines.now)) }
+    ensures told { Told result (Entries.case_read kind next (map shown lines.now)) }
+    ensures days { IfOk result (λ case. All HasDays case.flights) }
 {
     let text = row_text(alloc, lines)?;
     let mut reader = ReaderBuilder::new()
@@ -75,7 +79,8 @@ fn read_with<R: Read>(
     reader: &mut Reader<R>,
 ) -> Result<Case, CaseFault>
     requires { Awaits R.remaining reader.old (row_text_of (map shown lines.now)) }
-    ensures { Told result (Entries.case_read kind next (map shown lines.now)) }
+    ensures told { Told result (Entries.case_read kind next (map shown lines.now)) }
+    ensures days { IfOk result (λ case. All HasDays case.flights) }
 {
     let mut standing = Standing::at_start();
     let mut case = Case::new(alloc);
