@@ -3,3 +3,6 @@ pub mod Digits
 pub mod Machine
 pub mod Classes
 pub mod Columns
+pub mod Counting
+pub mod Growing
+pub mod Feed

@@ -118,3 +118,53 @@ fields_are cfg s src after found fields s2 line a b d l plain h =
     go : (after : Option (List ℕ)) → ReadsNext default_config st.StartRecord (Some line) after found fields s2 → fields ≡ cut line
     go None k = absurd k
     go (Some ys) k = let z = subst (λ r. NextIs r found fields s2 ys) (reads_line line l (all_plain line plain)) k in z.1
+
+-- the newline at the end of a line ends its record
+abbrev Ends : State → Type 0
+Ends s = step default_config s 10 ≡ (st.StartRecord, act.EndRecord)
+
+next_newline : (s : State) (fields : List (List ℕ)) (field rest : List ℕ) → Ends s → next_record default_config s fields field (10 ∷ rest) ≡ Some (fields ++ field ∷ [], st.StartRecord, rest)
+unfolding next_record
+next_newline s fields field rest h = rw h refl
+
+reads_to_newline : (xs rest : List ℕ) (s : State) (fields : List (List ℕ)) (field : List ℕ) → Same s → Ends s → AllPlain xs → next_record default_config s fields field (xs ++ 10 ∷ rest) ≡ Some (fields ++ onto field (cut xs), st.StartRecord, rest)
+reads_to_newline [] rest s fields field same e p = next_newline s fields field rest e ∙ ap (λ f. Some (fields ++ f ∷ [], st.StartRecord, rest)) (sym (append-nil field))
+reads_to_newline (c ∷ xs) rest s fields field same e p =
+    elim (eqb_tells c 44) [
+      | inl q ↦ next_comma s fields field c (xs ++ 10 ∷ rest) (same c p.0 ∙ in_field_comma c q.1)
+          ∙ reads_to_newline xs rest st.StartField (fields ++ field ∷ []) [] same_start_field refl p.1
+          ∙ ap (λ f. Some (f, st.StartRecord, rest)) (comma_step fields field c xs q.1)
+      | inr q ↦ next_other s fields field c (xs ++ 10 ∷ rest) (same c p.0 ∙ in_field_other c p.0 q.1)
+          ∙ reads_to_newline xs rest st.InField fields (field ++ c ∷ []) same_in_field refl p.1
+          ∙ ap (λ f. Some (fields ++ f, st.StartRecord, rest)) (onto_onto field c (cut xs) ∙ ap (onto field) (sym (cut_other c xs q.1)))
+    ]
+
+-- a plain line before others is the next record
+reads_line_first : (xs rest : List ℕ) → 0 < length xs → AllPlain xs → next_record default_config st.StartRecord [] [] (xs ++ 10 ∷ rest) ≡ Some (cut xs, st.StartRecord, rest)
+reads_line_first [] rest l p = absurd (omega (arith, l))
+reads_line_first (c ∷ xs) rest l p =
+    elim (eqb_tells c 44) [
+      | inl q ↦ next_comma st.StartRecord [] [] c (xs ++ 10 ∷ rest) (same_start_record c p.0 ∙ in_field_comma c q.1)
+          ∙ reads_to_newline xs rest st.StartField ([] ∷ []) [] same_start_field refl p.1
+          ∙ ap (λ f. Some (f, st.StartRecord, rest)) (comma_step [] [] c xs q.1 ∙ onto_nil (c ∷ xs))
+      | inr q ↦ next_other st.StartRecord [] [] c (xs ++ 10 ∷ rest) (same_start_record c p.0 ∙ in_field_other c p.0 q.1)
+          ∙ reads_to_newline xs rest st.InField [] (c ∷ []) same_in_field refl p.1
+          ∙ ap (λ f. Some (f, st.StartRecord, rest)) (onto_onto [] c (cut xs) ∙ ap (onto []) (sym (cut_other c xs q.1)) ∙ onto_nil (c ∷ xs))
+    ]
+
+-- what a read of a plain line shows
+pub record ReadsLine (line rest : List ℕ) (after : Option (List ℕ)) (fields : List (List ℕ)) (s : State) : Type 0 where
+  pub cuts : fields ≡ cut line
+  pub state : s ≡ st.StartRecord
+  pub left : after ≡ Some rest
+
+pub reads_first : (cfg : Config) (s : State) (src after : Option (List ℕ)) (found : Bool) (fields : List (List ℕ)) (s2 : State) (line rest : List ℕ)
+    → cfg ≡ default_config → s ≡ st.StartRecord → src ≡ Some (line ++ 10 ∷ rest) → 0 < length line → IsPlainLine line → ReadsNext cfg s src after found fields s2 → ReadsLine line rest after fields s2
+reads_first cfg s src after found fields s2 line rest a b d l plain h =
+    go after (subst (λ r. ReadsNext default_config st.StartRecord r after found fields s2) d (subst (λ t. ReadsNext default_config t src after found fields s2) b (subst (λ z. ReadsNext z s src after found fields s2) a h)))
+  where
+    go : (after : Option (List ℕ)) → ReadsNext default_config st.StartRecord (Some (line ++ 10 ∷ rest)) after found fields s2 → ReadsLine line rest after fields s2
+    go None k = absurd k
+    go (Some ys) k =
+        let z = subst (λ r. NextIs r found fields s2 ys) (reads_line_first line rest l (all_plain line plain)) k in
+        record { cuts = z.1; state = z.2; left = ap Some z.3 }

@@ -4,4 +4,8 @@ pub mod Numbers
 pub mod Cut
 pub mod Marks
 pub mod Rows
+pub mod Readers
 pub mod Gives
+pub mod Headers
+pub mod Contents
+pub mod Entries

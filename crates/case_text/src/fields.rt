@@ -7,7 +7,7 @@ use csv::{ByteRecord, Error, ReaderBuilder};
 use std::alloc::Global;
 
 /// The fields of a line of ASCII characters without quotes and line ends.
-pub fn line_fields(alloc: Global, line: &[u8]) -> Result<ByteRecord, Error>
+pub(crate) fn line_fields(alloc: Global, line: &[u8]) -> Result<ByteRecord, Error>
     requires plain { IsPlainLine line.now }
     requires some { 0 < length line.now }
     ensures { IfOk result (λ row. fields_of row ≡ cut line.now) }
@@ -21,7 +21,7 @@ pub fn line_fields(alloc: Global, line: &[u8]) -> Result<ByteRecord, Error>
 }
 
 /// Whether the line is ASCII without quotes and line ends.
-pub fn is_plain(line: &[u8]) -> bool
+pub(crate) fn is_plain(line: &[u8]) -> bool
     ensures plain { IsTrue result → IsPlainLine line.now }
     ensures test { result ≡ plain_line line.now }
 {

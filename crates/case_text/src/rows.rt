@@ -1,10 +1,11 @@
 //! The rows of the tables of places, flights and seats.
-ghost use Rattle.std.specs.Prelude.{◌≡◌, ◌<◌, ◌≤◌, length, Ok, IfOk, IfErr};
+ghost use Rattle.std.specs.Prelude.{◌≡◌, ◌<◌, ◌≤◌, ℕ, List, length, Ok, OnOk, IfOk, IfErr};
 ghost use Rattle.csv.specs.Records.{fields_of};
 ghost use Rattle.market_time.specs.Dates.{IsInCentury};
 ghost use Rattle.case_text.specs.Rows as Rows;
 ghost use Rattle.case_text.specs.Gives.{Gives, Refuses};
 ghost use Rattle.case_text.specs.Lines.{shown};
+ghost use Rattle.case_text.specs.Readers.{HasFields};
 
 use crate::fields::{is_plain, line_fields};
 use crate::marks::{seat_day_of, seats_of, shift_of, weekdays_of};
@@ -20,9 +21,18 @@ use std::alloc::Global;
 pub fn place_row(alloc: Global, line: &Line<'_>) -> Result<PlaceRow, RowFault>
     ensures { Gives result (Rows.place_row (shown line.now)) }
 {
-    let row = columns(alloc, line.bytes, 2)?;
-    let place = in_column(1, place_of(field(&row, 1)))?;
-    let connect = in_column(2, number_within(field(&row, 2), 0, 1440))?;
+    let row = own_fields(alloc, line.bytes)?;
+    place_fields(&row, line)
+}
+
+/// The same of a line whose fields are these.
+pub(crate) fn place_fields(row: &ByteRecord, line: &Line<'_>) -> Result<PlaceRow, RowFault>
+    requires { HasFields (fields_of row.now) line.now.bytes.now }
+    ensures { Gives result (Rows.place_row (shown line.now)) }
+{
+    columns(row, 2)?;
+    let place = in_column(1, place_of(field(row, 1)))?;
+    let connect = in_column(2, number_within(field(row, 2), 0, 1440))?;
     Ok(PlaceRow {
         line: line.line,
         place,
@@ -35,19 +45,29 @@ pub fn flight_row(alloc: Global, line: &Line<'_>) -> Result<FlightRow, RowFault>
     ensures row { Gives result (Rows.flight_row (shown line.now)) }
     ensures days { IfOk result (λ row. IsInCentury row.first × IsInCentury row.last) }
 {
-    let row = columns(alloc, line.bytes, 12)?;
-    let carrier = in_column(1, carrier_of(field(&row, 1)))?;
-    let number = in_column(2, number_within(field(&row, 2), 1, 9999))?;
-    let from = in_column(3, place_of(field(&row, 3)))?;
-    let to = in_column(4, place_of(field(&row, 4)))?;
-    let dep = in_column(5, minute_of(field(&row, 5)).ok())?;
-    let dep_offset = in_column(6, offset_of(field(&row, 6)).ok())?;
-    let arr = in_column(7, minute_of(field(&row, 7)).ok())?;
-    let arr_offset = in_column(8, offset_of(field(&row, 8)).ok())?;
-    let shift = in_column(9, shift_of(field(&row, 9)))?;
-    let first = in_column(10, day_of(field(&row, 10)).ok())?;
-    let last = in_column(11, day_of(field(&row, 11)).ok())?;
-    let days = in_column(12, weekdays_of(field(&row, 12)))?;
+    let row = own_fields(alloc, line.bytes)?;
+    flight_fields(&row, line)
+}
+
+/// The same of a line whose fields are these.
+pub(crate) fn flight_fields(row: &ByteRecord, line: &Line<'_>) -> Result<FlightRow, RowFault>
+    requires { HasFields (fields_of row.now) line.now.bytes.now }
+    ensures row { Gives result (Rows.flight_row (shown line.now)) }
+    ensures days { IfOk result (λ row. IsInCentury row.first × IsInCentury row.last) }
+{
+    columns(row, 12)?;
+    let carrier = in_column(1, carrier_of(field(row, 1)))?;
+    let number = in_column(2, number_within(field(row, 2), 1, 9999))?;
+    let from = in_column(3, place_of(field(row, 3)))?;
+    let to = in_column(4, place_of(field(row, 4)))?;
+    let dep = in_column(5, minute_of(field(row, 5)).ok())?;
+    let dep_offset = in_column(6, offset_of(field(row, 6)).ok())?;
+    let arr = in_column(7, minute_of(field(row, 7)).ok())?;
+    let arr_offset = in_column(8, offset_of(field(row, 8)).ok())?;
+    let shift = in_column(9, shift_of(field(row, 9)))?;
+    let first = in_column(10, day_of(field(row, 10)).ok())?;
+    let last = in_column(11, day_of(field(row, 11)).ok())?;
+    let days = in_column(12, weekdays_of(field(row, 12)))?;
     Ok(FlightRow {
         line: line.line,
         carrier,
@@ -69,12 +89,21 @@ pub fn flight_row(alloc: Global, line: &Line<'_>) -> Result<FlightRow, RowFault>
 pub fn seat_row(alloc: Global, line: &Line<'_>) -> Result<SeatRow, RowFault>
     ensures { Gives result (Rows.seat_row (shown line.now)) }
 {
-    let row = columns(alloc, line.bytes, 5)?;
-    let carrier = in_column(1, carrier_of(field(&row, 1)))?;
-    let number = in_column(2, number_within(field(&row, 2), 1, 9999))?;
-    let from = in_column(3, place_of(field(&row, 3)))?;
-    let day = in_column(4, seat_day_of(field(&row, 4)))?;
-    let seats = in_column(5, seats_of(field(&row, 5)))?;
+    let row = own_fields(alloc, line.bytes)?;
+    seat_fields(&row, line)
+}
+
+/// The same of a line whose fields are these.
+pub(crate) fn seat_fields(row: &ByteRecord, line: &Line<'_>) -> Result<SeatRow, RowFault>
+    requires { HasFields (fields_of row.now) line.now.bytes.now }
+    ensures { Gives result (Rows.seat_row (shown line.now)) }
+{
+    columns(row, 5)?;
+    let carrier = in_column(1, carrier_of(field(row, 1)))?;
+    let number = in_column(2, number_within(field(row, 2), 1, 9999))?;
+    let from = in_column(3, place_of(field(row, 3)))?;
+    let day = in_column(4, seat_day_of(field(row, 4)))?;
+    let seats = in_column(5, seats_of(field(row, 5)))?;
     Ok(SeatRow {
         line: line.line,
         carrier,
@@ -85,21 +114,28 @@ pub fn seat_row(alloc: Global, line: &Line<'_>) -> Result<SeatRow, RowFault>
     })
 }
 
-/// The fields of a line, where it is plain and has so many.
-fn columns(alloc: Global, line: &[u8], count: usize) -> Result<ByteRecord, RowFault>
-    requires { 2 ≤ count }
-    ensures fields { IfOk result (λ row. Rows.columns count line.now ≡ Ok (fields_of row)) }
-    ensures fault { IfErr result (λ fault. Refuses fault (Rows.columns count line.now)) }
+/// The fields of a line by itself, where it is plain.
+fn own_fields(alloc: Global, line: &[u8]) -> Result<ByteRecord, RowFault>
+    ensures fields { IfOk result (λ row. HasFields (fields_of row) line.now) }
+    ensures fault { IfErr result (λ fault. (count : ℕ) → 2 ≤ count → Refuses fault (Rows.columns count line.now)) }
 {
     if line.is_empty() || !is_plain(line) {
         return Err(RowFault::BadColumn(0));
     }
     // A reader over a slice fails for want of memory alone.
-    let Ok(row) = line_fields(alloc, line) else {
-        return Err(RowFault::Mem);
-    };
+    match line_fields(alloc, line) {
+        Ok(row) => Ok(row),
+        Err(_) => Err(RowFault::Mem),
+    }
+}
+
+/// That the row has so many fields.
+fn columns(row: &ByteRecord, count: usize) -> Result<(), RowFault>
+    ensures fields { OnOk result ((line : List ℕ) → HasFields (fields_of row.now) line → Rows.columns count line ≡ Ok (fields_of row.now)) }
+    ensures fault { IfErr result (λ fault. (line : List ℕ) → HasFields (fields_of row.now) line → Refuses fault (Rows.columns count line)) }
+{
     if row.len() == count {
-        Ok(row)
+        Ok(())
     } else {
         Err(RowFault::BadColumn(0))
     }

@@ -1,0 +1,78 @@
+//! What stands in a case.
+ghost use Rattle.std.specs.Prelude.{◌≡◌, OnOk};
+ghost use Rattle.case_text.specs.Contents.{added, line_added, no_contents};
+
+use crate::headers::Header;
+use fare_law::{FlightRow, List, Mem, PlaceRow, SeatRow, TextLine};
+use std::alloc::Global;
+
+/// The rows and lines of a case by their sections. A section that the kind of case doesn't have is
+/// empty.
+#[derive(Debug, Drop)]
+pub struct Case {
+    pub places: List<PlaceRow>,
+    pub flights: List<FlightRow>,
+    pub seats: List<SeatRow>,
+    pub filings: List<TextLine>,
+    pub later: List<TextLine>,
+    pub requests: List<TextLine>,
+    pub script: List<TextLine>,
+    pub certificate: List<TextLine>,
+    pub ticket: List<TextLine>,
+}
+
+/// What a line is: a header, a row of a table, or a line of another section.
+#[derive(Drop)]
+pub enum Entry {
+    Opens(Header),
+    Place(PlaceRow),
+    Flight(FlightRow),
+    Seat(SeatRow),
+    Text(Header, TextLine),
+}
+
+impl Case {
+    /// A case with nothing in it.
+    pub(crate) fn new(alloc: Global) -> Case
+        ensures { result ≡ no_contents }
+    {
+        Case {
+            places: List::new(alloc),
+            flights: List::new(alloc),
+            seats: List::new(alloc),
+            filings: List::new(alloc),
+            later: List::new(alloc),
+            requests: List::new(alloc),
+            script: List::new(alloc),
+            certificate: List::new(alloc),
+            ticket: List::new(alloc),
+        }
+    }
+
+    /// Adds an entry at the end of its section. A header adds nothing.
+    pub(crate) fn add(&mut self, entry: Entry) -> Result<(), Mem>
+        ensures { OnOk result (self.new ≡ added self.old entry) }
+    {
+        match entry {
+            Entry::Opens(_) => Ok(()),
+            Entry::Place(row) => self.places.push(row),
+            Entry::Flight(row) => self.flights.push(row),
+            Entry::Seat(row) => self.seats.push(row),
+            Entry::Text(header, line) => self.add_line(header, line),
+        }
+    }
+
+    fn add_line(&mut self, header: Header, line: TextLine) -> Result<(), Mem>
+        ensures { OnOk result (self.new ≡ line_added self.old header line) }
+    {
+        match header {
+            Header::Filings => self.filings.push(line),
+            Header::Later => self.later.push(line),
+            Header::Request => self.requests.push(line),
+            Header::Script => self.script.push(line),
+            Header::Certificate => self.certificate.push(line),
+            Header::Ticket => self.ticket.push(line),
+            _ => Ok(()),
+        }
+    }
+}

@@ -1,0 +1,10 @@
+//! The kinds of cases.
+
+/// What a case is for: it decides which sections a case has.
+#[derive(Clone, Copy, PartialEq, Eq, Debug)]
+pub enum CaseKind {
+    Search,
+    Check,
+    Serve,
+    Verdict,
+}

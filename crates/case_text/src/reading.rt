@@ -1,0 +1,101 @@
+//! Reading a case.
+ghost use Rattle.std.specs.Prelude.{◌≡◌, ◌+◌, ◌<◌, ◌≤◌, ◌^◌, length, map, All, IfOk};
+ghost use Rattle.std.specs.Str.Lines.{lines as lines_of};
+ghost use Rattle.case_text.specs.Contents.{HasDays};
+ghost use Rattle.case_text.specs.Entries as Entries;
+ghost use Rattle.case_text.specs.Gives.{Told};
+ghost use Rattle.case_text.specs.Lines.{shown};
+ghost use Rattle.case_text.specs.Parts.{ends_at};
+ghost use Rattle.case_text.specs.Readers.{Awaits, row_text as row_text_of};
+
+use crate::feeding::{fields_ahead, row_text};
+use crate::judging::judged;
+use crate::standing::Standing;
+use crate::{Case, CaseFault, CaseKind, Line, case_lines};
+use csv::{ByteRecord, Reader, ReaderBuilder};
+use std::alloc::Global;
+use std::io::Read;
+
+/// The case that the bytes spell, or the first fault in the order of the lines. The days of its
+/// flight rows lie from 10957 to 47481.
+pub fn sections(alloc: Global, bytes: &[u8], kind: CaseKind) -> Result<Case, CaseFault>
+    requires { length bytes.now + 1 < 2 ^ 32 }
+    ensures told { Told result (Entries.case_of kind bytes.now) }
+    ensures days { IfOk result (λ case. All HasDays case.flights) }
+{
+    let lines = case_lines(alloc, bytes)?;
+    let next = (line_count(bytes) + 1) as u32;
+    read_lines(alloc, kind, lines.as_slice(), next)
+}
+
+/// The number of lines, empty ones too.
+#[tactic(auto, using(crate::proofs::Counting::count_steps))]
+fn line_count(bytes: &[u8]) -> usize
+    ensures count { result ≡ length (lines_of bytes.now) }
+    ensures bound { result ≤ length bytes.now }
+{
+    let mut count = 0;
+    for i in 0..bytes.len() {
+        if ends_line(bytes, i) {
+            count += 1;
+        }
+    }
+    count
+}
+
+/// Whether the byte at this place ends a line: a newline does, and the last byte.
+fn ends_line(bytes: &[u8], i: usize) -> bool
+    requires { i < length bytes.now }
+    ensures { result ≡ ends_at bytes.now i }
+{
+    bytes[i] == b'\n' || i + 1 == bytes.len()
+}
+
+/// The case that these lines spell, where `next` is the number of the line after the last.
+fn read_lines(
+    alloc: Global,
+    kind: CaseKind,
+    lines: &[Line<'_>],
+    next: u32,
+) -> Result<Case, CaseFault>
+    ensures told { Told result (Entries.case_read kind next (map shown lines.now)) }
+    ensures days { IfOk result (λ case. All HasDays case.flights) }
+{
+    let text = row_text(alloc, lines)?;
+    let mut reader = ReaderBuilder::new()
+        .has_headers(false)
+        .flexible(true)
+        .from_reader(alloc, text.as_slice());
+    read_with(alloc, kind, lines, next, &mut reader)
+}
+
+/// The same with a reader that has the rows among the lines before it.
+#[tactic(auto, using(crate::proofs::Growing::reading_steps))]
+fn read_with<R: Read>(
+    alloc: Global,
+    kind: CaseKind,
+    lines: &[Line<'_>],
+    next: u32,
+    reader: &mut Reader<R>,
+) -> Result<Case, CaseFault>
+    requires { Awaits R.remaining reader.old (row_text_of (map shown lines.now)) }
+    ensures told { Told result (Entries.case_read kind next (map shown lines.now)) }
+    ensures days { IfOk result (λ case. All HasDays case.flights) }
+{
+    let mut standing = Standing::at_start();
+    let mut case = Case::new(alloc);
+    let mut row = ByteRecord::new(alloc);
+    let mut in_step = true;
+    for line in lines {
+        let fields = fields_ahead(reader, &mut row, line, in_step)?;
+        in_step = fields.is_some();
+        let entry = judged(alloc, kind, standing, line, fields)?;
+        standing = standing.moved(&entry);
+        case.add(entry)?;
+    }
+    if standing.is_over() {
+        Ok(case)
+    } else {
+        Err(CaseFault::NoEnd { line: next })
+    }
+}
