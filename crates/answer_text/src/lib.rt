@@ -6,8 +6,6 @@
 mod laws;
 mod lines;
 mod smallest;
-#[cfg(test)]
-mod tests;
 
 pub use laws::one_answer_text;
 pub use smallest::one_way_answer;

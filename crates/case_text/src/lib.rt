@@ -16,8 +16,6 @@ mod numbers;
 mod reading;
 mod rows;
 mod standing;
-#[cfg(test)]
-mod tests;
 
 pub use contents::Case;
 pub use faults::{CaseFault, RowFault};

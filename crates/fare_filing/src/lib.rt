@@ -5,8 +5,6 @@
 
 mod fares;
 mod lone;
-#[cfg(test)]
-mod tests;
 
 pub use fares::{read_fare, read_fare_key};
 pub use lone::read_lone_fare;

@@ -18,6 +18,3 @@ pub use sink::Sink;
 pub use source::{Failed, Source};
 pub use standard::{StdSink, StdSource};
 pub use writing::{OutFault, write_all};
-
-#[cfg(test)]
-mod tests;

@@ -8,8 +8,6 @@ mod dates;
 mod digits;
 mod fault;
 mod laws;
-#[cfg(test)]
-mod tests;
 mod weekdays;
 
 pub use clock::{instant, minute_of, offset_of};

@@ -7,8 +7,6 @@ mod asked;
 mod fault;
 mod limits;
 mod reading;
-#[cfg(test)]
-mod tests;
 mod text;
 
 pub use asked::{Asked, AskedSlice, Terms};

@@ -3,7 +3,7 @@ ghost use Rattle.std.specs.Prelude.{◌≡◌, ◌≢◌, ◌≤◌, length, pos
 ghost use Rattle.fare_law.specs.declared.fares.FareKind.TheVariants.{R};
 ghost use Rattle.one_way.specs.OneWay.{IsOneWay};
 
-use crate::one_way_answer;
+use answer_text::one_way_answer;
 use fare_law::{
     ArrayVec, Basis, Carrier, Fare, FareKey, FareKind, Flight, List, Place, Request, SeatRow, Slice,
 };

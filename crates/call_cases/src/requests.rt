@@ -1,6 +1,6 @@
 //! Requests of known texts.
-use crate::*;
 use fare_law::{Request, Why};
+use request_text::{RequestFault, read_request, request_text};
 use std::test::Fail;
 
 // The day of sale, the party, the count of tickets and the first slice's first day.

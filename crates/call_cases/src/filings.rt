@@ -1,5 +1,5 @@
 //! Filings of known texts.
-use crate::*;
+use fare_filing::read_lone_fare;
 use fare_law::{ArrayVec, Basis, Carrier, Fare, FareKey, FareKind, Place};
 use std::test::Fail;
 

@@ -1,5 +1,5 @@
 //! Cases of known texts.
-use crate::*;
+use case_text::{Case, CaseFault, CaseKind, sections};
 use fare_law::{Carrier, FlightRow, List, Place, PlaceRow, SeatRow, TextLine};
 use std::alloc::Global;
 use std::test::Fail;

@@ -1,5 +1,7 @@
 //! Days, times, offsets and instants of known texts.
-use crate::*;
+use market_time::{
+    TimeFault, day_of, day_text, first_sunday_after, instant, minute_of, offset_of, weekday,
+};
 
 #[test]
 fn reads_dates(rt: HostRuntime) {

@@ -1,5 +1,8 @@
 //! Reading and writing over memory, over failing ends, and over std's readers and writers.
-use crate::*;
+use fare_io::{
+    FailSink, FailSource, InFault, MemSink, MemSource, OutFault, StdSink, StdSource, read_all,
+    write_all,
+};
 use fare_law::List;
 use std::alloc::Global;
 use std::io;
