@@ -1,7 +1,7 @@
 #!/usr/bin/env bash
-# Tries the edits of the readers and writers of text that the prover must refuse: those of edits/CRATE, of the crates that
-# are named, or of all. The gate tries the others, which stand in the crates' own must-fail folders. Each takes ten to
-# twenty seconds, and the first of a crate a whole check.
+# Tries further edits that the prover must refuse: those of edits/CRATE and of the crate's own must-fail folder, of the
+# crates that are named, or of all that have some here. The gate tries the latter alone. Each takes ten to thirty seconds,
+# and the first of a crate a whole check.
 set -euo pipefail
 top=$(cd "$(dirname "${BASH_SOURCE[0]}")/.." && pwd)
 copy=$(mktemp -d)

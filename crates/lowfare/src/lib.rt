@@ -3,8 +3,6 @@
 
 mod program;
 mod status;
-#[cfg(test)]
-mod tests;
 
 pub use program::run;
 pub use status::Status;

@@ -1,7 +1,7 @@
 //! The top call over sources and sinks in memory, with the texts of worked cases.
-use crate::{Status, run};
 use fare_io::{FailSink, FailSource, MemSink, MemSource, Sink, Source};
 use fare_law::List;
+use lowfare::{Status, run};
 use std::alloc::Global;
 use std::test::Fail;
 
