@@ -1,5 +1,5 @@
-//! Tests of the public calls on the way of a case, each with memory at hand: dates, streams, rows and
-//! whole cases, requests, filings, answers, and the top call. A call that answers want of memory meets
+//! Tests of the public calls on the way of a case, each with memory at hand: dates, streams, names and
+//! members, rows and whole cases, requests, filings, answers, and the top call. A call that answers want of memory meets
 //! its contract; these tests refuse it. They stand in one crate, since a crate with tests is proved
 //! twice. Nothing stands on this crate.
 #![tactic(auto)]
@@ -12,6 +12,8 @@ mod cases;
 mod dates;
 #[cfg(test)]
 mod filings;
+#[cfg(test)]
+mod parts;
 #[cfg(test)]
 mod readers;
 #[cfg(test)]
