@@ -7,7 +7,7 @@ use Rattle.fare_law.specs.Book.{Book}
 use Rattle.fare_law.specs.Lists.{Each, IsPrefix, Matched}
 use Rattle.fare_law.specs.Moves.{moves_of, run_code}
 use Rattle.fare_law.specs.Order.{Before, Best, Cheaper, HasKeys, Less, code}
-use Rattle.flight_paths.specs.Positions.{Ascending}
+use Rattle.fare_law.specs.Flights.{Ascending}
 use Rattle.residual_keys.specs.NothingLost.{OneTicket, RunsAreTickets, TicketsAreRuns}
 use Rattle.residual_keys.specs.OneNext.{MoveLeavesOne, RunGoesOn, RunHasKeys}
 use Rattle.residual_keys.specs.ResidualOrder.{StateBefore}

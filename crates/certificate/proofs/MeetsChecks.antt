@@ -17,7 +17,7 @@ use Rattle.fare_law.specs.Lists.{Each, EachPair, IsIn}
 use Rattle.fare_law.specs.Moves.{moves_of, run_code}
 use Rattle.fare_law.specs.Order.{Before, Cheaper, HasKeys, Less}
 use Rattle.fare_law.specs.Parts.{price_of}
-use Rattle.flight_paths.specs.Positions.{Ascending}
+use Rattle.fare_law.specs.Flights.{Ascending}
 use Rattle.residual_keys.specs.Residuals.{State, Run, RunFromRoot, no_part}
 use Rattle.ticket_order.specs.Coding.{Coded}
 

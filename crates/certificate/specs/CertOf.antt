@@ -11,7 +11,7 @@ use Rattle.fare_law.specs.declared.tickets.Ticket.{Ticket}
 use Rattle.fare_law.specs.Book.{Book}
 use Rattle.fare_law.specs.Lists.{Each, Matched}
 use Rattle.fare_law.specs.Order.{Best, HasKeys}
-use Rattle.flight_paths.specs.Positions.{Ascending}
+use Rattle.fare_law.specs.Flights.{Ascending}
 use Rattle.residual_keys.specs.ResidualOrder.{StateBefore}
 use Rattle.residual_keys.specs.Searches.{AreNeeded, BestRuns, Least}
 

@@ -7,7 +7,7 @@ use Rattle.fare_law.specs.declared.fares.FareKey.{FareKey}
 use Rattle.fare_law.specs.declared.fares.FareKind.{FareKind}
 use Rattle.fare_law.specs.declared.fares.FareKind.TheVariants.{O, R, S}
 use Rattle.json_form.specs.Members.{has_members, text_at, between_at, place_at, carrier_at, basis_at, class_at}
-use Rattle.name_text.specs.Names.{IsClass, IsPlace}
+use Rattle.fare_law.specs.Limits.{IsClass, IsPlace}
 
 -- one thing after another, as long as each is there
 infixl 10 ◌>>=◌
@@ -42,17 +42,3 @@ fare_spelled d = if has_members 8 d then (do
   amount ← between_at (codes "amount") 0 1000000000 d
   rule ← between_at (codes "rule") 0 9999 d
   Some (record { key = key; class = class; kind = kind; amount = amount; rule = rule })) else None
-
--- names of their forms
-pub record IsFareKey (key : FareKey) : Type 0 where
-  pub carrier : IsCarrier key.carrier
-  pub from : IsPlace key.from
-  pub to : IsPlace key.to
-  pub basis : IsBasis key.basis
-
--- a fare within its limits
-pub record IsFare (fare : Fare) : Type 0 where
-  pub key : IsFareKey fare.key
-  pub class : IsClass fare.class
-  pub amount : fare.amount ≤ 1000000000
-  pub rule : fare.rule ≤ 9999

@@ -1,7 +1,8 @@
 //! Fares as JSON.
 ghost use Rattle.std.specs.Prelude.{◌≡◌, IfSome, codes};
 ghost use Rattle.serde_json.specs.View.{view};
-ghost use Rattle.fare_filing.specs.Fares.{fare_key, fare_spelled, kind_of, kind_at, IsFareKey, IsFare};
+ghost use Rattle.fare_filing.specs.Fares.{fare_key, fare_spelled, kind_of, kind_at};
+ghost use Rattle.fare_law.specs.Limits.{IsFareKey, IsFare};
 
 use fare_law::{Fare, FareKey, FareKind};
 use json_form::{basis_at, between_at, carrier_at, class_at, has_members, place_at, text_at};

@@ -1,7 +1,7 @@
 //! The filing that puts one fare.
 ghost use Rattle.std.specs.Prelude.{◌≡◌, IfOk, IfSome};
 ghost use Rattle.serde_json.specs.View.{view};
-ghost use Rattle.fare_filing.specs.Fares.{IsFare};
+ghost use Rattle.fare_law.specs.Limits.{IsFare};
 ghost use Rattle.fare_filing.specs.Lone.{lone_fare, lone_fare_of};
 
 use crate::fares::read_fare;

@@ -1,6 +1,26 @@
 -- Days and weekdays.
-use Rattle.std.specs.Prelude.{ℕ, ℤ, pos, nat_abs, ◌+◌, ◌-◌, ◌%◌, ◌≤ℤ◌, ◌+ℤ◌, List, Any}
+use Rattle.std.specs.Prelude.{ℕ, ℤ, pos, neg_ℤ, nat_abs, ◌+◌, ◌-◌, ◌%◌, ◌<◌, ◌≤ℤ◌, ◌+ℤ◌, List, Any}
 use Rattle.fare_law.specs.declared.rules.DayRange.{DayRange}
+
+-- the days from 2000-01-01 to 2099-12-31
+abbrev pub IsCalendarDay : ℤ → Type 0
+IsCalendarDay day = (pos 10957 ≤ℤ day) × (day ≤ℤ pos 47481)
+
+-- minutes since 1970-01-01 00:00 in universal time, far enough for each flight of these days
+abbrev pub IsInstant : ℤ → Type 0
+IsInstant t = (pos 0 ≤ℤ t) × (t ≤ℤ pos 100000000)
+
+-- a minute of a day
+abbrev pub IsMinute : ℕ → Type 0
+IsMinute minute = minute < 1440
+
+-- the offset of a local time, in minutes: at most fourteen hours
+abbrev pub IsOffset : ℤ → Type 0
+IsOffset offset = (neg_ℤ (pos 840) ≤ℤ offset) × (offset ≤ℤ pos 840)
+
+-- by how many days the local day of an arrival differs
+abbrev pub IsShift : ℤ → Type 0
+IsShift shift = (neg_ℤ (pos 1) ≤ℤ shift) × (shift ≤ℤ pos 2)
 
 -- 1 for Monday to 7 for Sunday. Day 0 is a Thursday
 abbrev pub weekday : ℤ → ℕ

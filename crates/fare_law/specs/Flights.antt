@@ -1,9 +1,9 @@
 -- The dated flights of a timetable's rows.
-use Rattle.std.specs.Prelude.{◌≡◌, ◌⊎◌, ℕ, ℤ, pos, ◌-◌, ◌<◌, ◌+ℤ◌, ◌-ℤ◌, ◌*ℤ◌, ◌≤ℤ◌, ◌<ℤ◌, ◌↔◌, IsBitSet, List}
+use Rattle.std.specs.Prelude.{◌≡◌, ◌⊎◌, ℕ, ℤ, pos, ◌-◌, ◌<◌, ◌+ℤ◌, ◌-ℤ◌, ◌*ℤ◌, ◌≤ℤ◌, ◌<ℤ◌, ◌↔◌, IsBitSet, List, [], ◌∷◌}
 use Rattle.fare_law.specs.declared.flights.Flight.{Flight}
 use Rattle.fare_law.specs.declared.rows.FlightRow.{FlightRow}
 use Rattle.fare_law.specs.Days.{weekday}
-use Rattle.fare_law.specs.Lists.{EachPair, IsIn}
+use Rattle.fare_law.specs.Lists.{Each, EachPair, IsIn}
 use Rattle.fare_law.specs.Order.{Less}
 
 -- minutes since the first day, in universal time
@@ -22,6 +22,11 @@ pub record Dated (row : FlightRow) (f : Flight) : Type 0 where
   pub named : IsBitSet row.days (weekday f.day - 1)
   pub departs : f.dep ≡ instant f.day row.dep row.dep_offset
   pub arrives : f.arr ≡ instant (f.day +ℤ row.shift) row.arr row.arr_offset
+
+-- the flights stand in the order of their departures
+abbrev pub Ascending : List Flight → Type 0
+Ascending [] = Unit {0}
+Ascending (f ∷ fs) = Each (λ g. f.dep ≤ℤ g.dep) fs × Ascending fs
 
 -- by departure, carrier, number, origin and day
 abbrev pub Earlier : Flight → Flight → Type 0

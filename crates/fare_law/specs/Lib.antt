@@ -11,3 +11,7 @@ pub mod Flights
 pub mod Faults
 pub mod Moves
 pub mod Sheets
+pub mod Offers
+pub mod Limits
+pub mod RuleLimits
+pub mod FilingLimits

@@ -1,9 +1,10 @@
 -- Sheets: the live fares of one market, with what their rules say of the time of departure.
-use Rattle.std.specs.Prelude.{◌≡◌, ◌⊎◌, ◌≤◌, ℤ, pos, List, length, Option, Some, None}
+use Rattle.std.specs.Prelude.{◌≡◌, ◌≢◌, ◌⊎◌, ◌↔◌, ◌≤◌, ℤ, pos, List, [], length, Option, Some, None}
 use Rattle.fare_law.specs.declared.names.Place.{Place}
 use Rattle.fare_law.specs.declared.rules.DayTime.{DayTime}
 use Rattle.fare_law.specs.declared.sheets.SheetRow.{SheetRow}
-use Rattle.fare_law.specs.Lists.{Each, EachPair}
+use Rattle.fare_law.specs.Book.{Book, live_fare, live_rule}
+use Rattle.fare_law.specs.Lists.{Each, EachPair, IsIn}
 use Rattle.fare_law.specs.Order.{Less}
 
 -- the fares that are filed from one place to another
@@ -37,3 +38,18 @@ pub record IsSheet (from to : Place) (rows : List SheetRow) : Type 0 where
   pub few : length rows ≤ 20000
   pub market : Each (λ row. (row.fare.key.from ≡ from) × (row.fare.key.to ≡ to)) rows
   pub ascending : EachPair RowBefore rows
+
+-- the fare of the row is live and filed from the one place to the other, and the rule is its live rule
+pub record IsLiveRow (b : Book) (from to : Place) (row : SheetRow) : Type 0 where
+  pub filed_from : row.fare.key.from ≡ from
+  pub filed_to : row.fare.key.to ≡ to
+  pub fare : live_fare b row.fare.key ≡ Some row.fare
+  pub rule : live_rule b row.fare.key.carrier row.fare.rule ≡ Some row.rule
+
+-- The book's sheet of a market: its live fares in order, of which there is one at least.
+pub record SheetOf (b : Book) (from to : Place) (sheet : Sheet) : Type 0 where
+  pub filed_from : sheet.from ≡ from
+  pub filed_to : sheet.to ≡ to
+  pub some : sheet.rows ≢ []
+  pub ascending : EachPair RowBefore sheet.rows
+  pub live : (row : SheetRow) → IsIn row sheet.rows ↔ IsLiveRow b from to row

@@ -9,11 +9,6 @@ use Rattle.fare_law.specs.Lists.{Each}
 use Rattle.fare_law.specs.Parts.{Shape}
 use Rattle.flight_paths.specs.declared.positions.Position.{Position}
 
--- the flights stand in the order of their departures
-abbrev pub Ascending : List Flight → Type 0
-Ascending [] = Unit {0}
-Ascending (f ∷ fs) = Each (λ g. f.dep ≤ℤ g.dep) fs × Ascending fs
-
 abbrev pub is_zero : ℕ → Bool
 is_zero zero = true
 is_zero (suc n) = false

@@ -5,7 +5,7 @@ ghost use Rattle.std.specs.Int.{IsInRange};
 ghost use Rattle.fare_law.specs.Order.{IsBasis, IsCarrier};
 ghost use Rattle.market_time.specs.Dates.{IsInCentury};
 ghost use Rattle.json_form.specs.Members as Members;
-ghost use Rattle.name_text.specs.Names.{IsClass, IsPlace};
+ghost use Rattle.fare_law.specs.Limits.{IsClass, IsPlace};
 
 use fare_law::{Basis, Carrier, Class, Place};
 use market_time::day_of;

@@ -5,7 +5,8 @@ use Rattle.std.specs.List.{list_all}
 use Rattle.std.proofs.lemmas.Bool.Decides.{nat_tests}
 use Rattle.fare_law.specs.Lists.{Each}
 use Rattle.fare_law.specs.Order.{IsCharacter}
-use Rattle.name_text.specs.Names.{IsCapital, is_character}
+use Rattle.name_text.specs.Names.{is_character}
+use Rattle.fare_law.specs.Limits.{IsCapital}
 
 both : (a b : Bool) → (a && b) ≡ true → (a ≡ true) × (b ≡ true)
 both true b e = (refl, e)

@@ -11,17 +11,6 @@ use Rattle.fare_law.specs.declared.names.Basis.{Basis}
 abbrev pub is_character : ℕ → Bool
 is_character c = is_ascii_uppercase c || is_ascii_digit c
 
-abbrev pub IsCapital : ℕ → Type 0
-IsCapital c = (65 ≤ c) × (c ≤ 90)
-
--- a place of three capital letters
-abbrev pub IsPlace : Place → Type 0
-IsPlace p = (length p.0 ≡ 3) × Each IsCapital p.0
-
--- the class of a capital letter
-abbrev pub IsClass : ℕ → Type 0
-IsClass class = class ≤ 25
-
 -- three capital letters
 unfoldable pub place_of : List ℕ → Option Place
 place_of text = if (length text == 3) && list_all is_ascii_uppercase text then Some (record { 0 = text }) else None

@@ -5,7 +5,7 @@ ghost use Rattle.std.specs.List.{list_all};
 ghost use Rattle.fare_law.specs.Lists.{Each};
 ghost use Rattle.fare_law.specs.Order.{IsBasis, IsCarrier, IsCharacter};
 ghost use Rattle.name_text.specs.Names as Names;
-ghost use Rattle.name_text.specs.Names.{IsCapital, IsClass, IsPlace};
+ghost use Rattle.fare_law.specs.Limits.{IsCapital, IsClass, IsPlace};
 
 use fare_law::{ArrayVec, Basis, Carrier, Class, Place};
 

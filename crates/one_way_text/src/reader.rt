@@ -4,7 +4,7 @@ ghost use Rattle.std.specs.Result.{result_ok};
 ghost use Rattle.case_text.specs.Lines.{shown};
 ghost use Rattle.case_text.specs.Rows as Rows;
 ghost use Rattle.market_time.specs.Dates.{IsInCentury};
-ghost use Rattle.request_text.specs.Limits.{IsRequest};
+ghost use Rattle.fare_law.specs.Limits.{IsRequest};
 ghost use Rattle.one_way.specs.OneWay.{IsOneWay};
 ghost use Rattle.one_way_text.specs.Case as Case;
 ghost use Rattle.one_way_text.specs.Shown.{sections_shown};

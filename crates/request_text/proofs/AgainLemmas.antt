@@ -16,12 +16,14 @@ use Rattle.fare_law.specs.declared.names.Place.{Place}
 use Rattle.fare_law.specs.declared.requests.Request.{Request}
 use Rattle.fare_law.specs.declared.requests.Slice.{Slice}
 use Rattle.json_form.specs.Items.{each_item}
-use Rattle.name_text.specs.Names.{IsCapital, IsPlace, place_of}
+use Rattle.name_text.specs.Names.{place_of}
+use Rattle.fare_law.specs.Limits.{IsCapital, IsPlace}
 use Rattle.json_form.specs.Spelled.{spelled}
 use Rattle.request_text.specs.declared.asked.Asked.{Asked}
 use Rattle.request_text.specs.declared.asked.AskedSlice.{AskedSlice}
 use Rattle.request_text.specs.Form.{asked, slice_form}
-use Rattle.request_text.specs.Limits.{allowed, between, each_windowed, windowed, stays, HasWindow, Departs, IsRequest}
+use Rattle.request_text.specs.Limits.{allowed, between, each_windowed, windowed, stays}
+use Rattle.fare_law.specs.Limits.{IsSlice, EndsDiffer, IsRequest}
 use Rattle.request_text.specs.Reading.{request_of, request_spelled}
 use Rattle.request_text.specs.Text.{slice_members, request_members, WritesSlice, WritesSlices, WritesRequest}
 
@@ -50,12 +52,12 @@ as_asked s = record { from = s.from; to = s.to; first = s.first; days = pos s.da
 abbrev all_asked : Request → Asked
 all_asked q = record { terms = record { sale = q.sale; party = pos q.party; best = pos q.best }; slices = map as_asked q.slices }
 
-slice_again : (s : Slice) (d : Data) → HasWindow s → WritesSlice s d → slice_form d ≡ Some (as_asked s)
+slice_again : (s : Slice) (d : Data) → IsSlice s → WritesSlice s d → slice_form d ≡ Some (as_asked s)
 slice_again s d h w =
     let P = λ (x : Data). slice_form x ≡ Some (as_asked s) in
     subst P (sym w.written) (rw (place_again s.from h.from, place_again s.to h.to, w.day) refl)
 
-slices_again : (ss : List Slice) (ds : Items) → Each HasWindow ss → WritesSlices ss ds → each_item slice_form ds ≡ Some (map as_asked ss)
+slices_again : (ss : List Slice) (ds : Items) → Each IsSlice ss → WritesSlices ss ds → each_item slice_form ds ≡ Some (map as_asked ss)
 slices_again [] no_items h w = refl
 slices_again [] (item d ds) h w = absurd w
 slices_again (s ∷ ss) no_items h w = absurd w
@@ -67,7 +69,7 @@ asked_again q d h w =
     let P = λ (x : Data). asked x ≡ Some (all_asked q) in
     subst P (sym w.written) (rw (w.day, slices_again q.slices w.items h.windows w.slices) refl)
 
-windows_again : (ss : List Slice) → Each HasWindow ss → each_windowed (map as_asked ss) ≡ Some ss
+windows_again : (ss : List Slice) → Each IsSlice ss → each_windowed (map as_asked ss) ≡ Some ss
 windows_again [] h = refl
 windows_again (s ∷ ss) h = rw (le_true 1 s.days h.0.days.0, le_true s.days 7 h.0.days.1, windows_again ss h.1) refl
 
@@ -75,10 +77,10 @@ not_true : (b : Bool) → (b ≡ true → ⊥) → b ≡ false
 not_true true h = absurd (h refl)
 not_true false h = refl
 
-leaves : (s : Slice) → Departs s → stays s ≡ false
+leaves : (s : Slice) → EndsDiffer s → stays s ≡ false
 leaves s h = not_true (stays s) (λ e. h (ap {B = Place} (λ x. record { 0 = x }) ((bytes_eq-Decides s.from.0 s.to.0).0 e)))
 
-none_stays : (ss : List Slice) → Each Departs ss → list_any stays ss ≡ false
+none_stays : (ss : List Slice) → Each EndsDiffer ss → list_any stays ss ≡ false
 none_stays [] h = refl
 none_stays (s ∷ ss) h = rw (leaves s h.0) (none_stays ss h.1)
 

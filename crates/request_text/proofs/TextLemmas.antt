@@ -9,8 +9,8 @@ use Rattle.serde_json.specs.declared.value.Value.{Value}
 use Rattle.fare_law.specs.Lists.{Each}
 use Rattle.fare_law.specs.declared.requests.Slice.{Slice}
 use Rattle.fare_law.specs.declared.names.Place.{Place}
-use Rattle.name_text.specs.Names.{IsPlace, IsCapital}
-use Rattle.request_text.specs.Limits.{HasWindow}
+use Rattle.fare_law.specs.Limits.{IsPlace, IsCapital}
+use Rattle.fare_law.specs.Limits.{IsSlice}
 use Rattle.request_text.specs.Text.{WritesSlice, WritesSlices}
 
 pub ascii_is_utf8 : (bs : List ℕ) → IsAscii bs → IsUtf8 bs
@@ -37,7 +37,7 @@ pub slices_whole : (ss : List Slice) (vs : List Value) (i : ℕ) → length ss �
 slices_whole ss vs i l h = let e = take_all i ss l in subst (λ (xs : List Slice). WritesSlices xs (items_view vs)) e h
 
 -- what each slice has, the one at this place has
-pub window_at : (ss : List Slice) (i : ℕ) (d : Slice) → i < length ss → Each HasWindow ss → HasWindow (get_or ss i d)
+pub window_at : (ss : List Slice) (i : ℕ) (d : Slice) → i < length ss → Each IsSlice ss → IsSlice (get_or ss i d)
 window_at [] i d l h = absurd (omega arith)
 window_at (s ∷ ss) zero d l h = h.0
 window_at (s ∷ ss) (suc i) d l h = window_at ss i d (omega arith) h.1

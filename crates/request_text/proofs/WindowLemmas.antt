@@ -7,7 +7,8 @@ use Rattle.std.specs.List.{list_any}
 use Rattle.std.proofs.lemmas.Slice.Eq.{bytes_eq-Decides}
 use Rattle.fare_law.specs.Lists.{Each}
 use Rattle.request_text.specs.Form.{IsAskedSlice}
-use Rattle.request_text.specs.Limits.{windowed, each_windowed, HasWindow, Departs, stays}
+use Rattle.request_text.specs.Limits.{windowed, each_windowed, stays}
+use Rattle.fare_law.specs.Limits.{IsSlice, EndsDiffer}
 
 -- slices that stand before the others
 abbrev pub after : List Slice → Option (List Slice) → Option (List Slice)
@@ -47,7 +48,7 @@ asked_at (s ∷ ss) zero d l h = h.0
 asked_at (s ∷ ss) (suc i) d l h = asked_at ss i d (omega arith) h.1
 
 -- one more slice with a window
-pub windows_grow : (front : List Slice) (s : Slice) → Each HasWindow front → HasWindow s → Each HasWindow (front ++ s ∷ [])
+pub windows_grow : (front : List Slice) (s : Slice) → Each IsSlice front → IsSlice s → Each IsSlice (front ++ s ∷ [])
 windows_grow [] s h w = (w, tt)
 windows_grow (x ∷ xs) s h w = (h.0, windows_grow xs s h.1 w)
 
@@ -57,10 +58,10 @@ neither : (a b : Bool) → (a || b) ≡ false → (a ≡ false) × (b ≡ false)
 neither true b e = absurd (cc)
 neither false b e = (refl, e)
 
-departs : (s : Slice) → stays s ≡ false → Departs s
+departs : (s : Slice) → stays s ≡ false → EndsDiffer s
 departs s e same = let t = (bytes_eq-Decides s.from.0 s.to.0).1 (ap (λ p. p.0) same) in absurd (cc)
 
 -- where no slice stays, each departs
-pub all_depart : (ss : List Slice) → list_any stays ss ≡ false → Each Departs ss
+pub all_depart : (ss : List Slice) → list_any stays ss ≡ false → Each EndsDiffer ss
 all_depart [] e = tt
 all_depart (s ∷ ss) e = let h = neither (stays s) (list_any stays ss) e in (departs s h.0, all_depart ss h.1)

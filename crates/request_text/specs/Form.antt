@@ -5,7 +5,7 @@ use Rattle.serde_json.specs.Find.{get}
 use Rattle.json_form.specs.Items.{each_item}
 use Rattle.fare_law.specs.Lists.{Each}
 use Rattle.market_time.specs.Dates.{IsInCentury}
-use Rattle.name_text.specs.Names.{IsPlace}
+use Rattle.fare_law.specs.Limits.{IsPlace}
 use Rattle.json_form.specs.Members.{has_members, items_at, whole_at, date_at, place_at}
 use Rattle.request_text.specs.declared.asked.Asked.{Asked}
 use Rattle.request_text.specs.declared.asked.AskedSlice.{AskedSlice}

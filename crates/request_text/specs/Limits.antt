@@ -9,7 +9,7 @@ use Rattle.fare_law.specs.declared.requests.Slice.{Slice}
 use Rattle.fare_law.specs.declared.requests.Why.{Why}
 use Rattle.fare_law.specs.declared.requests.Why.TheVariants.{Slices, Party, Best, Window, SamePlace}
 use Rattle.market_time.specs.Dates.{IsInCentury}
-use Rattle.name_text.specs.Names.{IsPlace}
+use Rattle.fare_law.specs.Limits.{IsPlace}
 use Rattle.request_text.specs.declared.asked.Asked.{Asked}
 use Rattle.request_text.specs.declared.asked.AskedSlice.{AskedSlice}
 
@@ -44,22 +44,3 @@ allowed a = if nat_le 1 (length a.slices) && nat_le (length a.slices) 6 then (do
   slices ← ok_or (each_windowed a.slices) Window
   if list_any stays slices then Err SamePlace
       else Ok (record { sale = a.terms.sale; party = party; best = best; slices = slices })) else Err Slices
-
--- a slice between places, on days of the century, with a window of 1 to 7 days
-pub record HasWindow (s : Slice) : Type 0 where
-  pub from : IsPlace s.from
-  pub to : IsPlace s.to
-  pub first : IsInCentury s.first
-  pub days : IsInRange 1 7 s.days
-
-abbrev pub Departs : Slice → Type 0
-Departs s = s.from ≢ s.to
-
--- a request within its limits
-pub record IsRequest (q : Request) : Type 0 where
-  pub sale : IsInCentury q.sale
-  pub party : IsInRange 1 9 q.party
-  pub best : IsInRange 1 1000 q.best
-  pub count : IsInRange 1 6 (length q.slices)
-  pub windows : Each HasWindow q.slices
-  pub departs : Each Departs q.slices

@@ -14,7 +14,7 @@ use fare_law::{ArrayVec, Request, Slice, Why};
 pub fn allowed(asked: &Asked) -> Result<Request, Why>
     requires { IsAsked asked.now }
     ensures value { result ≡ Limits.allowed asked.now }
-    ensures limits { IfOk result Limits.IsRequest }
+    ensures limits { IfOk result IsRequest }
 {
     let slices = asked.slices.as_slice();
     if slices.is_empty() || slices.len() > 6 {
@@ -53,7 +53,7 @@ fn windowed_each(slices: &[AskedSlice]) -> Option<ArrayVec<Slice, 6>>
     requires few { length slices.now ≤ 6 }
     requires each { Each IsAskedSlice slices.now }
     ensures value { result ≡ Limits.each_windowed slices.now }
-    ensures windows { IfSome result (Each Limits.HasWindow) }
+    ensures windows { IfSome result (Each IsSlice) }
     ensures count { IfSome result (λ found. length found ≡ length slices.now) }
 {
     let mut found = ArrayVec::new();
@@ -67,7 +67,7 @@ fn windowed_each(slices: &[AskedSlice]) -> Option<ArrayVec<Slice, 6>>
 fn windowed(slice: &AskedSlice) -> Option<Slice>
     requires { IsAskedSlice slice.now }
     ensures value { result ≡ Limits.windowed slice.now }
-    ensures window { IfSome result Limits.HasWindow }
+    ensures window { IfSome result IsSlice }
 {
     let days = between(slice.days, 1, 7)?;
     Some(Slice {

@@ -1,7 +1,7 @@
 //! Reading a request.
 ghost use Rattle.std.specs.Prelude.{◌≡◌, IfOk};
 ghost use Rattle.request_text.specs.Form.{IsAsked};
-ghost use Rattle.request_text.specs.Limits.{IsRequest};
+ghost use Rattle.fare_law.specs.Limits.{IsRequest};
 ghost use Rattle.request_text.specs.Reading.{request_of, Tells, judged};
 
 use crate::RequestFault;

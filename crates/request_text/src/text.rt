@@ -4,8 +4,8 @@ ghost use Rattle.std.specs.Str.{IsAscii};
 ghost use Rattle.serde_json.specs.Data.{object};
 ghost use Rattle.serde_json.specs.View.{view, items_view};
 ghost use Rattle.fare_law.specs.Lists.{Each};
-ghost use Rattle.name_text.specs.Names.{IsPlace};
-ghost use Rattle.request_text.specs.Limits.{HasWindow, IsRequest};
+ghost use Rattle.fare_law.specs.Limits.{IsPlace};
+ghost use Rattle.fare_law.specs.Limits.{IsSlice, IsRequest};
 ghost use Rattle.request_text.specs.Reading.{request_of};
 ghost use Rattle.request_text.specs.Text as Text;
 ghost use Rattle.request_text.specs.Text.{Writes, WritesRequest, WritesSlice, WritesSlices};
@@ -46,7 +46,7 @@ fn request_value(alloc: Global, request: &Request) -> Result<Value, Mem>
 // Slices as JSON values.
 #[tactic(auto, using(crate::proofs::TextLemmas::slice_steps))]
 fn slice_values(alloc: Global, slices: &[Slice]) -> Result<Vec<Value>, Mem>
-    requires { Each HasWindow slices.now }
+    requires { Each IsSlice slices.now }
     ensures { IfOk result (λ values. WritesSlices slices.now (items_view values.items)) }
 {
     let mut values = Vec::new(alloc);
@@ -58,7 +58,7 @@ fn slice_values(alloc: Global, slices: &[Slice]) -> Result<Vec<Value>, Mem>
 
 // A slice as a JSON value.
 fn slice_value(alloc: Global, slice: &Slice) -> Result<Value, Mem>
-    requires { HasWindow slice.now }
+    requires { IsSlice slice.now }
     ensures { IfOk result (λ value. WritesSlice slice.now (view value)) }
 {
     let first = day_text(slice.first);

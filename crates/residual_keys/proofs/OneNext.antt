@@ -14,7 +14,8 @@ use Rattle.flight_paths.specs.declared.positions.Position.{Position}
 use Rattle.fare_law.specs.declared.moves.Role.{Role}
 use Rattle.fare_law.specs.declared.moves.Role.TheVariants.{Alone, Opens, GoesOn, Closes}
 use Rattle.open_unit.specs.OpenUnits.{gone_on}
-use Rattle.flight_paths.specs.Positions.{Ascending, Flies, LeadsTo, before_slice}
+use Rattle.flight_paths.specs.Positions.{Flies, LeadsTo, before_slice}
+use Rattle.fare_law.specs.Flights.{Ascending}
 use Rattle.residual_keys.specs.Residuals.{State, begins, part_with, UnitStep, Moves, Run, no_part, LeadsFrom}
 use Rattle.residual_keys.specs.NothingLost.{SameCompletions}
 use Rattle.ticket_order.specs.Coding.{Coded}

@@ -6,7 +6,7 @@ use Rattle.fare_law.specs.Book.{Book}
 use Rattle.fare_law.specs.Lawful.{Lawful}
 use Rattle.fare_law.specs.Lists.{Each, EachPair, Matched, IsIn}
 use Rattle.fare_law.specs.Order.{Before, Cheaper, Best, code}
-use Rattle.flight_paths.specs.Positions.{Ascending}
+use Rattle.fare_law.specs.Flights.{Ascending}
 use Rattle.fare_law.specs.Moves.{moves_of, run_code}
 use Rattle.residual_keys.specs.Searches.{Drawn, IsDrawn, DrawnBefore, BestRuns, TicketOf}
 use Rattle.residual_keys.proofs.Known.{Known}

@@ -1,14 +1,13 @@
 -- The keys by which a search asks for offers: for each path of a residual, its legs with a sheet of the book.
-use Rattle.std.specs.Prelude.{◌≡◌, ◌≢◌, ◌⊎◌, ◌↔◌, ℕ, ◌≤◌, ◌<◌, List, [], Option, Some, IsBitSet}
+use Rattle.std.specs.Prelude.{◌≡◌, ◌≢◌, ◌⊎◌, ◌↔◌, ℕ, ◌≤◌, ◌<◌, List, [], Option, IsBitSet}
 use Rattle.fare_law.specs.declared.flights.Flight.{Flight}
 use Rattle.fare_law.specs.declared.market.OfferKey.{OfferKey}
 use Rattle.fare_law.specs.declared.names.Place.{Place}
 use Rattle.fare_law.specs.declared.requests.Request.{Request}
 use Rattle.fare_law.specs.declared.sheets.Leg.{Leg}
-use Rattle.fare_law.specs.declared.sheets.SheetRow.{SheetRow}
-use Rattle.fare_law.specs.Book.{Book, live_fare, live_rule, seats}
-use Rattle.fare_law.specs.Lists.{EachPair, IsIn, Matched, OnFirst, OnLast}
-use Rattle.fare_law.specs.Sheets.{Sheet, RowBefore}
+use Rattle.fare_law.specs.Book.{Book, seats}
+use Rattle.fare_law.specs.Lists.{Matched, OnFirst, OnLast}
+use Rattle.fare_law.specs.Sheets.{SheetOf}
 use Rattle.flight_paths.specs.declared.positions.Position.{Position}
 use Rattle.flight_paths.specs.Positions.{IsPath}
 use Rattle.residual_keys.specs.Residuals.{State}
@@ -18,21 +17,6 @@ use Rattle.residual_keys.specs.Searches.{Reached}
 pub record IsLeg (b : Book) (party : ℕ) (f : Flight) (leg : Leg) : Type 0 where
   pub flight : leg.flight ≡ f
   pub classes : (class : ℕ) → class < 32 → IsBitSet leg.classes class ↔ (party ≤ seats b f class)
-
--- the fare of the row is live and filed from the one place to the other, and the rule is its live rule
-pub record IsLiveRow (b : Book) (from to : Place) (row : SheetRow) : Type 0 where
-  pub filed_from : row.fare.key.from ≡ from
-  pub filed_to : row.fare.key.to ≡ to
-  pub fare : live_fare b row.fare.key ≡ Some row.fare
-  pub rule : live_rule b row.fare.key.carrier row.fare.rule ≡ Some row.rule
-
--- The book's sheet of a market: its live fares in order, of which there is one at least.
-pub record SheetOf (b : Book) (from to : Place) (sheet : Sheet) : Type 0 where
-  pub filed_from : sheet.from ≡ from
-  pub filed_to : sheet.to ≡ to
-  pub some : sheet.rows ≢ []
-  pub ascending : EachPair RowBefore sheet.rows
-  pub live : (row : SheetRow) → IsIn row sheet.rows ↔ IsLiveRow b from to row
 
 -- the key has these flights as legs, and the book's sheet from the one place to the other
 abbrev pub IsKey : Book → Request → List Flight → Place → Place → OfferKey → Type 0

@@ -8,7 +8,7 @@ ghost use Rattle.fare_law.specs.Lawful.{Lawful};
 ghost use Rattle.fare_law.specs.Lists.{Matched};
 ghost use Rattle.fare_law.specs.Moves.{moves_of, run_code};
 ghost use Rattle.fare_law.specs.Order.{Best, Cheaper, HasKeys, code};
-ghost use Rattle.flight_paths.specs.Positions.{Ascending};
+ghost use Rattle.fare_law.specs.Flights.{Ascending};
 ghost use Rattle.open_unit.specs.OpenUnits.{unit_steps};
 ghost use Rattle.residual_keys.specs.Kept.{IsResidual};
 ghost use Rattle.residual_keys.specs.NothingLost.{OneTicket, RunsAreTickets, SameCompletions, TicketsAreRuns};

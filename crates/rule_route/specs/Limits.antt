@@ -1,11 +1,9 @@
 -- How late a flight may be, and how much a rule may ask, for sums that fit.
-use Rattle.std.specs.Prelude.{ℤ, pos, ◌≤◌, ◌≤ℤ◌, IfSome, All}
+use Rattle.std.specs.Prelude.{◌≤◌, IfSome, All}
+use Rattle.fare_law.specs.Days.{IsInstant}
 use Rattle.fare_law.specs.declared.flights.Flight.{Flight}
 use Rattle.fare_law.specs.declared.rules.Rule.{Rule}
 use Rattle.fare_law.specs.declared.rules.Surcharge.{Surcharge}
-
-abbrev pub IsInstant : ℤ → Type 0
-IsInstant t = (pos 0 ≤ℤ t) × (t ≤ℤ pos 100000000)
 
 -- it departs and arrives at instants, in minutes since 1970-01-01 00:00
 abbrev pub IsTimed : Flight → Type 0

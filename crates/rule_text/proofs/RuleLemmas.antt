@@ -8,7 +8,7 @@ use Rattle.fare_law.specs.declared.rules.DayRange.{DayRange}
 use Rattle.fare_law.specs.declared.rules.Rule.{Rule}
 use Rattle.fare_law.specs.declared.rules.StopRule.{StopRule}
 use Rattle.fare_law.specs.declared.rules.TravelRule.{TravelRule}
-use Rattle.rule_text.specs.Limits.{IsStopRule}
+use Rattle.fare_law.specs.RuleLimits.{IsStopRule}
 use Rattle.rule_text.specs.Members.{list_of, only_named, optional_at}
 use Rattle.rule_text.specs.Parts.{date_of, day_range_of, days_of, place_form}
 use Rattle.rule_text.specs.Rules.{combine_rule_of, day_time_of, flight_rule_of, min_stay_of, rule_names, rule_of, stop_rule_of, surcharge_of, transfer_rule_of, travel_rule_of}

@@ -8,7 +8,7 @@ use Rattle.fare_law.specs.declared.names.Carrier.{Carrier}
 use Rattle.fare_law.specs.declared.names.Place.{Place}
 use Rattle.market_time.specs.Clock.{minute_spelled, time_text}
 use Rattle.market_time.proofs.ClockLemmas.{minutes_written}
-use Rattle.name_text.specs.Names.{IsCapital, IsPlace}
+use Rattle.fare_law.specs.Limits.{IsCapital, IsPlace}
 
 pub ascii_is_utf8 : (bs : List ℕ) → IsAscii bs → IsUtf8 bs
 ascii_is_utf8 = IsUtf8-from_ascii

@@ -1,4 +1,3 @@
-pub mod Limits
 pub mod Members
 pub mod Parts
 pub mod Rules

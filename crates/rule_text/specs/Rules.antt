@@ -77,13 +77,6 @@ unit_kind_spelled text =
 abbrev pub unit_kind_of : Data → Result UnitKind RuleFault
 unit_kind_of d = ok_or (option_and_then unit_kind_spelled (as_str d)) Range
 
--- where a kind stands in their order
-abbrev pub rank_of_kind : UnitKind → ℕ
-rank_of_kind OneWay = 0
-rank_of_kind RoundTrip = 1
-rank_of_kind OpenJaw = 2
-rank_of_kind Circle = 3
-
 abbrev pub partners_spelled : List ℕ → Option Partners
 partners_spelled text =
     if bytes_eq text (codes "any") then Some Any

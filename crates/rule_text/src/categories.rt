@@ -18,7 +18,7 @@ use std::alloc::Global;
 
 impl RulePart for DayTime {
     ghost use Rattle.rule_text.specs.Rules.{day_time_of};
-    ghost use Rattle.rule_text.specs.Limits.{IsDayTime};
+    ghost use Rattle.fare_law.specs.RuleLimits.{IsDayTime};
 
     ghost form = { day_time_of };
 
@@ -48,7 +48,7 @@ impl RulePart for DayTime {
 
 impl RulePart for FlightRule {
     ghost use Rattle.rule_text.specs.Rules.{flight_rule_of};
-    ghost use Rattle.rule_text.specs.Limits.{IsFlightRule};
+    ghost use Rattle.fare_law.specs.RuleLimits.{IsFlightRule};
 
     ghost form = { flight_rule_of };
 
@@ -73,7 +73,7 @@ impl RulePart for FlightRule {
 
 impl RulePart for MinStay {
     ghost use Rattle.rule_text.specs.Rules.{min_stay_of};
-    ghost use Rattle.rule_text.specs.Limits.{IsMinStay};
+    ghost use Rattle.fare_law.specs.RuleLimits.{IsMinStay};
 
     ghost form = { min_stay_of };
 
@@ -97,7 +97,7 @@ impl RulePart for MinStay {
 
 impl RulePart for StopRule {
     ghost use Rattle.rule_text.specs.Rules.{stop_rule_of};
-    ghost use Rattle.rule_text.specs.Limits.{IsStopRule};
+    ghost use Rattle.fare_law.specs.RuleLimits.{IsStopRule};
 
     ghost form = { stop_rule_of };
 
@@ -123,7 +123,7 @@ impl RulePart for StopRule {
 
 impl RulePart for TransferRule {
     ghost use Rattle.rule_text.specs.Rules.{transfer_rule_of};
-    ghost use Rattle.rule_text.specs.Limits.{IsTransferRule};
+    ghost use Rattle.fare_law.specs.RuleLimits.{IsTransferRule};
 
     ghost form = { transfer_rule_of };
 
@@ -147,7 +147,7 @@ impl RulePart for TransferRule {
 
 impl RulePart for Surcharge {
     ghost use Rattle.rule_text.specs.Rules.{surcharge_of};
-    ghost use Rattle.rule_text.specs.Limits.{IsSurcharge};
+    ghost use Rattle.fare_law.specs.RuleLimits.{IsSurcharge};
 
     ghost form = { surcharge_of };
 
@@ -195,7 +195,7 @@ impl RulePart for Surcharge {
 
 impl RulePart for TravelRule {
     ghost use Rattle.rule_text.specs.Rules.{travel_rule_of};
-    ghost use Rattle.rule_text.specs.Limits.{IsTravelRule};
+    ghost use Rattle.fare_law.specs.RuleLimits.{IsTravelRule};
 
     ghost form = { travel_rule_of };
 

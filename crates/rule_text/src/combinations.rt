@@ -14,7 +14,7 @@ use std::alloc::Global;
 
 impl RulePart for CombineRule {
     ghost use Rattle.rule_text.specs.Rules.{combine_rule_of};
-    ghost use Rattle.rule_text.specs.Limits.{IsCombineRule};
+    ghost use Rattle.fare_law.specs.RuleLimits.{IsCombineRule};
 
     ghost form = { combine_rule_of };
 
@@ -48,7 +48,7 @@ impl RulePart for CombineRule {
 
 impl RulePart for UnitKind {
     ghost use Rattle.rule_text.specs.Rules.{unit_kind_of};
-    ghost use Rattle.rule_text.specs.Limits.{IsAnyKind};
+    ghost use Rattle.fare_law.specs.RuleLimits.{IsAnyKind};
 
     ghost form = { unit_kind_of };
 

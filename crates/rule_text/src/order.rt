@@ -24,7 +24,7 @@ impl Ranked for u8 {
 }
 
 impl Ranked for UnitKind {
-    ghost use Rattle.rule_text.specs.Rules.{rank_of_kind};
+    ghost use Rattle.fare_law.specs.RuleLimits.{rank_of_kind};
 
     ghost rank = { rank_of_kind };
 

@@ -3,7 +3,7 @@ ghost use Rattle.std.specs.Prelude.{◌≡◌, ◌≤◌, ◌+◌, ℕ, Result, 
 ghost use Rattle.serde_json.specs.Data.{Data};
 ghost use Rattle.serde_json.specs.View.{view, items_view};
 ghost use Rattle.fare_law.specs.Lists.{Each};
-ghost use Rattle.rule_text.specs.Limits.{IsListOf};
+ghost use Rattle.fare_law.specs.RuleLimits.{IsListOf};
 ghost use Rattle.rule_text.specs.Members as Members;
 ghost use Rattle.rule_text.specs.Written.{Spells, SpellsEach};
 ghost use Rattle.rule_text.specs.declared.fault.RuleFault.{RuleFault as Fault};

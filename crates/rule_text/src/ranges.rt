@@ -3,7 +3,7 @@ ghost use Rattle.std.specs.Prelude.{◌≡◌, IfOk, IfSome};
 ghost use Rattle.serde_json.specs.View.{view};
 ghost use Rattle.rule_text.specs.Members as Members;
 ghost use Rattle.rule_text.specs.Parts as Parts;
-ghost use Rattle.rule_text.specs.Limits.{IsDayRange, IsFlightRange};
+ghost use Rattle.fare_law.specs.RuleLimits.{IsDayRange, IsFlightRange};
 ghost use Rattle.rule_text.specs.Written as Written;
 
 use crate::RuleFault;

@@ -1,7 +1,7 @@
 //! Reading a rule.
 ghost use Rattle.std.specs.Prelude.{◌≡◌, IfOk};
 ghost use Rattle.serde_json.specs.View.{view};
-ghost use Rattle.rule_text.specs.Limits.{IsRule};
+ghost use Rattle.fare_law.specs.RuleLimits.{IsRule};
 ghost use Rattle.rule_text.specs.Rules.{rule_of};
 
 use crate::RuleFault;

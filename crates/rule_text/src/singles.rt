@@ -3,7 +3,7 @@ ghost use Rattle.std.specs.Prelude.{◌≡◌, ◌<◌, IfOk, IfSome};
 ghost use Rattle.std.specs.Int.{IsInRange};
 ghost use Rattle.serde_json.specs.View.{view};
 ghost use Rattle.market_time.specs.Dates.{IsInCentury};
-ghost use Rattle.name_text.specs.Names.{IsPlace};
+ghost use Rattle.fare_law.specs.Limits.{IsPlace};
 ghost use Rattle.rule_text.specs.Parts as Parts;
 
 use crate::RuleFault;
@@ -19,7 +19,7 @@ use std::alloc::Global;
 // A weekday: 1 for Monday to 7 for Sunday.
 impl RulePart for u8 {
     ghost use Rattle.rule_text.specs.Parts.{weekday_of};
-    ghost use Rattle.rule_text.specs.Limits.{IsWeekday};
+    ghost use Rattle.fare_law.specs.RuleLimits.{IsWeekday};
 
     ghost form = { weekday_of };
 
@@ -41,7 +41,7 @@ impl RulePart for u8 {
 // Days before or after a departure: 0 to 365.
 impl RulePart for u16 {
     ghost use Rattle.rule_text.specs.Parts.{days_of};
-    ghost use Rattle.rule_text.specs.Limits.{IsDays};
+    ghost use Rattle.fare_law.specs.RuleLimits.{IsDays};
 
     ghost form = { days_of };
 

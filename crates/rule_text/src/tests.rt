@@ -1,6 +1,6 @@
 //! Rules of known values.
 ghost use Rattle.std.specs.Prelude.{IfOk, IfSome};
-ghost use Rattle.rule_text.specs.Limits.{IsRule};
+ghost use Rattle.fare_law.specs.RuleLimits.{IsRule};
 
 use crate::*;
 use fare_law::{

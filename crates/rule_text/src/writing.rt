@@ -2,7 +2,7 @@
 ghost use Rattle.std.specs.Prelude.{◌≡◌, IfOk, codes};
 ghost use Rattle.serde_json.specs.Data.{Data, Members, object, put};
 ghost use Rattle.serde_json.specs.View.{view, members_view};
-ghost use Rattle.rule_text.specs.Limits.{IsRule};
+ghost use Rattle.fare_law.specs.RuleLimits.{IsRule};
 ghost use Rattle.rule_text.specs.Rules.{rule_of};
 ghost use Rattle.rule_text.specs.Written.{IsBare, Spells};
 

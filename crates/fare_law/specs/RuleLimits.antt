@@ -1,6 +1,8 @@
--- The limits of a rule.
+-- The limits of a fare's rule.
 use Rattle.std.specs.Prelude.{◌<◌, ◌≤◌, ◌≤ℤ◌, ℕ, List, length, IfSome}
 use Rattle.std.specs.Int.{IsInRange}
+use Rattle.fare_law.specs.Days.{IsCalendarDay}
+use Rattle.fare_law.specs.Limits.{IsPlace}
 use Rattle.fare_law.specs.Lists.{Each, EachPair}
 use Rattle.fare_law.specs.Order.{IsCarrier}
 use Rattle.fare_law.specs.declared.rules.CombineRule.{CombineRule}
@@ -15,9 +17,7 @@ use Rattle.fare_law.specs.declared.rules.Surcharge.{Surcharge}
 use Rattle.fare_law.specs.declared.rules.TransferRule.{TransferRule}
 use Rattle.fare_law.specs.declared.rules.TravelRule.{TravelRule}
 use Rattle.fare_law.specs.declared.rules.UnitKind.{UnitKind}
-use Rattle.market_time.specs.Dates.{IsInCentury}
-use Rattle.name_text.specs.Names.{IsPlace}
-use Rattle.rule_text.specs.Rules.{rank_of_kind}
+use Rattle.fare_law.specs.declared.rules.UnitKind.TheVariants.{OneWay, RoundTrip, OpenJaw, Circle}
 
 -- 1 to `most` of these
 pub record IsListOf {A : Type 0} (most : ℕ) (P : A → Type 0) (xs : List A) : Type 0 where
@@ -32,8 +32,8 @@ abbrev pub IsDays : ℕ → Type 0
 IsDays days = days ≤ 365
 
 pub record IsDayRange (r : DayRange) : Type 0 where
-  pub first : IsInCentury r.first
-  pub last : IsInCentury r.last
+  pub first : IsCalendarDay r.first
+  pub last : IsCalendarDay r.last
   pub in_turn : r.first ≤ℤ r.last
 
 pub record IsFlightRange (r : FlightRange) : Type 0 where
@@ -62,6 +62,13 @@ pub record IsStopRule (r : StopRule) : Type 0 where
 abbrev pub IsTransferRule : TransferRule → Type 0
 IsTransferRule r = r.max ≤ 3
 
+-- where a kind stands in their order
+abbrev pub rank_of_kind : UnitKind → ℕ
+rank_of_kind OneWay = 0
+rank_of_kind RoundTrip = 1
+rank_of_kind OpenJaw = 2
+rank_of_kind Circle = 3
+
 abbrev pub IsAnyKind : UnitKind → Type 0
 IsAnyKind kind = Unit {0}
 
@@ -78,14 +85,14 @@ pub record IsSurcharge (s : Surcharge) : Type 0 where
   pub low : 1 ≤ s.low
   pub flights_in_turn : s.low ≤ s.high
   pub high : s.high ≤ 9999
-  pub first : IsInCentury s.first
-  pub last : IsInCentury s.last
+  pub first : IsCalendarDay s.first
+  pub last : IsCalendarDay s.last
   pub days_in_turn : s.first ≤ℤ s.last
   pub amount : s.amount ≤ 1000000
 
 pub record IsTravelRule (r : TravelRule) : Type 0 where
   pub ranges : IfSome r.ranges (IsListOf 8 IsDayRange)
-  pub by : IfSome r.by IsInCentury
+  pub by : IfSome r.by IsCalendarDay
 
 -- a rule within its limits: those of each category that it has
 pub record IsRule (r : Rule) : Type 0 where
