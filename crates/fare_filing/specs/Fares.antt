@@ -1,13 +1,11 @@
 -- The fare that a JSON value spells.
-use Rattle.std.specs.Prelude.{◌≤◌, ℕ, List, bytes_eq, if◌then◌else◌, Option, Some, None, option_and_then, codes}
+use Rattle.std.specs.Prelude.{ℕ, List, bytes_eq, if◌then◌else◌, Option, Some, None, option_and_then, codes}
 use Rattle.serde_json.specs.Data.{Data}
-use Rattle.fare_law.specs.Order.{IsBasis, IsCarrier}
 use Rattle.fare_law.specs.declared.fares.Fare.{Fare}
 use Rattle.fare_law.specs.declared.fares.FareKey.{FareKey}
 use Rattle.fare_law.specs.declared.fares.FareKind.{FareKind}
 use Rattle.fare_law.specs.declared.fares.FareKind.TheVariants.{O, R, S}
 use Rattle.json_form.specs.Members.{has_members, text_at, between_at, place_at, carrier_at, basis_at, class_at}
-use Rattle.fare_law.specs.Limits.{IsClass, IsPlace}
 
 -- one thing after another, as long as each is there
 infixl 10 ◌>>=◌

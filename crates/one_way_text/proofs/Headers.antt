@@ -1,7 +1,6 @@
 -- The first header among lines.
 use Rattle.std.proofs.Common.{◌≡◌, ◌<◌, ◌≤◌, ◌+◌, ℕ, zero, suc, List, [], ◌∷◌, length, take, drop, get_or, map, refl, ap, sym, ◌∙◌, add-one, arith, subst, true, false, cond}
 use Rattle.std.proofs.lemmas.List.{drop_all}
-use Rattle.fare_law.specs.declared.rows.TextLine.{TextLine}
 use Rattle.case_text.specs.declared.lines.Line.{Line}
 use Rattle.case_text.specs.Lines.{shown}
 use Rattle.one_way_text.specs.Sections.{Section, begins_header, before_header}

@@ -1,5 +1,5 @@
 -- The sections of a search case, in their order.
-use Rattle.std.specs.Prelude.{ℕ, suc, Bool, true, false, ◌==◌, ◌&&◌, cond, List, [], ◌∷◌, take, drop, Option, Some, None, option_and_then, codes, bytes_eq, if◌then◌else◌}
+use Rattle.std.specs.Prelude.{ℕ, suc, Bool, false, ◌==◌, cond, List, [], ◌∷◌, take, drop, Option, Some, None, option_and_then, codes, bytes_eq, if◌then◌else◌}
 use Rattle.fare_law.specs.declared.rows.TextLine.{TextLine}
 
 infixl 10 ◌>>=◌

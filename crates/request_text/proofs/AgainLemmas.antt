@@ -1,5 +1,5 @@
 -- A request within its limits that was written is read again as itself.
-use Rattle.std.proofs.Common.{◌≡◌, ◌≢◌, ◌≤◌, ◌+◌, ℕ, zero, suc, max, pos, nat_le, eq-eqb, Bool, true, false, ◌||◌, List, [], ◌∷◌, length, map, Option, Some, None, Ok, refl, arith, sym, subst, ap}
+use Rattle.std.proofs.Common.{◌≡◌, ◌≤◌, ℕ, max, pos, nat_le, eq-eqb, Bool, true, false, ◌||◌, List, [], ◌∷◌, length, map, Some, Ok, refl, arith, sym, subst, ap}
 use Rattle.std.specs.Char.{is_ascii_uppercase}
 use Rattle.std.specs.Int.{IsInRange}
 use Rattle.std.specs.List.{list_all, list_any}
@@ -8,7 +8,7 @@ use Rattle.std.proofs.lemmas.Bool.Decides.{nat_tests}
 use Rattle.std.proofs.lemmas.List.{length-map}
 use Rattle.std.proofs.lemmas.Slice.Eq.{bytes_eq-Decides}
 use Rattle.std.proofs.lemmas.Str.{is_utf8-from_IsUtf8}
-use Rattle.serde_json.specs.Data.{Data, Items, no_items, item, depth, items_depth, array}
+use Rattle.serde_json.specs.Data.{Data, Items, no_items, item, depth, items_depth}
 use Rattle.serde_json.specs.Read.{read, max_depth}
 use Rattle.serde_json.specs.Written.{has_float, items_have_float}
 use Rattle.fare_law.specs.Lists.{Each}
@@ -22,10 +22,10 @@ use Rattle.json_form.specs.Spelled.{spelled}
 use Rattle.request_text.specs.declared.asked.Asked.{Asked}
 use Rattle.request_text.specs.declared.asked.AskedSlice.{AskedSlice}
 use Rattle.request_text.specs.Form.{asked, slice_form}
-use Rattle.request_text.specs.Limits.{allowed, between, each_windowed, windowed, stays}
+use Rattle.request_text.specs.Limits.{allowed, between, each_windowed, stays}
 use Rattle.fare_law.specs.Limits.{IsSlice, EndsDiffer, IsRequest}
 use Rattle.request_text.specs.Reading.{request_of, request_spelled}
-use Rattle.request_text.specs.Text.{slice_members, request_members, WritesSlice, WritesSlices, WritesRequest}
+use Rattle.request_text.specs.Text.{WritesSlice, WritesSlices, WritesRequest}
 
 le_true : (a b : ℕ) → a ≤ b → nat_le a b ≡ true
 le_true a b h = grind (arith, nat_tests)

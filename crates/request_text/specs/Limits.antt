@@ -1,15 +1,11 @@
 -- The limits of a request.
-use Rattle.std.specs.Prelude.{◌≡◌, ◌≢◌, ℕ, ℤ, pos, negsuc, Bool, nat_le, ◌&&◌, List, [], ◌∷◌, length, if◌then◌else◌, Option, Some, None, option_map, option_and_then, Result, Ok, Err, ok_or}
-use Rattle.std.specs.Int.{IsInRange}
+use Rattle.std.specs.Prelude.{ℕ, ℤ, pos, negsuc, Bool, nat_le, ◌&&◌, List, [], ◌∷◌, length, if◌then◌else◌, Option, Some, None, option_map, option_and_then, Result, Ok, Err, ok_or}
 use Rattle.std.specs.List.{list_any}
 use Rattle.fare_law.specs.Book.{same_place}
-use Rattle.fare_law.specs.Lists.{Each}
 use Rattle.fare_law.specs.declared.requests.Request.{Request}
 use Rattle.fare_law.specs.declared.requests.Slice.{Slice}
 use Rattle.fare_law.specs.declared.requests.Why.{Why}
 use Rattle.fare_law.specs.declared.requests.Why.TheVariants.{Slices, Party, Best, Window, SamePlace}
-use Rattle.market_time.specs.Dates.{IsInCentury}
-use Rattle.fare_law.specs.Limits.{IsPlace}
 use Rattle.request_text.specs.declared.asked.Asked.{Asked}
 use Rattle.request_text.specs.declared.asked.AskedSlice.{AskedSlice}
 

@@ -1,6 +1,6 @@
 -- The text of a request: compact, with members ascending by name.
 use Rattle.std.specs.Prelude.{◌≡◌, ℕ, List, [], ◌∷◌, Some, codes}
-use Rattle.serde_json.specs.Data.{Data, Items, Members, number, unsigned, string, array, object, member, no_members, no_items, item}
+use Rattle.serde_json.specs.Data.{Data, Items, number, unsigned, string, array, object, member, no_members, no_items, item}
 use Rattle.serde_json.specs.Written.{compact_text}
 use Rattle.fare_law.specs.declared.requests.Request.{Request}
 use Rattle.fare_law.specs.declared.requests.Slice.{Slice}

@@ -2,6 +2,7 @@
 ghost use Rattle.std.specs.Prelude.{◌≡◌, ◌≤◌, ◌<◌, length, IfOk, IfSome};
 ghost use Rattle.std.specs.Int.{IsInRange};
 ghost use Rattle.std.specs.List.{list_any};
+ghost use Rattle.fare_law.specs.Limits.{IsRequest, IsSlice};
 ghost use Rattle.fare_law.specs.Lists.{Each};
 ghost use Rattle.request_text.specs.Form.{IsAsked, IsAskedSlice};
 ghost use Rattle.request_text.specs.Limits as Limits;

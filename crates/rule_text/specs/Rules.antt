@@ -3,6 +3,7 @@ use Rattle.std.specs.Prelude.{ℕ, List, [], ◌∷◌, ◌&&◌, bytes_eq, nat_
 use Rattle.serde_json.specs.Data.{Data}
 use Rattle.serde_json.specs.Find.{as_str}
 use Rattle.json_form.specs.Members.{between_at, carrier_at, date_at, text_at}
+use Rattle.fare_law.specs.RuleLimits.{rank_of_kind}
 use Rattle.fare_law.specs.declared.rules.CombineRule.{CombineRule}
 use Rattle.fare_law.specs.declared.rules.DayTime.{DayTime}
 use Rattle.fare_law.specs.declared.rules.EndOnEnd.{EndOnEnd}
