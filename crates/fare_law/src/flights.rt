@@ -2,7 +2,7 @@
 use crate::{Carrier, Place};
 
 /// One flight on one day.
-#[derive(Clone, Copy, PartialEq, Eq, Debug)]
+#[derive(Clone, Copy, Default, PartialEq, Eq, Debug)]
 pub struct Flight {
     pub carrier: Carrier,
     /// 1 to 9999.

@@ -9,7 +9,7 @@ pub struct SheetRow {
 }
 
 /// A flight of a component, with the classes that have seats for the party.
-#[derive(Clone, Copy, PartialEq, Eq, Debug)]
+#[derive(Clone, Copy, Default, PartialEq, Eq, Debug)]
 pub struct Leg {
     pub flight: Flight,
     /// Bit c is set where class c has seats for the whole party.

@@ -5,10 +5,12 @@
 
 mod connections;
 mod extras;
+mod laws;
 mod named_flights;
 #[cfg(test)]
 mod tests;
 
 pub use connections::{stopovers, stopovers_ok, transfers_ok};
 pub use extras::{charge, surcharge};
+pub use laws::limits_are_met;
 pub use named_flights::flights_ok;
