@@ -7,7 +7,8 @@ use Rattle.fare_law.specs.Journey.{ShortStop, InWindow, FliesSlice, LateEnough, 
 use Rattle.fare_law.specs.Lists.{OnFirst, OnLast}
 use Rattle.fare_law.specs.Parts.{Numbers}
 use Rattle.flight_paths.specs.Positions.{position_before, position_inside, before_slice, Flies}
-use Rattle.residual_keys.proofs.Ranges.{Ascending, before_late, before_range, inside_stop, inside_range}
+use Rattle.fare_law.specs.Flights.{Ascending}
+use Rattle.residual_keys.proofs.Ranges.{before_late, before_range, inside_stop, inside_range}
 
 at_slice : (sl : List Slice) (i : ℕ) (s : Slice) (ss : List Slice) → drop i sl ≡ s ∷ ss → (slice_get sl i ≡ Some s) × (drop (suc i) sl ≡ ss)
 at_slice [] zero s ss h = cc

@@ -26,7 +26,8 @@ use Rattle.flight_paths.specs.Positions.{Flies, before_slice}
 use Rattle.residual_keys.specs.Residuals.{State, begins, no_part, Run, RunFromRoot}
 use Rattle.fare_law.specs.Moves.{role_of, role_code, move_of, moves_after, moves_of, run_code}
 use Rattle.residual_keys.proofs.Marks.{same_carrier_is}
-use Rattle.residual_keys.proofs.Ranges.{Ascending, same_place_is}
+use Rattle.fare_law.specs.Flights.{Ascending}
+use Rattle.residual_keys.proofs.Ranges.{same_place_is}
 use Rattle.residual_keys.proofs.Runs.{Item, mark, ZeroSlot, ItemOf, mark_of, total, Sides, run_sides, sides_run}
 use Rattle.residual_keys.proofs.TicketParts.{PartRun, is_new, news}
 use Rattle.residual_keys.proofs.Wholes.{labels, pieces, flights, same_count, Machines, machines_lawful, lawful_machines}

@@ -10,7 +10,7 @@ use Rattle.fare_law.specs.declared.requests.Slice.{Slice}
 use Rattle.fare_law.specs.Book.{Book, connect, flight_at, same_place}
 use Rattle.fare_law.specs.Journey.{InWindow, LateEnough, ShortStop}
 use Rattle.fare_law.specs.Lists.{Each}
-pub use Rattle.flight_paths.specs.Positions.{Ascending}
+use Rattle.fare_law.specs.Flights.{Ascending}
 use Rattle.flight_paths.specs.Positions.{is_zero, end_of_range, before_first, start_of_range, in_window, late_enough, fits_before, fits_inside}
 
 pub ≤ℤ_trans : {a b c : ℤ} → a ≤ℤ b → b ≤ℤ c → a ≤ℤ c

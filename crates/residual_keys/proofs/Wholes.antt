@@ -20,7 +20,7 @@ use Rattle.residual_keys.specs.Residuals.{no_part}
 use Rattle.residual_keys.proofs.Journeys.{flies_itinerary, itinerary_flies}
 use Rattle.residual_keys.proofs.Marks.{OfCarrier}
 use Rattle.residual_keys.proofs.OneUnit.{accepted_lawful, lawful_accepted}
-use Rattle.residual_keys.proofs.Ranges.{Ascending}
+use Rattle.fare_law.specs.Flights.{Ascending}
 use Rattle.residual_keys.proofs.TicketParts.{PartRun, news, AsksOf, AsksHold, InOrder, part_run_asks, asks_part_run}
 
 pub each_map : {X Y : Type 0} (f : X → Y) (P : Y → Type 0) (xs : List X) → Each (λ x. P (f x)) xs → Each P (map f xs)
