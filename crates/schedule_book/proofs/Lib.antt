@@ -9,3 +9,4 @@ pub mod Sorting
 pub mod Building
 pub mod Lower
 pub mod DepartureOrder
+pub mod Limited

@@ -6,7 +6,7 @@ use Rattle.fare_law.specs.declared.flights.Flight.{Flight}
 use Rattle.fare_law.specs.Flights.{Earlier}
 use Rattle.fare_law.specs.Lists.{EachPair}
 
-before_le : (f g : Flight) → Earlier f g → f.dep ≤ℤ g.dep
+pub before_le : (f g : Flight) → Earlier f g → f.dep ≤ℤ g.dep
 before_le f g (inl h) = omega (arith, ints)
 before_le f g (inr h) = omega (arith, ints, h.0)
 

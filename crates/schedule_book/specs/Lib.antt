@@ -4,3 +4,4 @@ pub mod Days
 pub mod Expansions
 pub mod Faults
 pub mod Departures
+pub mod LocalDays

@@ -6,6 +6,7 @@ mod dated;
 mod departures;
 mod expansion;
 mod faults;
+mod laws;
 mod numbering;
 mod places;
 mod row_days;
@@ -13,6 +14,7 @@ mod row_faults;
 mod schedule;
 
 pub use faults::SchedFault;
+pub use laws::ordered_flights_ascend;
 pub use schedule::Schedule;
 
 #[cfg(test)]

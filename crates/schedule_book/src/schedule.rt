@@ -1,10 +1,12 @@
 //! The schedule of a timetable.
-ghost use Rattle.std.specs.Prelude.{◌≡◌, int_lt, count_by, IfErr, IfOk, OnOk};
-ghost use Rattle.fare_law.specs.Flights.{AreFlights, Earlier};
-ghost use Rattle.fare_law.specs.Lists.{EachPair};
+ghost use Rattle.std.specs.Prelude.{◌≡◌, ◌≤◌, int_lt, count_by, length, IfErr, IfOk, OnOk};
+ghost use Rattle.fare_law.specs.Flights.{AreFlights, Ascending, Earlier};
+ghost use Rattle.fare_law.specs.Limits.{IsFlight, IsFlightRow, IsPlaceRow};
+ghost use Rattle.fare_law.specs.Lists.{Each, EachPair};
 ghost use Rattle.schedule_book.specs.Connects.{connect_of};
 ghost use Rattle.schedule_book.specs.Departures.{AreDepartures};
 ghost use Rattle.schedule_book.specs.Faults.{HasCause, PlacesDiffer, RowsRight};
+ghost use Rattle.schedule_book.specs.LocalDays.{KeepsDay};
 
 use crate::SchedFault;
 use crate::departures::Departures;
@@ -27,25 +29,30 @@ pub struct Schedule {
 impl Model for Schedule {
     ghost use Rattle.std.specs.Prelude.{◌≤◌, length};
     ghost use Rattle.fare_law.specs.Flights.{Earlier};
-    ghost use Rattle.fare_law.specs.Lists.{EachPair};
+    ghost use Rattle.fare_law.specs.Limits.{IsFlight};
+    ghost use Rattle.fare_law.specs.Lists.{Each, EachPair};
     ghost use Rattle.schedule_book.specs.Departures.{Indexes};
+    ghost use Rattle.schedule_book.specs.LocalDays.{KeepsDay};
     ghost use Rattle.schedule_book.specs.Plan.{Plan};
 
     ghost Value = { Plan };
 
     ghost view = { λ s. record { places = s.places; flights = s.flights } };
 
-    ghost invariant = { λ s. (EachPair Earlier s.flights) × (length s.flights ≤ 200000) × Indexes s.flights s.departures.keys.items s.departures.numbers.items };
+    ghost invariant = { λ s. (EachPair Earlier s.flights) × (length s.flights ≤ 200000) × Indexes s.flights s.departures.keys.items s.departures.numbers.items × Each IsFlight s.flights × Each KeepsDay s.flights };
 }
 
 impl Schedule {
     /// The schedule of these rows: each flight row stands for one dated flight for each day of its
-    /// period whose weekday is named. The first row with a fault decides, place rows first.
+    /// period whose weekday is named. The first row with a fault decides, place rows first. The rows
+    /// are within the limits that the readers of cases promise.
     pub fn build(
         alloc: Global,
         places: &[PlaceRow],
         rows: &[FlightRow],
     ) -> Result<Schedule, SchedFault>
+        requires places { Each IsPlaceRow places.now }
+        requires rows { Each IsFlightRow rows.now }
         ensures places { IfOk result (λ s. s.places ≡ places.now) }
         ensures flights { IfOk result (λ s. AreFlights rows.now s.flights) }
         ensures right { OnOk result (PlacesDiffer places.now × RowsRight places.now rows.now) }
@@ -66,10 +73,14 @@ impl Schedule {
         })
     }
 
-    /// All flights, in order.
+    /// All flights, in order: at most 200,000, each within its limits.
     pub fn flights(&self) -> &[Flight]
         ensures flights { result.now ≡ self.now.flights }
         ensures order { EachPair Earlier self.now.flights }
+        ensures ascending { Ascending self.now.flights }
+        ensures few { length self.now.flights ≤ 200000 }
+        ensures limits { Each IsFlight self.now.flights }
+        ensures local { Each KeepsDay self.now.flights }
     {
         self.flights.as_slice()
     }

@@ -1,6 +1,9 @@
 //! Schedules of small timetables.
+ghost use Rattle.fare_law.specs.Limits.{IsFlightRow};
+
 use crate::{SchedFault, Schedule};
 use fare_law::{Carrier, FlightRow, Place, PlaceRow};
+use std::alloc::Global;
 use std::test::Fail;
 
 const LON: Place = Place(*b"LON");
@@ -28,74 +31,93 @@ const PLACES: [PlaceRow; 3] = [
 ];
 
 /// A row of one Monday, from 10:00 to 13:00.
-fn row(line: u32, carrier: [u8; 2], number: u16, from: Place, to: Place) -> FlightRow {
+const ROW: FlightRow = FlightRow {
+    line: 6,
+    carrier: Carrier(*b"QX"),
+    number: 5,
+    from: LON,
+    to: DUB,
+    dep: 600,
+    dep_offset: 0,
+    arr: 780,
+    arr_offset: 0,
+    shift: 0,
+    first: 22341,
+    last: 22341,
+    days: 1,
+};
+
+/// Six flights of two carriers, not in their order.
+const ROWS: [FlightRow; 6] = [
     FlightRow {
-        line,
-        carrier: Carrier(carrier),
-        number,
-        from,
-        to,
-        dep: 600,
-        dep_offset: 0,
-        arr: 780,
-        arr_offset: 0,
-        shift: 0,
-        first: 22341,
-        last: 22341,
-        days: 1,
-    }
-}
+        carrier: Carrier(*b"BX"),
+        number: 11,
+        to: NYC,
+        dep: 660,
+        arr: 840,
+        arr_offset: -300,
+        ..ROW
+    },
+    FlightRow {
+        carrier: Carrier(*b"EX"),
+        number: 201,
+        dep: 420,
+        arr: 495,
+        ..ROW
+    },
+    FlightRow {
+        carrier: Carrier(*b"EX"),
+        number: 101,
+        from: DUB,
+        to: NYC,
+        arr: 750,
+        arr_offset: -300,
+        ..ROW
+    },
+    FlightRow {
+        carrier: Carrier(*b"BX"),
+        number: 12,
+        from: NYC,
+        to: LON,
+        dep: 1140,
+        dep_offset: -240,
+        arr: 390,
+        shift: 1,
+        first: 22350,
+        last: 22350,
+        days: 4,
+        ..ROW
+    },
+    FlightRow {
+        carrier: Carrier(*b"EX"),
+        number: 102,
+        from: NYC,
+        dep: 1050,
+        dep_offset: -240,
+        arr: 285,
+        shift: 1,
+        first: 22350,
+        last: 22350,
+        days: 4,
+        ..ROW
+    },
+    FlightRow {
+        carrier: Carrier(*b"EX"),
+        number: 202,
+        from: DUB,
+        to: LON,
+        dep: 390,
+        arr: 465,
+        first: 22351,
+        last: 22351,
+        days: 8,
+        ..ROW
+    },
+];
 
 #[test]
 fn numbers_flights_by_departure(rt: HostRuntime) -> Result<(), Fail> {
-    let rows = [
-        FlightRow {
-            dep: 660,
-            arr: 840,
-            arr_offset: -300,
-            ..row(6, *b"BX", 11, LON, NYC)
-        },
-        FlightRow {
-            dep: 420,
-            arr: 495,
-            ..row(7, *b"EX", 201, LON, DUB)
-        },
-        FlightRow {
-            dep: 600,
-            arr: 750,
-            arr_offset: -300,
-            ..row(8, *b"EX", 101, DUB, NYC)
-        },
-        FlightRow {
-            dep: 1140,
-            dep_offset: -240,
-            arr: 390,
-            shift: 1,
-            first: 22350,
-            last: 22350,
-            days: 4,
-            ..row(9, *b"BX", 12, NYC, LON)
-        },
-        FlightRow {
-            dep: 1050,
-            dep_offset: -240,
-            arr: 285,
-            shift: 1,
-            first: 22350,
-            last: 22350,
-            days: 4,
-            ..row(10, *b"EX", 102, NYC, DUB)
-        },
-        FlightRow {
-            dep: 390,
-            arr: 465,
-            first: 22351,
-            last: 22351,
-            days: 8,
-            ..row(11, *b"EX", 202, DUB, LON)
-        },
-    ];
-    let schedule = Schedule::build(rt.alloc(), &PLACES, &rows)?;
+    let schedule = Schedule::build(rt.alloc(), &PLACES, &ROWS)?;
     let numbers = schedule
         .flights()
         .iter()
@@ -117,9 +139,13 @@ fn orders_equal_instants_by_carrier(rt: HostRuntime) -> Result<(), Fail> {
         FlightRow {
             last: 22342,
             days: 3,
-            ..row(6, *b"QX", 5, LON, DUB)
+            ..ROW
         },
-        row(7, *b"AX", 9, LON, DUB),
+        FlightRow {
+            carrier: Carrier(*b"AX"),
+            number: 9,
+            ..ROW
+        },
     ];
     let schedule = Schedule::build(rt.alloc(), &PLACES, &rows)?;
     let numbers = schedule
@@ -131,69 +157,73 @@ fn orders_equal_instants_by_carrier(rt: HostRuntime) -> Result<(), Fail> {
     Ok(())
 }
 
+/// What a row is refused for after one that is right.
+fn refusal(alloc: Global, row: FlightRow) -> Option<SchedFault>
+    requires { IsFlightRow row }
+{
+    Schedule::build(alloc, &PLACES, &[ROW, row]).err()
+}
+
 #[test]
-fn refuses_the_first_row_with_a_fault(rt: HostRuntime) -> Result<(), Fail> {
-    let good = row(6, *b"QX", 5, LON, DUB);
-    let cases = [
-        (
-            "unknown",
-            FlightRow {
-                to: Place(*b"PAR"),
-                line: 7,
-                ..good
-            },
-            SchedFault::UnknownPlace { line: 7 },
-        ),
-        (
-            "round",
-            FlightRow {
-                to: LON,
-                line: 7,
-                ..good
-            },
-            SchedFault::SamePlace { line: 7 },
-        ),
-        (
-            "backwards",
-            FlightRow {
-                last: 22340,
-                line: 7,
-                ..good
-            },
-            SchedFault::BadPeriod { line: 7 },
-        ),
-        (
-            "long",
-            FlightRow {
-                last: 22707,
-                line: 7,
-                ..good
-            },
-            SchedFault::BadPeriod { line: 7 },
-        ),
-        (
-            "early",
-            FlightRow {
-                arr: 600,
-                line: 7,
-                ..good
-            },
-            SchedFault::ArrivesBefore { line: 7 },
-        ),
-        (
-            "again",
-            FlightRow {
-                dep: 610,
-                line: 7,
-                ..good
-            },
-            SchedFault::Twice { line: 7 },
-        ),
-    ];
-    for (name, bad, fault) in cases {
-        let answer = Schedule::build(rt.alloc(), &PLACES, &[good, bad]);
-        assert!(rt; matches!(&answer, Err(found) if *found == fault), "{name}");
-    }
+fn refuses_the_first_row_with_a_fault(rt: HostRuntime) {
+    let unknown = FlightRow {
+        to: Place(*b"PAR"),
+        line: 7,
+        ..ROW
+    };
+    let round = FlightRow {
+        to: LON,
+        line: 7,
+        ..ROW
+    };
+    let backwards = FlightRow {
+        last: 22340,
+        line: 7,
+        ..ROW
+    };
+    let long = FlightRow {
+        last: 22707,
+        line: 7,
+        ..ROW
+    };
+    let early = FlightRow {
+        arr: 600,
+        line: 7,
+        ..ROW
+    };
+    let again = FlightRow {
+        dep: 610,
+        line: 7,
+        ..ROW
+    };
+    assert_eq!(rt;
+        refusal(rt.alloc(), unknown),
+        Some(SchedFault::UnknownPlace { line: 7 })
+    );
+    assert_eq!(rt;
+        refusal(rt.alloc(), round),
+        Some(SchedFault::SamePlace { line: 7 })
+    );
+    assert_eq!(rt;
+        refusal(rt.alloc(), backwards),
+        Some(SchedFault::BadPeriod { line: 7 })
+    );
+    assert_eq!(rt;
+        refusal(rt.alloc(), long),
+        Some(SchedFault::BadPeriod { line: 7 })
+    );
+    assert_eq!(rt;
+        refusal(rt.alloc(), early),
+        Some(SchedFault::ArrivesBefore { line: 7 })
+    );
+    assert_eq!(rt;
+        refusal(rt.alloc(), again),
+        Some(SchedFault::Twice { line: 7 })
+    );
+}
+
+#[test]
+fn refuses_a_place_that_stands_twice(rt: HostRuntime) {
     let twice = [
         PLACES[0],
         PLACES[1],
@@ -202,7 +232,6 @@ fn refuses_the_first_row_with_a_fault(rt: HostRuntime) -> Result<(), Fail> {
             ..PLACES[0]
         },
     ];
-    let answer = Schedule::build(rt.alloc(), &twice, &[good]);
+    let answer = Schedule::build(rt.alloc(), &twice, &[ROW]);
     assert!(rt; matches!(&answer, Err(SchedFault::PlaceTwice { line: 5 })));
-    Ok(())
 }
