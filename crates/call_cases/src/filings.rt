@@ -1,6 +1,6 @@
 //! Filings of known texts.
-use fare_filing::read_lone_fare;
 use fare_law::{ArrayVec, Basis, Carrier, Fare, FareKey, FareKind, Place};
+use one_way_text::read_lone_fare;
 use std::test::Fail;
 
 #[test]

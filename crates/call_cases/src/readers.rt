@@ -1,8 +1,7 @@
 //! Texts that were worked out by hand.
 use case_text::{Line, case_lines, flight_row, place_row, seat_row};
-use fare_filing::{read_fare, read_fare_key};
 use fare_law::{Carrier, FareKind, FlightRow, Place, PlaceRow};
-use json_form::{read_value, whole_at};
+use json_form::{read_fare, read_fare_key, read_value, whole_at};
 use one_way::cheapest;
 use one_way_text::read_case;
 

@@ -1,7 +1,7 @@
 pub mod Cutting
 pub mod Digits
 pub mod Machine
-pub mod Classes
+pub mod WeekdayBits
 pub mod Columns
 pub mod Counting
 pub mod Growing

@@ -7,9 +7,10 @@ use Rattle.fare_law.specs.declared.rows.TextLine.{TextLine}
 use Rattle.market_time.specs.Dates.{day_spelled}
 use Rattle.market_time.specs.Clock.{minute_spelled, offset_spelled}
 use Rattle.name_text.specs.Names.{place_of, carrier_of}
+use Rattle.name_text.specs.Seats.{seat_day_of, seats_of}
 use Rattle.case_text.specs.Cut.{cut, plain_line}
 use Rattle.case_text.specs.Numbers.{number_within}
-use Rattle.case_text.specs.Marks.{shift_of, weekdays_of, seat_day_of, seats_of}
+use Rattle.case_text.specs.Marks.{shift_of, weekdays_of}
 
 infixl 10 ◌>>=◌
 -- what follows, where no column was bad

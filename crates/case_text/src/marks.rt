@@ -1,8 +1,6 @@
-//! The marks of a row: day shifts, weekdays, the day of a seat row, seats by class.
+//! The marks of a flight row: day shifts, weekdays.
 ghost use Rattle.std.specs.Prelude.{◌≡◌, ◌≤◌, ◌+◌, ◌^◌, IfSome};
 ghost use Rattle.case_text.specs.Marks as Marks;
-
-use market_time::day_of;
 
 /// The day shift of an arrival: -1, 0, 1 or 2.
 pub fn shift_of(text: &[u8]) -> Option<i8>
@@ -32,7 +30,7 @@ pub fn weekdays_of(text: &[u8]) -> Option<u8>
     }
 }
 
-#[tactic(auto, using(crate::proofs::Classes::day_bits))]
+#[tactic(auto, using(crate::proofs::WeekdayBits::day_bits))]
 fn weekdays_after(before: u8, text: &[u8]) -> Option<u8>
     requires { before ≤ 7 }
     ensures days { result ≡ Marks.weekdays_after before text.now }
@@ -49,59 +47,4 @@ fn weekdays_after(before: u8, text: &[u8]) -> Option<u8>
             }
         }
     }
-}
-
-/// The day of a seat row: a date, or None inside for `*`, which stands for all days.
-pub fn seat_day_of(text: &[u8]) -> Option<Option<i32>>
-    ensures { result ≡ Marks.seat_day_of text.now }
-{
-    if text == b"*".as_slice() {
-        Some(None)
-    } else {
-        day_of(text).ok().map(Some)
-    }
-}
-
-/// Seats as pairs of a class letter and a digit, no letter twice, at least one pair.
-pub fn seats_of(text: &[u8]) -> Option<[u8; 32]>
-    ensures { result ≡ Marks.seats_of text.now }
-{
-    if text.is_empty() {
-        None
-    } else {
-        seats_in(text)
-    }
-}
-
-fn seats_in(text: &[u8]) -> Option<[u8; 32]>
-    ensures { result ≡ Marks.seats_in text.now }
-{
-    match text {
-        [] => Some([0; 32]),
-        [_] => None,
-        [letter, digit, rest @ ..] => {
-            if letter.is_ascii_uppercase()
-                && digit.is_ascii_digit()
-                && !names_class(*letter, rest)
-            {
-                let mut seats = seats_in(rest)?;
-                seats[(*letter - b'A') as usize] = *digit - b'0';
-                Some(seats)
-            } else {
-                None
-            }
-        }
-    }
-}
-
-#[tactic(auto, using(crate::proofs::Classes::class_steps))]
-fn names_class(letter: u8, text: &[u8]) -> bool
-    ensures { result ≡ Marks.names_class letter text.now }
-{
-    for i in 0..text.len() / 2 {
-        if text[2 * i] == letter {
-            return true;
-        }
-    }
-    false
 }

@@ -8,13 +8,13 @@ ghost use Rattle.case_text.specs.Lines.{shown};
 ghost use Rattle.case_text.specs.Readers.{HasFields};
 
 use crate::fields::{is_plain, line_fields};
-use crate::marks::{seat_day_of, seats_of, shift_of, weekdays_of};
+use crate::marks::{shift_of, weekdays_of};
 use crate::numbers::number_within;
 use crate::{Line, RowFault};
 use csv::ByteRecord;
 use fare_law::{FlightRow, PlaceRow, SeatRow};
 use market_time::{day_of, minute_of, offset_of};
-use name_text::{carrier_of, place_of};
+use name_text::{carrier_of, place_of, seat_day_of, seats_of};
 use std::alloc::Global;
 
 /// The row of a place: its code and its least connect time in minutes, 0 to 1440.

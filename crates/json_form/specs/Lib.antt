@@ -1,3 +1,4 @@
 pub mod Spelled
 pub mod Members
 pub mod Items
+pub mod Fares

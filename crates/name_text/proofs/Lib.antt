@@ -1,1 +1,4 @@
 pub mod NameLemmas
+pub mod TextLemmas
+pub mod ClassLemmas
+pub mod SeatLemmas

@@ -15,10 +15,10 @@ use Rattle.fare_law.specs.declared.rows.TextLine.{TextLine}
 use Rattle.fare_law.specs.Book.{same_place}
 use Rattle.case_text.specs.Lines.{text_lines}
 use Rattle.case_text.specs.Rows.{place_row, flight_row, seat_row}
-use Rattle.fare_filing.specs.Lone.{lone_fare_of}
 use Rattle.request_text.specs.Reading.{request_of}
 use Rattle.one_way.specs.declared.cases.OneWayCase.{OneWayCase}
 use Rattle.one_way.specs.Dated.{dated, one_day}
+use Rattle.one_way_text.specs.LoneFare.{lone_fare_of}
 use Rattle.one_way_text.specs.Sections.{◌>>=◌, Sections, sections_of}
 
 -- the one line of a section that has no other

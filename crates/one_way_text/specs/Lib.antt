@@ -1,3 +1,4 @@
+pub mod LoneFare
 pub mod Sections
 pub mod Shown
 pub mod Case

@@ -3,7 +3,9 @@
 #![tactic(auto)]
 
 mod checks;
+mod lone_fare;
 mod reader;
 mod sections;
 
+pub use lone_fare::read_lone_fare;
 pub use reader::read_case;

@@ -10,9 +10,9 @@ ghost use Rattle.one_way_text.specs.Case as Case;
 ghost use Rattle.one_way_text.specs.Shown.{sections_shown};
 
 use crate::checks::{asks_once, each_once, flies, sells_alone};
+use crate::lone_fare::read_lone_fare;
 use crate::sections::{CaseSections, case_sections};
 use case_text::{Line, RowFault, case_lines, flight_row, place_row, seat_row};
-use fare_filing::read_lone_fare;
 use fare_law::{Fare, FlightRow, List, Mem, PlaceRow, Request, SeatRow};
 use one_way::{OneWayCase, dated};
 use request_text::{RequestFault, read_request};

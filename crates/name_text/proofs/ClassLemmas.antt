@@ -1,7 +1,6 @@
 -- The class letters among pairs, from a place on.
-use Rattle.std.proofs.Common.{◌≡◌, ◌<◌, ◌≤◌, ◌+◌, ◌-◌, ◌*◌, ◌/◌, ◌^◌, ℕ, zero, suc, Bool, true, false, ◌||◌, List, [], ◌∷◌, length, drop, get_or, refl, ap, sym, ◌∙◌, arith, subst, eqb, eq-eqb, ne_eqb}
-use Rattle.std.proofs.Math.Pow.{pow_mono}
-use Rattle.case_text.specs.Marks.{names_class}
+use Rattle.std.proofs.Common.{◌≡◌, ◌<◌, ◌≤◌, ◌+◌, ◌*◌, ◌/◌, ℕ, zero, suc, Bool, true, false, ◌||◌, List, [], ◌∷◌, length, drop, get_or, refl, ap, sym, ◌∙◌, arith, subst, eqb, eq-eqb, ne_eqb}
+use Rattle.name_text.specs.Seats.{names_class}
 
 here : (letter i : ℕ) (text : List ℕ) → suc i < length text → eqb (get_or text i 0) letter ≡ true → names_class letter (drop i text) ≡ true
 here letter i [] l h = absurd (omega (arith, l))
@@ -39,10 +38,3 @@ pub step_done : (letter i : ℕ) (text : List ℕ) → length text / 2 ≤ i →
 step_done letter i text l e = sym (short letter (2 * i) text (omega (arith, l))) ∙ e
 
 pub ruleset class_steps = (step_here, step_on, step_done)
-
--- the bit of a weekday, and what a weekday before it allows
-pub day_bits : (before c : ℕ) → before + 48 < c → 2 ^ (c - 49) + 2 ^ before ≤ 2 ^ (c - 48)
-day_bits before c h = go (c - 49) (c - 48) (omega (arith, h)) (omega (arith, h))
-  where
-    go : (j k : ℕ) → k ≡ suc j → before ≤ j → 2 ^ j + 2 ^ before ≤ 2 ^ k
-    go j k e l = subst (λ k. 2 ^ j + 2 ^ before ≤ 2 ^ k) (sym e) (omega (arith, pow_mono {i = before} {j = j} l))

@@ -6,7 +6,7 @@ use Rattle.fare_law.specs.declared.fares.Fare.{Fare}
 use Rattle.json_form.specs.Items.{only_item}
 use Rattle.json_form.specs.Members.{sole_member}
 use Rattle.json_form.specs.Spelled.{spelled}
-use Rattle.fare_filing.specs.Fares.{◌>>=◌, fare_spelled}
+use Rattle.json_form.specs.Fares.{◌>>=◌, fare_spelled}
 
 -- its one member is a list of one action, whose one member is the fare that is put
 abbrev pub lone_fare : Data → Option Fare

@@ -2,11 +2,10 @@
 ghost use Rattle.std.specs.Prelude.{◌≡◌, IfOk, IfSome};
 ghost use Rattle.serde_json.specs.View.{view};
 ghost use Rattle.fare_law.specs.Limits.{IsFare};
-ghost use Rattle.fare_filing.specs.Lone.{lone_fare, lone_fare_of};
+ghost use Rattle.one_way_text.specs.LoneFare.{lone_fare, lone_fare_of};
 
-use crate::fares::read_fare;
 use fare_law::{Fare, Mem};
-use json_form::{only_item, read_value, sole_member};
+use json_form::{only_item, read_fare, read_value, sole_member};
 use serde_json::Value;
 use std::alloc::Global;
 

@@ -1,5 +1,5 @@
 use Rattle.std.proofs.Common.{length}
-use Rattle.case_text.proofs.marks.+seats_in.Given as goal
+use Rattle.name_text.proofs.seats.+seats_in.Given as goal
 
 abbrev pub decreases-seats_in : goal.decreases-seats_in
 decreases-seats_in l = length l.text.now

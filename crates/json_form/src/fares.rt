@@ -1,11 +1,11 @@
 //! Fares as JSON.
 ghost use Rattle.std.specs.Prelude.{◌≡◌, IfSome, codes};
 ghost use Rattle.serde_json.specs.View.{view};
-ghost use Rattle.fare_filing.specs.Fares.{fare_key, fare_spelled, kind_of, kind_at};
+ghost use Rattle.json_form.specs.Fares.{fare_key, fare_spelled, kind_of, kind_at};
 ghost use Rattle.fare_law.specs.Limits.{IsFareKey, IsFare};
 
+use crate::members::{basis_at, between_at, carrier_at, class_at, has_members, place_at, text_at};
 use fare_law::{Fare, FareKey, FareKind};
-use json_form::{basis_at, between_at, carrier_at, class_at, has_members, place_at, text_at};
 use serde_json::Value;
 
 /// The fare that an object spells: the value of the action `put_fare`.

@@ -1,2 +1,0 @@
-pub mod Fares
-pub mod Lone
