@@ -3,5 +3,6 @@
 #![tactic(auto)]
 
 mod positions;
+mod ranges;
 
 pub use positions::{Path, Position};
