@@ -2,7 +2,11 @@
 //! The layers above read the definitions in `specs/`: takeable flights, ranges and paths.
 #![tactic(auto)]
 
+mod paths;
 mod positions;
 mod ranges;
+mod steps;
+mod ways;
 
+pub use paths::{component_paths, root_position, slice_paths};
 pub use positions::{Path, Position};

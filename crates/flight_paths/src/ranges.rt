@@ -2,6 +2,7 @@
 ghost use Rattle.std.specs.Prelude.{◌≡◌, ℕ, ℤ, suc, pos, ◌<◌, ◌≤◌, ◌+ℤ◌, ◌-ℤ◌, ◌*ℤ◌, ◌≤ℤ◌, ◌^◌, neg_ℤ, filter, length, IfSome};
 ghost use Rattle.fare_law.specs.Book.{connect};
 ghost use Rattle.fare_law.specs.Days.{IsInstant};
+ghost use Rattle.fare_law.specs.Flights.{Ascending};
 ghost use Rattle.fare_law.specs.Lists.{IsIn};
 ghost use Rattle.flight_paths.specs.Plans.{plan_book};
 ghost use Rattle.flight_paths.specs.Positions.{in_window, position_before, position_inside, via_after};
@@ -19,7 +20,8 @@ pub fn position_before(
     arrival: Option<i64>,
 ) -> Position
     requires { IfSome arrival IsInstant }
-    ensures { result ≡ position_before (plan_book schedule.now) number slice.now arrival }
+    ensures position { result ≡ position_before (plan_book schedule.now) number slice.now arrival }
+    ensures order { Ascending schedule.now.flights }
 {
     let flights = schedule.flights();
     let numbers = around(schedule, slice, arrival);
