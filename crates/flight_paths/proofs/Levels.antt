@@ -1,16 +1,16 @@
 -- The ways of one length after those of the length before, and the paths of all lengths.
-use Rattle.std.proofs.Common.{◌≡◌, ◌≢◌, ◌⊎◌, ◌↔◌, ℕ, zero, suc, ◌+◌, ◌≤◌, ◌<◌, List, [], ◌∷◌, ◌++◌, length, take, get_or, slice_get, Option, Some, None, refl, sym, ap, subst, ◌∙◌, inl, inr, arith, length-append}
+use Rattle.std.proofs.Common.{◌≡◌, ◌≢◌, ◌↔◌, ℕ, zero, suc, ◌+◌, ◌≤◌, ◌<◌, List, [], ◌∷◌, ◌++◌, length, take, get_or, Some, refl, sym, ap, subst, ◌∙◌, inl, inr, arith, length-append}
 use Rattle.std.proofs.Math.Seq.{take-suc}
 use Rattle.fare_law.specs.declared.flights.Flight.{Flight}
 use Rattle.fare_law.specs.declared.requests.Slice.{Slice}
 use Rattle.fare_law.specs.Book.{Book}
-use Rattle.fare_law.specs.Journey.{Joins, calls}
+use Rattle.fare_law.specs.Journey.{calls}
 use Rattle.fare_law.specs.Lists.{AllDifferent, Each, EachPair, IsIn, Matched, OnFirst}
 use Rattle.fare_law.specs.Order.{Less}
 use Rattle.flight_paths.specs.declared.positions.Path.{Path}
 use Rattle.flight_paths.specs.declared.positions.Position.{Position}
 use Rattle.flight_paths.specs.Paths.{ArePaths, Precedes}
-use Rattle.flight_paths.specs.Positions.{Flies, IsPath, KeepsOff, called_at, via_places}
+use Rattle.flight_paths.specs.Positions.{Flies, IsPath, KeepsOff, called_at}
 use Rattle.flight_paths.specs.Ways.{AreWays, Grows, IsWay, Leads}
 use Rattle.flight_paths.proofs.Extending.{way_one}
 use Rattle.flight_paths.proofs.Growth.{flies_numbers, ungrow}

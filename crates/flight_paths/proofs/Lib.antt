@@ -1,6 +1,6 @@
 pub mod Fitting
 pub mod Bounds
-pub mod Tests
+pub mod Told
 pub mod Scans
 pub mod Growing
 pub mod Growth

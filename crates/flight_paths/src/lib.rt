@@ -10,3 +10,6 @@ mod ways;
 
 pub use paths::{component_paths, root_position, slice_paths};
 pub use positions::{Path, Position};
+
+#[cfg(test)]
+mod tests;
