@@ -1,4 +1,5 @@
-//! Where a journey stands, and which flights lead on from there.
+//! Where a journey stands, and which flights lead on from there: the position where it begins, exactly
+//! the paths of a position, and exactly the flights of one slice, over any book of a schedule.
 //! The layers above read the definitions in `specs/`: takeable flights, ranges and paths.
 #![tactic(auto)]
 

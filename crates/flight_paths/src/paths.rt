@@ -15,7 +15,7 @@ use fare_law::{ArrayVec, List, Mem, Request};
 use schedule_book::Schedule;
 use std::alloc::Global;
 
-/// Where the journey of a request begins, which has a slice.
+/// The position where the journey of a request with a slice begins.
 pub fn root_position(schedule: &Schedule, request: &Request) -> Position
     requires { 1 ≤ length request.now.slices }
     ensures { (b : Book) → HasPlan b schedule.now → (first : RequestSlice) → slice_get request.now.slices 0 ≡ Some first → result ≡ position_before b 0 first None }
@@ -39,8 +39,8 @@ pub fn slice_paths(
     whole(alloc, paths.as_slice())
 }
 
-/// The paths of a position, which may be any of the request's slices, each once, by length and then by
-/// numbers. Each has the position after it.
+/// The paths of a position of one of the request's slices, each once, by length and then by numbers. The
+/// position's range may be any.
 pub fn component_paths(
     alloc: Global,
     schedule: &Schedule,
