@@ -1,0 +1,16 @@
+pub mod Fitting
+pub mod Bounds
+pub mod Told
+pub mod Scans
+pub mod Growing
+pub mod Growth
+pub mod Orders
+pub mod Extending
+pub mod Levels
+pub mod Places
+pub mod Stepping
+pub mod Between
+pub mod Itineraries
+pub mod OneSlice
+pub mod AnyBook
+pub mod Ended
