@@ -1,0 +1,3 @@
+pub mod Actions
+pub mod Reading
+pub mod Text

@@ -1,0 +1,20 @@
+//! Filings as JSON, both ways: a filing's text is read exactly, with the first fault named by its
+//! action, and what is read is within the limits of a filing. A filing within its limits is written
+//! as text that is read again as itself. What a book makes of a filing is for the layer above.
+#![tactic(auto)]
+
+mod actions;
+mod fares;
+mod fault;
+mod reading;
+mod rows;
+mod rules;
+mod seats;
+#[cfg(test)]
+mod tests;
+mod text;
+mod values;
+
+pub use fault::FilingFault;
+pub use reading::read_filing;
+pub use text::filing_text;
