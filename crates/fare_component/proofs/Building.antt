@@ -1,12 +1,11 @@
 -- The list of offers, as far as the loop over the rows has come.
-use Rattle.std.proofs.Common.{◌≡◌, ◌⊎◌, ◌↔◌, ℕ, ◌+◌, ◌<◌, ◌≤◌, List, [], ◌∷◌, ◌++◌, length, slice_get, Some, inl, inr, ⊎_elim, refl, sym, ap, subst, ◌∙◌, arith}
+use Rattle.std.proofs.Common.{◌≡◌, ◌⊎◌, ◌↔◌, ℕ, ◌+◌, ◌<◌, ◌≤◌, List, [], ◌∷◌, ◌++◌, length, slice_get, Some, inl, inr, ⊎_elim, sym, ap, subst, ◌∙◌, arith}
 use Rattle.std.proofs.lemmas.Bool.{cases_lt}
 use Rattle.fare_law.specs.declared.market.OfferKey.{OfferKey}
 use Rattle.fare_law.specs.declared.sheets.SheetRow.{SheetRow}
 use Rattle.fare_law.specs.Lists.{Each, EachPair, IsIn}
 use Rattle.fare_law.specs.Offers.{IsOffer, IsOffered, flights_of, row_price}
 use Rattle.fare_component.specs.declared.offer.Offer.{Offer}
-use Rattle.fare_component.specs.declared.offer.OfferRows.{OfferRows}
 use Rattle.fare_component.specs.Offers.{AreOffers, StandsBefore}
 use Rattle.fare_component.proofs.Listed.{each_in, each_weaker, each_push, got_within, in_push, in_front, in_last}
 
@@ -30,8 +29,8 @@ below_skip key n rows h none = record {
   ascending = h.ascending;
   below = wider n rows h.below;
   exact = λ o less. ⊎_elim (λ (before : o.place < n). h.exact o before)
-    (λ (here : o.place ≡ n). (λ i. absurd (let before = each_in (λ (x : Offer). x.place < n) rows o h.below i in omega arith), λ offer. absurd (none o.price (subst (λ p. IsOffer key p o.price) here offer))))
-    (here_or_before o.place n less);
+      (λ (here : o.place ≡ n). (λ i. absurd (let before = each_in (λ (x : Offer). x.place < n) rows o h.below i in omega arith), λ offer. absurd (none o.price (subst (λ p. IsOffer key p o.price) here offer))))
+      (here_or_before o.place n less);
 }
 
 ascending_push : (xs : List Offer) (o : Offer) → EachPair StandsBefore xs → Each (λ x. x.place < o.place) xs → EachPair StandsBefore (xs ++ o ∷ [])
@@ -56,7 +55,7 @@ below_push key n price rows row h stands offered costs =
       below = each_push (λ o. o.place < n + 1) rows new (wider n rows h.below) (omega arith);
       exact = λ o less. (
         λ i. ⊎_elim (λ (old : IsIn o rows). (h.exact o (each_in (λ (x : Offer). x.place < n) rows o h.below old)).0 old) (λ (e : o ≡ new). subst (λ (x : Offer). IsOffer key x.place x.price) (sym e) is_offer) (in_push rows new o i),
-        λ offer. ⊎_elim (λ (before : o.place < n). in_front rows new o ((h.exact o before).1 offer)) (λ (here : o.place ≡ n). in_last rows new o (same_offer key n price row stands costs o here (subst (λ p. IsOffer key p o.price) here offer))) (here_or_before o.place n less)
+        λ offer. ⊎_elim (λ (before : o.place < n). in_front rows new o ((h.exact o before).1 offer)) (λ (here : o.place ≡ n). in_last rows new o (same_offer key n price row stands costs o here (subst (λ p. IsOffer key p o.price) here offer))) (here_or_before o.place n less),
       );
     }
 
@@ -65,6 +64,6 @@ below_all key n rows all h = record {
   ascending = h.ascending;
   exact = λ o. (
     λ i. (h.exact o (each_in (λ (x : Offer). x.place < n) rows o h.below i)).0 i,
-    λ offer. (h.exact o (let within = got_within key.sheet.value.rows o.place offer.row offer.stands in omega arith)).1 offer
+    λ offer. (h.exact o (let within = got_within key.sheet.value.rows o.place offer.row offer.stands in omega arith)).1 offer,
   );
 }

@@ -1,5 +1,5 @@
 -- The columns of a sheet: a row that they set aside is not offered.
-use Rattle.std.proofs.Common.{◌≡◌, ℕ, ◌+◌, ◌<◌, ◌≤◌, ◌≤ℤ◌, ℤ, pos, List, [], ◌∷◌, Bool, true, false, length, map, get_or, slice_get, Option, Some, None, IfSome, IsTrue, All, Contains, refl, sym, ap, subst, ◌∙◌, arith, suc, zero}
+use Rattle.std.proofs.Common.{◌≡◌, ℕ, ◌<◌, ◌≤◌, ◌≤ℤ◌, pos, List, [], ◌∷◌, Bool, false, length, map, get_or, slice_get, Option, Some, None, IfSome, All, Contains, sym, ap, subst, ◌∙◌, arith}
 use Rattle.std.proofs.lemmas.Int.{ints}
 use Rattle.std.proofs.lemmas.Bool.{false≢true}
 use Rattle.std.proofs.lemmas.List.{get_or-map}
@@ -31,5 +31,5 @@ missed rows marks i row minute (f ∷ fs) timed is marked stands aside h =
     let opens : get_or (map first_minute rows) i (pos 0) ≡ first_minute row = get_or-map first_minute rows i row (pos 0) within ∙ ap first_minute here in
     let closes : get_or (map last_minute rows) i (pos 0) ≡ last_minute row = get_or-map last_minute rows i row (pos 0) within ∙ ap last_minute here in
     let marked_here = (subst (λ m. AreMarked (map first_minute rows) (map last_minute rows) (pos m) marks (length rows)) (sym is) marked i within).1
-      (subst (λ z. z ≤ℤ pos f.minute) (sym opens) hours.0, subst (λ z. pos f.minute ≤ℤ z) (sym closes) hours.1) in
+    (subst (λ z. z ≤ℤ pos f.minute) (sym opens) hours.0, subst (λ z. pos f.minute ≤ℤ z) (sym closes) hours.1) in
     absurd (false≢true (sym aside ∙ marked_here))

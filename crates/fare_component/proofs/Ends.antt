@@ -1,10 +1,10 @@
 -- Where a component begins and ends, and which way a fare of the sheet is filed.
-use Rattle.std.proofs.Common.{◌≡◌, ◌⊎◌, ◌↔◌, ℕ, ◌+◌, ◌-◌, ◌≤◌, List, [], ◌∷◌, length, slice_get, Option, Some, None, inl, inr, ⊎_elim, refl, sym, ap, subst, ◌∙◌, arith, suc}
+use Rattle.std.proofs.Common.{◌≡◌, ◌⊎◌, ◌↔◌, ◌-◌, List, [], ◌∷◌, length, slice_get, inl, inr, ⊎_elim, sym, ap, subst, ◌∙◌, arith, suc}
 use Rattle.std.specs.Option.{IsSomeAnd}
 use Rattle.fare_law.specs.declared.fares.FareKey.{FareKey}
 use Rattle.fare_law.specs.declared.flights.Flight.{Flight}
 use Rattle.fare_law.specs.declared.names.Place.{Place}
-use Rattle.fare_law.specs.Lists.{OnFirst, OnLast}
+use Rattle.fare_law.specs.Lists.{OnLast}
 use Rattle.fare_law.specs.Offers.{FiledBetween, HasDirection}
 use Rattle.fare_component.specs.Keys.{Begins, Ends}
 

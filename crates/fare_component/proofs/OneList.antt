@@ -1,5 +1,5 @@
 -- Lists of offers that ascend by place: one list has certain offers, and equal keys have the same.
-use Rattle.std.proofs.Common.{◌≡◌, ◌⊎◌, ℕ, ◌<◌, List, [], ◌∷◌, slice_get, Some, inl, inr, refl, sym, ap, subst, ◌∙◌, arith}
+use Rattle.std.proofs.Common.{◌≡◌, ℕ, List, [], ◌∷◌, slice_get, Some, inl, inr, refl, sym, ap, subst, ◌∙◌, arith}
 use Rattle.fare_law.specs.declared.market.OfferKey.{OfferKey}
 use Rattle.fare_law.specs.declared.sheets.Leg.{Leg}
 use Rattle.fare_law.specs.Lists.{Each, EachPair, IsIn}
@@ -8,7 +8,7 @@ use Rattle.fare_law.specs.Sheets.{Sheet}
 use Rattle.fare_component.specs.declared.offer.Offer.{Offer}
 use Rattle.fare_component.specs.declared.offer.OfferRows.{OfferRows}
 use Rattle.fare_component.specs.Keys.{asked}
-use Rattle.fare_component.specs.Offers.{AreOffers, HasOneList, SameOffers, StandsBefore}
+use Rattle.fare_component.specs.Offers.{HasOneList, SameOffers, StandsBefore}
 use Rattle.fare_component.proofs.Listed.{each_in, each_weaker}
 
 -- all further offers stand behind the first

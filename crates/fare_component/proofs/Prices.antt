@@ -1,16 +1,15 @@
 -- The greatest price of an offer.
-use Rattle.std.proofs.Common.{◌≡◌, ℕ, ◌+◌, ◌/◌, ◌≤◌, List, [], ◌∷◌, length, map, slice_get, Option, Some, None, subst, sym, ap, ◌∙◌, arith, suc}
+use Rattle.std.proofs.Common.{ℕ, ◌≤◌, List, length, arith}
 use Rattle.std.proofs.lemmas.List.{length-map}
 use Rattle.fare_law.specs.declared.fares.FareKind.{FareKind}
 use Rattle.fare_law.specs.declared.fares.FareKind.TheVariants.{O, R, S}
 use Rattle.fare_law.specs.declared.flights.Flight.{Flight}
 use Rattle.fare_law.specs.declared.market.OfferKey.{OfferKey}
 use Rattle.fare_law.specs.declared.rules.Rule.{Rule}
-use Rattle.fare_law.specs.Lists.{Each}
-use Rattle.fare_law.specs.Offers.{IsOffer, flights_of, row_price}
+use Rattle.fare_law.specs.Offers.{flights_of}
 use Rattle.fare_law.specs.Parts.{share, stopover_charge, surcharges}
 use Rattle.fare_law.specs.RuleLimits.{IsRule}
-use Rattle.fare_component.specs.Keys.{IsKey, IsRow}
+use Rattle.fare_component.specs.Keys.{IsRow}
 use Rattle.fare_component.specs.Offers.{HasLowPrices}
 use Rattle.fare_component.proofs.Listed.{each_got}
 

@@ -1,21 +1,20 @@
 -- Each row of a sheet in turn: what was tested tells whether it is offered.
-use Rattle.std.proofs.Common.{◌≡◌, ◌⊎◌, ◌↔◌, ℕ, ◌+◌, ◌<◌, pos, List, [], ◌∷◌, ◌++◌, Bool, true, false, IsTrue, length, map, get_or, slice_get, Some, All, refl, sym, ap, subst, ◌∙◌, arith}
+use Rattle.std.proofs.Common.{◌≡◌, ◌⊎◌, ◌↔◌, ℕ, ◌+◌, ◌<◌, pos, List, [], ◌∷◌, ◌++◌, Bool, false, IsTrue, length, map, get_or, slice_get, Some, All, refl, sym, ap, subst, ◌∙◌}
 use Rattle.std.proofs.lemmas.Bool.{false≢true}
 use Rattle.std.proofs.lemmas.List.Elements.{All-map}
 use Rattle.std.proofs.lemmas.Option.{slice_get_read}
 use Rattle.fare_law.specs.declared.flights.Flight.{Flight}
 use Rattle.fare_law.specs.declared.market.OfferKey.{OfferKey}
-use Rattle.fare_law.specs.declared.names.Place.{Place}
 use Rattle.fare_law.specs.declared.sheets.Leg.{Leg}
 use Rattle.fare_law.specs.declared.sheets.SheetRow.{SheetRow}
 use Rattle.fare_law.specs.Limits.{IsFlight}
-use Rattle.fare_law.specs.Lists.{Each, OnFirst}
+use Rattle.fare_law.specs.Lists.{OnFirst}
 use Rattle.fare_law.specs.Offers.{HasDirection, IsOffer, IsOffered, flights_of, row_price}
 use Rattle.fare_law.specs.Parts.{DayTimeHolds}
 use Rattle.fare_law.specs.Sheets.{Sheet, first_minute, last_minute}
 use Rattle.lane_mask.specs.Spans.{AreMarked}
 use Rattle.fare_component.specs.declared.offer.Offer.{Offer}
-use Rattle.fare_component.specs.Keys.{Begins, Ends, IsKey, IsLeg, asked}
+use Rattle.fare_component.specs.Keys.{Begins, Ends, IsKey, IsLeg}
 use Rattle.fare_component.specs.Offers.{AreOffers}
 use Rattle.fare_component.proofs.Building.{OffersBelow, below_push, below_skip}
 use Rattle.fare_component.proofs.Departures.{missed}
@@ -40,8 +39,8 @@ row_directed key fs i row within joins stands =
 pub none_offered : (key : OfferKey) (fs : List Flight) (rows : List Offer) → IsKey key → fs ≡ flights_of key.legs → (Joins key.sheet.value fs → ⊥) → rows ≡ [] → AreOffers key (record { rows = rows })
 none_offered key fs rows within same apart empty =
     let none : (o : Offer) → IsOffer key o.place o.price → ⊥ = λ o offer.
-        let market = each_got (λ (r : SheetRow). (r.fare.key.from ≡ key.sheet.value.from) × (r.fare.key.to ≡ key.sheet.value.to)) key.sheet.value.rows o.place offer.row within.sheet.market offer.stands in
-        apart (undirected offer.row.fare.key key.sheet.value.from key.sheet.value.to fs market.0 market.1 (subst (HasDirection offer.row.fare.key) (sym same) offer.offered.direction)) in
+    let market = each_got (λ (r : SheetRow). (r.fare.key.from ≡ key.sheet.value.from) × (r.fare.key.to ≡ key.sheet.value.to)) key.sheet.value.rows o.place offer.row within.sheet.market offer.stands in
+    apart (undirected offer.row.fare.key key.sheet.value.from key.sheet.value.to fs market.0 market.1 (subst (HasDirection offer.row.fare.key) (sym same) offer.offered.direction)) in
     subst (λ (l : List Offer). AreOffers key (record { rows = l })) (sym empty) (record { ascending = tt; exact = λ o. (λ i. absurd i, λ offer. absurd (none o offer)) })
 
 pub offered_on : (key : OfferKey) (fs : List Flight) (legs : List Leg) (i price : ℕ) (row : SheetRow) (rows more : List Offer) → fs ≡ flights_of key.legs → legs ≡ key.legs → slice_get key.sheet.value.rows i ≡ Some row

@@ -51,7 +51,9 @@ fn departs_ok(row: &SheetRow, flights: &[Flight]) -> bool
     requires { All IsFlight flights.now }
     ensures { IsTrue result ↔ OnFirst (DayTimeHolds row.now.rule) flights.now }
 {
-    flights.first().is_some_and(|first| day_time_ok(&row.rule, first))
+    flights
+        .first()
+        .is_some_and(|first| day_time_ok(&row.rule, first))
 }
 
 /// What a component of these flights costs with the row's fare.

@@ -8,6 +8,8 @@ mod laws;
 mod list;
 mod offer;
 mod source;
+#[cfg(test)]
+mod tests;
 
 pub use laws::{one_list, prices_are_low, same_offers};
 pub use list::offers;

@@ -1,4 +1,4 @@
-use Rattle.std.proofs.Common.{◌≡◌, take, map}
+use Rattle.std.proofs.Common.{◌≡◌, take}
 use Rattle.fare_law.specs.Offers.{flights_of}
 use Rattle.fare_component.proofs.list.flights_of.Given as goal
 

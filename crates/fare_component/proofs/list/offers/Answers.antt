@@ -1,4 +1,4 @@
-use Rattle.std.proofs.Common.{◌≡◌, ◌⊎◌, ◌<◌, ℕ, length, map, get_or, pos, ap, subst, sym, ◌∙◌, arith}
+use Rattle.std.proofs.Common.{◌≡◌, length, map, get_or, pos, ap, subst, sym, ◌∙◌, arith}
 use Rattle.std.proofs.lemmas.Bool.{false≢true}
 use Rattle.fare_law.specs.Offers.{flights_of}
 use Rattle.fare_law.specs.Sheets.{first_minute, last_minute}
@@ -43,8 +43,8 @@ loop-place-preserved c =
       | else-index w ↦ elim w.else-index.branch [
         | else-index-via-then-index+else-is_offered v ↦ refused_on key c.as_slice-legs.result.now c.loop-place.place row c.loop-place.rows c.if-index.rows v.is_offered.result same_legs stands c.loop-place.invariant v.is_offered.ensures v.if-is_offered.false w.rows-is
         | else-index-via-else-index v ↦ missed_on key c.as_slice-flights.result.now c.loop-place.place row c.loop-place.rows c.if-index.rows c.in_ok-may_depart.may_depart.items c.first_minute_of.result c.requires same stands c.loop-place.invariant c.first_minute_of.ensures
-          (subst (λ s. AreMarked (map first_minute s.rows) (map last_minute s.rows) (pos c.first_minute_of.result) c.in_ok-may_depart.may_depart.items (length s.rows)) c.deref-sheet.ensures c.in_ok-may_depart.ensures.marks)
-          (sym (subst (λ b. b ≡ get_or c.in_ok-may_depart.may_depart.items c.loop-place.place b) v.if-index.false c.index.ensures)) w.rows-is
+            (subst (λ s. AreMarked (map first_minute s.rows) (map last_minute s.rows) (pos c.first_minute_of.result) c.in_ok-may_depart.may_depart.items (length s.rows)) c.deref-sheet.ensures c.in_ok-may_depart.ensures.marks)
+            (sym (subst (λ b. b ≡ get_or c.in_ok-may_depart.may_depart.items c.loop-place.place b) v.if-index.false c.index.ensures)) w.rows-is
       ]
     ]
 
