@@ -1,8 +1,8 @@
 -- What a walk over the home cells of a key knows.
-use Rattle.std.proofs.Common.{◌≡◌, ◌≢◌, ◌⊎◌, ℕ, ◌+◌, ◌<◌, ◌∙◌, ap, sym, subst, List, length, Option, Some, inl, inr, ⊎_elim, arith}
+use Rattle.std.proofs.Common.{◌≡◌, ◌≢◌, ◌⊎◌, ℕ, ◌+◌, ◌<◌, ◌∙◌, ap, sym, subst, List, length, Some, inl, inr, ⊎_elim, arith}
 use Rattle.std.proofs.lemmas.Bool.{cases_lt}
 use Rattle.fare_component.specs.Keys.{Asked}
-use Rattle.node_publish.specs.Homes.{Known, at_cell, at_home, home, homes, Keeps, ReadsAt, IsTaken, Knows, HasNoRoom, Published, StaysPublished}
+use Rattle.node_publish.specs.Homes.{Known, at_cell, at_home, home, homes, Keeps, ReadsAt, IsTaken, Knows, HasNoRoom, StaysPublished}
 
 pub keeps_trans : (a b c : Known) → Keeps a b → Keeps b c → Keeps a c
 keeps_trans a b c p q = record { cells = q.cells ∙ p.cells; kept = λ i k e. q.kept i k (p.kept i k e) }
@@ -25,8 +25,8 @@ here_or_before m n less = ⊎_elim (λ (h : m < n). inl h) (λ h. inr (omega ari
 pub taken_more : (p q : Known) (a found : Asked) (n at : ℕ) (names : List ℕ) → p.cells ≡ names → TakenBelow p a n → ReadsAt p q at (Some found) → at ≡ home (length names) a n → found ≢ a → TakenBelow q a (n + 1)
 taken_more p q a found n at names own h r is other = record {
   each = λ j less. ⊎_elim (λ (before : j < n). taken_stays p q r.keeps a j (h.each j before))
-    (λ (e : j ≡ n). record { other = found; here = subst (λ (m : ℕ). at_cell q m ≡ Some found) (is ∙ ap (λ l. home (length l) a n) (sym (r.keeps.cells ∙ own)) ∙ ap (home (length q.cells) a) (sym e)) r.here; differs = other })
-    (here_or_before j n less)
+      (λ (e : j ≡ n). record { other = found; here = subst (λ (m : ℕ). at_cell q m ≡ Some found) (is ∙ ap (λ l. home (length l) a n) (sym (r.keeps.cells ∙ own)) ∙ ap (home (length q.cells) a) (sym e)) r.here; differs = other })
+      (here_or_before j n less);
 }
 
 pub knows_stays : (p q : Known) → Keeps p q → (a : Asked) → Knows p a → Knows q a

@@ -1,13 +1,13 @@
 -- Notes of the cells of a store, one for each cell.
-use Rattle.std.proofs.Common.{◌≡◌, ◌≢◌, ℕ, ◌<◌, List, length, map, set, get_or, Option, Some, None, MatchOption, MatchResult, Result, Ok, Err, sym, ap, subst, ◌∙◌, get_or-set_same}
-use Rattle.std.proofs.lemmas.List.{get_or-map, map-set, set-get_or, length-map, get_or-set_other}
+use Rattle.std.proofs.Common.{◌≡◌, ◌≢◌, ℕ, ◌<◌, List, length, map, set, get_or, Option, Some, None, MatchOption, sym, ap, subst, ◌∙◌, get_or-set_same}
+use Rattle.std.proofs.lemmas.List.{get_or-map, map-set, length-map, get_or-set_other}
 use Rattle.std.proofs.Math.Seq.{map-set_same}
 use native.Mathlib.Decide.{ℕ_discrete}
 use Rattle.std.specs.Option.{option_copied}
 use Rattle.std.specs.Borrow.{Bor}
 use Rattle.once_cell.specs.Once.{Agrees}
 use Rattle.fare_component.specs.Keys.{Asked}
-use Rattle.node_publish.specs.Homes.{Known, at_cell, Keeps, ReadsAt}
+use Rattle.node_publish.specs.Homes.{Known, at_cell, ReadsAt}
 
 within : {X N : Type 0} (f : X → N) (xs : List X) (names : List N) (i : ℕ) → map f xs ≡ names → i < length names → i < length xs
 within f xs names i is less = subst (λ n. i < n) (sym (ap length is) ∙ length-map xs f) less

@@ -1,5 +1,5 @@
 -- Tests of a sheet's rows tell whether they are equal.
-use Rattle.std.proofs.Common.{◌≡◌, Bool, List, Decides, refl, ap}
+use Rattle.std.proofs.Common.{◌≡◌, Decides, refl, ap}
 use Rattle.std.specs.Cmp.Lexicographic.{bytes_decides}
 use Rattle.std.proofs.lemmas.Bool.Decides.{Decides-like, Decides-and, Decides-eqb}
 use Rattle.fare_law.specs.contracts.names.BasisPartialEq.TheImpl as basis

@@ -1,5 +1,5 @@
 -- Tests of legs tell whether they are equal.
-use Rattle.std.proofs.Common.{◌≡◌, Bool, Decides, refl, ap}
+use Rattle.std.proofs.Common.{◌≡◌, Decides, ap}
 use Rattle.std.specs.Cmp.Lexicographic.{bytes_decides}
 use Rattle.std.proofs.lemmas.Bool.Decides.{Decides-like, Decides-and, Decides-eqb, Decides-int_eq}
 use Rattle.fare_law.specs.contracts.names.CarrierPartialEq.TheImpl as carrier

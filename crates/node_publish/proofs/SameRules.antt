@@ -1,5 +1,5 @@
 -- Tests of rules tell whether they are equal.
-use Rattle.std.proofs.Common.{◌≡◌, Bool, true, false, Option, List, Decides, refl, ap}
+use Rattle.std.proofs.Common.{◌≡◌, Decides, refl, ap}
 use Rattle.std.specs.Cmp.Lexicographic.{pointwise_decides, bytes_decides}
 use Rattle.std.proofs.lemmas.Bool.Decides.{Decides-like, Decides-and, Decides-eqb, Decides-int_eq}
 use Rattle.fare_law.specs.contracts.rules.CombineRulePartialEq.TheImpl as combine

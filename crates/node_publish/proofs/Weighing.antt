@@ -1,5 +1,5 @@
 -- The sum over the legs of a key that names its home cells.
-use Rattle.std.proofs.Common.{◌≡◌, ℕ, ◌+◌, ◌*◌, ◌<◌, List, [], ◌∷◌, drop, get_or, length, ap, sym, ◌∙◌, arith}
+use Rattle.std.proofs.Common.{◌≡◌, ℕ, ◌+◌, ◌*◌, ◌<◌, List, drop, get_or, length, ap, sym, arith}
 use Rattle.std.proofs.lemmas.List.{at_drop_more}
 use Rattle.fare_law.specs.declared.sheets.Leg.{Leg}
 use Rattle.node_publish.specs.Homes.{leg_number, weighed}

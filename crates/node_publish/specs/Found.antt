@@ -1,7 +1,6 @@
 -- What keeping a node tells, and which offers a node has.
 use Rattle.std.specs.Prelude.{◌≡◌}
-use Rattle.fare_law.specs.declared.market.OfferKey.{OfferKey}
-use Rattle.fare_component.specs.Keys.{Asked, asked}
+use Rattle.fare_component.specs.Keys.{Asked}
 use Rattle.node_publish.specs.Homes.{HasNoRoom, Known, Knows}
 use Rattle.node_publish.specs.declared.store.Kept.{Kept}
 use Rattle.node_publish.specs.declared.store.Kept.TheVariants.{Here, NoRoom}

@@ -7,6 +7,8 @@ mod cells;
 mod keys;
 mod node;
 mod store;
+#[cfg(test)]
+mod tests;
 
 pub use keys::asks_same;
 pub use node::Node;

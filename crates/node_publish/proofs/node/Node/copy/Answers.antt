@@ -1,6 +1,6 @@
 use Rattle.std.proofs.Common.{◌≡◌, subst, sym}
 use Rattle.fare_law.specs.declared.market.OfferKey.{OfferKey}
-use Rattle.fare_component.specs.Keys.{Asked, asked}
+use Rattle.fare_component.specs.Keys.{asked}
 use Rattle.fare_component.specs.Offers.{AreOffers}
 use Rattle.node_publish.proofs.node.Node.copy.Goals as goal
 

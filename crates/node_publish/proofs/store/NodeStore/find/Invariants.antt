@@ -1,4 +1,4 @@
-use Rattle.std.proofs.Common.{◌≡◌, ◌≢◌, ℕ, ◌<◌, Some}
+use Rattle.std.proofs.Common.{◌≢◌, ℕ, ◌<◌, Some}
 use Rattle.fare_component.specs.Keys.{asked}
 use Rattle.node_publish.specs.Homes.{Keeps, at_home}
 use Rattle.node_publish.proofs.store.NodeStore.find.Given as goal

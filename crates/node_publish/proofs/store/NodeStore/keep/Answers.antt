@@ -17,15 +17,15 @@ returns-then-is_for-clause-no_room c =
     let a = c.args.node.now in
     let keeps = keeps_trans c.args.pass.now c.loop-j.pass c.settle.new.pass c.loop-j.invariant.0 c.in_ok-found.ensures.ok.keeps in
     λ f _. not_both c.settle.new.pass a (no_room_stays c.args.pass.now c.settle.new.pass keeps a f)
-      (knows_here c.loop-j.pass c.settle.new.pass a c.in_ok-found.found.now c.loop-j.j c.home-at.result c.args.self.now (c.loop-j.invariant.0.cells ∙ c.requires) c.in_ok-found.ensures.ok
-      (c.home-at.ensures.value ∙ ap (λ k. home (length c.args.self.now) k c.loop-j.j) c.node.view_is) (omega arith) (c.is_for.ensures.0 c.if-is_for.true ∙ c.node.view_is))
+    (knows_here c.loop-j.pass c.settle.new.pass a c.in_ok-found.found.now c.loop-j.j c.home-at.result c.args.self.now (c.loop-j.invariant.0.cells ∙ c.requires) c.in_ok-found.ensures.ok
+    (c.home-at.ensures.value ∙ ap (λ k. home (length c.args.self.now) k c.loop-j.j) c.node.view_is) (omega arith) (c.is_for.ensures.0 c.if-is_for.true ∙ c.node.view_is))
 
 pub loop-j-preserved : goal.loop-j-preserved
 loop-j-preserved c = (
   keeps_trans c.args.pass.now c.loop-j.pass c.settle.new.pass c.loop-j.invariant.0 c.in_ok-found.ensures.ok.keeps,
   taken_more c.loop-j.pass c.settle.new.pass c.args.node.now c.in_ok-found.found.now c.loop-j.j c.home-at.result c.args.self.now (c.loop-j.invariant.0.cells ∙ c.requires) c.loop-j.invariant.1 c.in_ok-found.ensures.ok
-  (c.home-at.ensures.value ∙ ap (λ k. home (length c.args.self.now) k c.loop-j.j) c.node.view_is)
-  (λ e. false≢true (sym c.if-is_for.false ∙ c.is_for.ensures.1 (e ∙ sym c.node.view_is))),
+      (c.home-at.ensures.value ∙ ap (λ k. home (length c.args.self.now) k c.loop-j.j) c.node.view_is)
+      (λ e. false≢true (sym c.if-is_for.false ∙ c.is_for.ensures.1 (e ∙ sym c.node.view_is))),
 )
 
 pub returns-clause-stays : goal.returns-clause-stays

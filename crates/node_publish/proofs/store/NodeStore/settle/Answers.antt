@@ -1,5 +1,4 @@
-use Rattle.std.proofs.Common.{◌≡◌, Option, Some, Result, Ok, Err, ℕ, List, IfOk, OnErr, MatchResult, ap, sym, ◌∙◌}
-use Rattle.std.specs.Borrow.{Bor}
+use Rattle.std.proofs.Common.{◌≡◌, Option, Some, Result, Ok, Err, ℕ, IfOk, OnErr, MatchResult, ap, ◌∙◌}
 use Rattle.fare_component.specs.Keys.{Asked}
 use Rattle.once_cell.specs.Once.{cell_name, Agrees}
 use Rattle.node_publish.specs.Homes.{Known, Keeps, ReadsAt}
