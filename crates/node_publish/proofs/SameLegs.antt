@@ -1,0 +1,41 @@
+-- Tests of legs tell whether they are equal.
+use Rattle.std.proofs.Common.{◌≡◌, Decides, ap}
+use Rattle.std.specs.Cmp.Lexicographic.{bytes_decides}
+use Rattle.std.proofs.lemmas.Bool.Decides.{Decides-like, Decides-and, Decides-eqb, Decides-int_eq}
+use Rattle.fare_law.specs.contracts.names.CarrierPartialEq.TheImpl as carrier
+use Rattle.fare_law.specs.contracts.names.PlacePartialEq.TheImpl as place
+use Rattle.fare_law.specs.contracts.flights.FlightPartialEq.TheImpl as flight
+use Rattle.fare_law.specs.contracts.sheets.LegPartialEq.TheImpl as leg
+use Rattle.fare_law.specs.declared.flights.Flight.{Flight}
+use Rattle.fare_law.specs.declared.names.Carrier.{Carrier}
+use Rattle.fare_law.specs.declared.names.Place.{Place}
+use Rattle.fare_law.specs.declared.sheets.Leg.{Leg}
+
+pub carriers_tell : (a b : Carrier) → Decides (carrier.ghosts.eq a b) (a ≡ b)
+carriers_tell a b = Decides-like _ (λ (e : a.0 ≡ b.0). whole e) (λ e. ap (λ x. x.0) e) (bytes_decides a.0 b.0)
+  where
+    whole : a.0 ≡ b.0 → a ≡ b
+    whole e = λ i. record { 0 = e i }
+
+pub places_tell : (a b : Place) → Decides (place.ghosts.eq a b) (a ≡ b)
+places_tell a b = Decides-like _ (λ (e : a.0 ≡ b.0). whole e) (λ e. ap (λ x. x.0) e) (bytes_decides a.0 b.0)
+  where
+    whole : a.0 ≡ b.0 → a ≡ b
+    whole e = λ i. record { 0 = e i }
+
+flights_tell : (a b : Flight) → Decides (flight.ghosts.eq a b) (a ≡ b)
+flights_tell a b =
+    Decides-like _ (λ e. whole e.0 e.1.0 e.1.1.0 e.1.1.1.0 e.1.1.1.1.0 e.1.1.1.1.1.0 e.1.1.1.1.1.1.0 e.1.1.1.1.1.1.1)
+    (λ e. (ap (λ x. x.carrier) e, (ap (λ x. x.number) e, (ap (λ x. x.from) e, (ap (λ x. x.to) e, (ap (λ x. x.day) e, (ap (λ x. x.minute) e, (ap (λ x. x.dep) e, ap (λ x. x.arr) e))))))))
+    (Decides-and _ _ (carriers_tell a.carrier b.carrier) (Decides-and _ _ (Decides-eqb a.number b.number) (Decides-and _ _ (places_tell a.from b.from) (Decides-and _ _ (places_tell a.to b.to)
+    (Decides-and _ _ (Decides-int_eq a.day b.day) (Decides-and _ _ (Decides-eqb a.minute b.minute) (Decides-and _ _ (Decides-int_eq a.dep b.dep) (Decides-int_eq a.arr b.arr))))))))
+  where
+    whole : a.carrier ≡ b.carrier → a.number ≡ b.number → a.from ≡ b.from → a.to ≡ b.to → a.day ≡ b.day → a.minute ≡ b.minute → a.dep ≡ b.dep → a.arr ≡ b.arr → a ≡ b
+    whole c n f t d m x y = λ i. record { carrier = c i; number = n i; from = f i; to = t i; day = d i; minute = m i; dep = x i; arr = y i }
+
+pub legs_tell : (a b : Leg) → Decides (leg.ghosts.eq a b) (a ≡ b)
+legs_tell a b =
+    Decides-like _ (λ e. whole e.0 e.1) (λ e. (ap (λ x. x.flight) e, ap (λ x. x.classes) e)) (Decides-and _ _ (flights_tell a.flight b.flight) (Decides-eqb a.classes b.classes))
+  where
+    whole : a.flight ≡ b.flight → a.classes ≡ b.classes → a ≡ b
+    whole f c = λ i. record { flight = f i; classes = c i }
