@@ -1,0 +1,5 @@
+pub mod Seating
+pub mod Counts
+pub mod Keys
+pub mod Keeping
+pub mod Rows
