@@ -6,3 +6,12 @@ pub mod LastActions
 pub mod RowOrder
 pub mod LiveRows
 pub mod Limits
+pub mod Following
+pub mod FareOrder
+pub mod TableRows
+pub mod Updates
+pub mod FareSteps
+pub mod Stops
+pub mod FareKeeping
+pub mod RuleKeeping
+pub mod Assembled

@@ -4,10 +4,17 @@
 #![tactic(auto)]
 
 mod book;
+mod draft;
+mod fare_actions;
 mod faults;
 mod keys;
 mod rows;
+mod rule_actions;
+mod rules;
+mod seat_actions;
+mod tables;
 mod timetable;
+mod uses;
 
 pub use book::Book;
 pub use faults::BookFault;
