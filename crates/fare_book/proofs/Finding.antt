@@ -6,12 +6,14 @@ use Rattle.std.specs.declared.sync.Arc.{Arc}
 use Rattle.std.specs.Map.{lookup}
 use Rattle.std.specs.Option.{MatchOption, option_copied}
 use Rattle.fare_law.specs.Book.{Book}
+use Rattle.fare_law.specs.declared.rules.Rule.{Rule}
 use Rattle.fare_law.specs.Sheets.{Sheet, SheetOf}
+use Rattle.std.specs.List.{list_any}
 use Rattle.fare_book.specs.contracts.keys.MarketPartialEq.TheImpl as market
 use Rattle.fare_book.specs.contracts.keys.RuleKeyPartialEq.TheImpl as rule
 use Rattle.fare_book.specs.declared.keys.Market.{Market}
 use Rattle.fare_book.specs.declared.keys.RuleKey.{RuleKey}
-use Rattle.fare_book.specs.Keeping.{NoFare, Sheets, sheet_at, uses_at}
+use Rattle.fare_book.specs.Keeping.{NoFare, Sheets, rule_at, sheet_at, uses_at}
 use Rattle.fare_book.specs.Keys.{same_market, same_rule}
 use Rattle.fare_book.proofs.SameKeys.{market_tests_agree, rule_tests_agree, same_markets_tell, same_rules_tell}
 
@@ -55,3 +57,18 @@ uses_set old new r n u k = ap (λ o. unwrap_or o 0) (rule_changes old new r (Som
     by : (t : Bool) → unwrap_or (cond t (Some n) (lookup (same_rule k) old)) 0 ≡ cond t n (uses_at old k)
     by true = refl
     by false = refl
+
+-- a rule is set or taken away
+pub rule_set : {Z : Type 0} (old new : List (RuleKey × Arc Rule Z)) (r : RuleKey) (w : Option (Arc Rule Z)) (v : Option Rule) → option_map arc_value w ≡ v → ((q : RuleKey) → lookup (rule.ghosts.eq q) new ≡ cond (rule.ghosts.eq r q) w (lookup (rule.ghosts.eq q) old))
+    → (k : RuleKey) → rule_at new k ≡ cond (same_rule k r) v (rule_at old k)
+rule_set old new r w v is u k = ap (option_map arc_value) (rule_changes old new r w u k) ∙ by (same_rule k r)
+  where
+    by : (t : Bool) → option_map arc_value (cond t w (lookup (same_rule k) old)) ≡ cond t v (rule_at old k)
+    by true = is
+    by false = refl
+
+pub set_grows : (old new : List RuleKey) (r : RuleKey) → ((q : RuleKey) → list_any (rule.ghosts.eq q) new ≡ cond (rule.ghosts.eq r q) true (list_any (rule.ghosts.eq q) old))
+    → (k : RuleKey) → list_any (same_rule k) new ≡ cond (same_rule k r) true (list_any (same_rule k) old)
+set_grows old new r u k =
+    subst (λ (e : RuleKey → RuleKey → Bool). (q : RuleKey) → list_any (e q) new ≡ cond (e r q) true (list_any (e q) old)) rule_tests_agree u k
+    ∙ ap (λ b. cond b true (list_any (same_rule k) old)) (flips same_rule same_rules_tell r k)

@@ -15,3 +15,6 @@ pub mod Stops
 pub mod FareKeeping
 pub mod RuleKeeping
 pub mod Assembled
+pub mod SeatKeeping
+pub mod Making
+pub mod TakingLemmas

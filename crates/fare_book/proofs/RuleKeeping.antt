@@ -14,6 +14,7 @@ use Rattle.fare_law.specs.declared.names.Carrier.{Carrier}
 use Rattle.fare_law.specs.declared.rules.Rule.{Rule}
 use Rattle.fare_law.specs.declared.sheets.SheetRow.{SheetRow}
 use Rattle.fare_law.specs.Book.{Book, free_rule, live_rule, same_carrier}
+use Rattle.fare_law.specs.FilingLimits.{IsRuleNumber}
 use Rattle.fare_law.specs.Sheets.{Sheet}
 use Rattle.fare_book.specs.contracts.keys.RuleKeyPartialEq.TheImpl as rule_test
 use Rattle.fare_book.specs.Counts.{Exactly}
@@ -106,14 +107,10 @@ module _ (f g : LiveRules) (k : Carrier) (m : ℕ) (w : Option Rule) (proper : m
   free_stays : ((c : Carrier) → f c 0 ≡ Some free_rule) → (c : Carrier) → g c 0 ≡ Some free_rule
   free_stays h c = step c 0 ∙ h c
 
-  rules_held : {Z : Type 0} (old new : List (RuleKey × Arc Rule Z)) (arc : Option (Arc Rule Z)) → option_map arc_value arc ≡ w
-      → ((q : RuleKey) → lookup (same_rule q) new ≡ cond (same_rule q (record { carrier = k; number = m })) arc (lookup (same_rule q) old))
+  rules_held : {Z : Type 0} (old new : List (RuleKey × Arc Rule Z)) → ((q : RuleKey) → rule_at new q ≡ cond (same_rule q (record { carrier = k; number = m })) w (rule_at old q))
       → ((q : RuleKey) → q.number ≢ 0 → rule_at old q ≡ f q.carrier q.number) → (q : RuleKey) → q.number ≢ 0 → rule_at new q ≡ g q.carrier q.number
-  rules_held old new arc is puts h q n = ap (option_map arc_value) (puts q) ∙ by (same_rule q (record { carrier = k; number = m })) ∙ sym (step q.carrier q.number ∙ ap (λ t. cond t w (f q.carrier q.number)) (named_is k m q.carrier q.number n))
-    where
-      by : (t : Bool) → option_map arc_value (cond t arc (lookup (same_rule q) old)) ≡ cond t w (f q.carrier q.number)
-      by true = is
-      by false = h q n
+  rules_held old new puts h q n =
+      puts q ∙ ap (cond (same_rule q (record { carrier = k; number = m })) w) (h q n) ∙ sym (step q.carrier q.number ∙ ap (λ t. cond t w (f q.carrier q.number)) (named_is k m q.carrier q.number n))
 
   pairs_kept : (count : ℕ) → Exactly count (λ (p : Carrier × ℕ). (p.1 ≢ 0) × IsSome (f p.0 p.1)) → Exactly count (λ p. IsSome (nonzero f p))
   pairs_kept count c = count_same (λ (p : Carrier × ℕ). (p.1 ≢ 0) × IsSome (f p.0 p.1)) (λ p. IsSome (nonzero f p)) (to_pair f) (from_pair f) count c
@@ -124,11 +121,10 @@ module _ (f g : LiveRules) (k : Carrier) (m : ℕ) (w : Option Rule) (proper : m
   here_pair : (o : Option Rule) → f k m ≡ o → nonzero f (k, m) ≡ o
   here_pair o e = ap (λ t. cond t None (f k m)) (not_zero m proper) ∙ e
 
-  module _ {Z : Type 0} (old new : List (RuleKey × Arc Rule Z)) (arc : Option (Arc Rule Z)) (is : option_map arc_value arc ≡ w)
-      (puts : (q : RuleKey) → lookup (same_rule q) new ≡ cond (same_rule q (record { carrier = k; number = m })) arc (lookup (same_rule q) old)) (count : ℕ) (kept : RulesKept f old count) where
+  module _ {Z : Type 0} (old new : List (RuleKey × Arc Rule Z)) (puts : (q : RuleKey) → rule_at new q ≡ cond (same_rule q (record { carrier = k; number = m })) w (rule_at old q)) (count : ℕ) (kept : RulesKept f old count) where
     pub rules_new : (r : Rule) → w ≡ Some r → f k m ≡ None → count < 2000 → RulesKept g new (count + 1)
     rules_new r e none room = record {
-      rules_are = rules_held old new arc is puts kept.rules_are;
+      rules_are = rules_held old new puts kept.rules_are;
       counted = pairs_back (count + 1) (count_new same_pair pairs_tell (nonzero f) (nonzero g) (k, m) w pair_step r count e (here_pair None none) (pairs_kept count kept.counted));
       few = omega (arith, room);
       free = free_stays kept.free;
@@ -136,7 +132,7 @@ module _ (f g : LiveRules) (k : Carrier) (m : ℕ) (w : Option Rule) (proper : m
 
     pub rules_old : (r o : Rule) → w ≡ Some r → f k m ≡ Some o → RulesKept g new count
     rules_old r o e was = record {
-      rules_are = rules_held old new arc is puts kept.rules_are;
+      rules_are = rules_held old new puts kept.rules_are;
       counted = pairs_back count (count_old same_pair pairs_tell (nonzero f) (nonzero g) (k, m) w pair_step r o count e (here_pair (Some o) was) (pairs_kept count kept.counted));
       few = kept.few;
       free = free_stays kept.free;
@@ -147,7 +143,7 @@ module _ (f g : LiveRules) (k : Carrier) (m : ℕ) (w : Option Rule) (proper : m
         let live : (m ≢ 0) × IsSome (f k m) = (proper, live_some (f k m) o was) in
         let some : 1 ≤ count = kept.counted.most 1 ((k, m) ∷ [], refl, (tt, tt), (live, tt)) in
         record {
-          rules_are = rules_held old new arc is puts kept.rules_are;
+          rules_are = rules_held old new puts kept.rules_are;
           counted = pairs_back (count - 1) (count_gone same_pair pairs_tell (nonzero f) (nonzero g) (k, m) w pair_step o count (count - 1) e (here_pair (Some o) was) (omega (arith, some)) (pairs_kept count kept.counted));
           few = omega (arith, kept.few);
           free = free_stays kept.free;
@@ -211,3 +207,14 @@ module _ (f g : LiveRules) (k : Carrier) (m : ℕ) (w : Option Rule) (proper : m
         absurd (none q (x, l, ap (λ (z : FareKey). z.carrier) (keyed q x l) ∙ ap (λ (z : RuleKey). z.carrier) one, ap (λ (z : RuleKey). z.number) one))
     | inr t ↦ subst IsSome (sym (rule_else x.key.carrier x.rule t)) (h q x l)
   ]
+
+pub proper_number : (n : ℕ) → IsRuleNumber n → n ≢ 0
+proper_number n h z = omega (arith, h, z)
+
+-- what isn't live is none
+pub none_of : {A : Type 0} (o : Option A) (t : Bool) → t ≡ false → (IsSome o → IsTrue t) → o ≡ None
+none_of None t f h = refl
+none_of (Some x) t f h = absurd (clash (sym f ∙ h refl))
+  where
+    clash : false ≡ true → ⊥
+    clash e = cc

@@ -14,7 +14,7 @@ use Rattle.fare_law.specs.Book.{Book, live_rule}
 use Rattle.fare_law.specs.Faults.{FaultOf, Why, reason_number}
 use Rattle.fare_book.specs.Drafts.{Faultless, OnlyLimit}
 
-none_live : {A G : Type 0} (o : Option A) → o ≡ None → IsSome o → G
+pub none_live : {A G : Type 0} (o : Option A) → o ≡ None → IsSome o → G
 none_live None e s = absurd (cc)
 none_live (Some x) e s = absurd (cc)
 

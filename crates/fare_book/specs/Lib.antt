@@ -5,3 +5,5 @@ pub mod Keeping
 pub mod Rows
 pub mod Tables
 pub mod Drafts
+pub mod Ready
+pub mod Taking

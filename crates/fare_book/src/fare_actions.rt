@@ -92,7 +92,7 @@ pub fn has_rule(rules: &HashMap<RuleKey, Arc<Rule>>, rule: RuleKey) -> bool
 }
 
 /// The rule that a fare names.
-fn rule_of(fare: &Fare) -> RuleKey
+pub fn rule_of(fare: &Fare) -> RuleKey
     ensures { result ≡ rule_of fare.now }
 {
     RuleKey {

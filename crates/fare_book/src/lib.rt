@@ -12,7 +12,9 @@ mod rows;
 mod rule_actions;
 mod rules;
 mod seat_actions;
+mod sheets;
 mod tables;
+mod taking;
 mod timetable;
 mod uses;
 
