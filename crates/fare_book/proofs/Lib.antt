@@ -18,3 +18,5 @@ pub mod Assembled
 pub mod SeatKeeping
 pub mod Making
 pub mod TakingLemmas
+pub mod Placing
+pub mod Versions

@@ -9,6 +9,7 @@ use Rattle.std.specs.Ordering.{MatchOrdering, nat_cmp, ordering_then}
 use Rattle.std.specs.declared.cmp.Ordering.{Ordering}
 use Rattle.std.specs.declared.cmp.Ordering.TheVariants.{Less as Lower, Equal, Greater}
 use Rattle.std.specs.declared.sync.Arc.{Arc}
+use Rattle.std.proofs.lemmas.Bool.{false_from_ne_true}
 use Rattle.std.proofs.lemmas.Cmp.{nat_list_cmp_total, tied_itself}
 use Rattle.fare_law.specs.contracts.fares.FareKeyOrd.TheImpl as fare_order
 use Rattle.fare_law.specs.declared.fares.Fare.{Fare}
@@ -69,6 +70,35 @@ lookup_in (e ∷ es) key x s = by (lookup_in es key x) (same_key key e.0) s
     by rest true s = (e, inl refl, one s)
     by rest false s = let found = rest s in (found.0, inr found.1, found.2)
 
+all_apart : (es : List (FareKey × Fare)) → IsStrictlySortedBy fare_order.ghosts.cmp (keys_of es) → AllDifferent (keys_of es)
+unfolding IsStrictlySortedBy
+all_apart [] s = tt
+all_apart (e ∷ es) s = (apart e.0 (keys_of es) s.0, all_apart es s.1)
+  where
+    not_less : (k : FareKey) → fare_order.ghosts.cmp k k ≡ Lower → ⊥
+    not_less k e = same_not (fare_order.ghosts.cmp k k) (cmp_same k) e
+      where
+        same_not : (o : Ordering) → o ≡ Equal → o ≡ Lower → ⊥
+        same_not Lower e f = cc
+        same_not Equal e f = cc
+        same_not Greater e f = cc
+        cmp_same : (k : FareKey) → fare_order.ghosts.cmp k k ≡ Equal
+        cmp_same k = ap₂ ordering_then (tied_itself nat_list_cmp_total k.carrier.0) (ap₂ ordering_then (tied_itself nat_list_cmp_total k.from.0) (ap₂ ordering_then (tied_itself nat_list_cmp_total k.to.0) (tied_itself nat_list_cmp_total k.basis.0)))
+    apart : (k : FareKey) (ks : List FareKey) → AllByRecursion (λ l. fare_order.ghosts.cmp k l ≡ Lower) ks → Each (λ l. k ≢ l) ks
+    apart k [] a = tt
+    apart k (l ∷ ls) a = (λ e. not_less k (ap (fare_order.ghosts.cmp k) e ∙ a.0), apart k ls a.1)
+
+
+lookup_member : (es : List (FareKey × Fare)) → AllDifferent (keys_of es) → (e : FareKey × Fare) → IsIn e es → lookup (same_key e.0) es ≡ Some e.1
+lookup_member [] d e i = absurd i
+lookup_member (x ∷ es) d e (inl s) = ap₂ (λ (y : FareKey × Fare) t. cond t (Some y.1) (lookup (same_key e.0) es)) (sym s) ((same_fares_tell e.0 x.0).1 (ap (λ (y : FareKey × Fare). y.0) s))
+lookup_member (x ∷ es) d e (inr i) = ap (λ t. cond t (Some x.1) (lookup (same_key e.0) es)) (false_from_ne_true (same_key e.0 x.0) (λ t. other es d.0 i (sym ((same_fares_tell e.0 x.0).0 t)))) ∙ lookup_member es d.1 e i
+  where
+    other : (ys : List (FareKey × Fare)) → Each (λ l. x.0 ≢ l) (keys_of ys) → IsIn e ys → x.0 ≡ e.0 → ⊥
+    other [] h i s = i
+    other (y ∷ ys) h (inl q) s = h.0 (s ∙ ap (λ (z : FareKey × Fare). z.0) q)
+    other (y ∷ ys) h (inr q) s = other ys h.1 q s
+
 module _ {Z : Type 0} (rules : List (RuleKey × Arc Rule Z)) where
   -- the row has the fare of the entry and its live rule
   pub record MadeOf (row : SheetRow) (entry : FareKey × Fare) : Type 0 where
@@ -78,13 +108,11 @@ module _ {Z : Type 0} (rules : List (RuleKey × Arc Rule Z)) where
   abbrev pub Made : List SheetRow → List (FareKey × Fare) → Type 0
   Made rows entries = Matched MadeOf rows entries
 
-  pub made_more : (rows new : List SheetRow) (entries : List (FareKey × Fare)) (i : ℕ) (row : SheetRow) (d entry : FareKey × Fare) → i < length entries → entry ≡ get_or entries i d → new ≡ rows ++ row ∷ [] → MadeOf row entry
-      → Made rows (take i entries) → Made new (take (i + 1) entries)
-  made_more rows new entries i row d entry lt is pushed made m =
-      subst (λ rs. Made rs (take (i + 1) entries)) (sym pushed) (subst (Made (rows ++ row ∷ [])) (sym (front_is entries i d entry lt is)) (matched_push MadeOf rows (take i entries) row entry m made))
+  pub made_push : (rows new : List SheetRow) (entries all : List (FareKey × Fare)) (row : SheetRow) (entry : FareKey × Fare) → new ≡ rows ++ row ∷ [] → all ≡ entries ++ entry ∷ [] → MadeOf row entry → Made rows entries → Made new all
+  made_push rows new entries all row entry pushed more made m =
+      subst (λ rs. Made rs all) (sym pushed) (subst (Made (rows ++ row ∷ [])) (sym more) (matched_push MadeOf rows entries row entry m made))
 
-  module _ (b : Book) (m : Market) (entries : List (FareKey × Fare)) (makes : MakesSheet b m entries rules) (sorted : IsStrictlySortedBy fare_order.ghosts.cmp (keys_of entries))
-      (found : (e : FareKey × Fare) → IsIn e entries → lookup (same_key e.0) entries ≡ Some e.1) where
+  module _ (b : Book) (m : Market) (entries : List (FareKey × Fare)) (makes : MakesSheet b m entries rules) (sorted : IsStrictlySortedBy fare_order.ghosts.cmp (keys_of entries)) where
     one : (x y : Fare) → Some x ≡ Some y → x ≡ y
     one x y e = cc
 
@@ -95,7 +123,7 @@ module _ {Z : Type 0} (rules : List (RuleKey × Arc Rule Z)) where
       pub key : e.0 ≡ e.1.key
 
     entry_lives : (e : FareKey × Fare) → IsIn e entries → EntryLives e
-    entry_lives e i = by (in_market m e.0) refl (sym (makes.table_is e.0) ∙ found e i)
+    entry_lives e i = by (in_market m e.0) refl (sym (makes.table_is e.0) ∙ lookup_member entries (all_apart entries sorted) e i)
       where
         by : (t : Bool) → in_market m e.0 ≡ t → cond t (live_fare b e.0) None ≡ Some e.1 → EntryLives e
         by true t l =
@@ -167,24 +195,6 @@ module _ {Z : Type 0} (rules : List (RuleKey × Arc Rule Z)) where
     in_order (r ∷ q ∷ rows) (d ∷ e ∷ es) sub made s =
         (pair_before r q d e made.0 made.1.0 (entry_lives d (sub d (inl refl))) (entry_lives e (sub e (inr (inl refl)))) s.0.0,
           in_order (q ∷ rows) (e ∷ es) (λ x i. sub x (inr i)) made.1 s.1)
-
-    all_apart : (es : List (FareKey × Fare)) → IsStrictlySortedBy fare_order.ghosts.cmp (keys_of es) → AllDifferent (keys_of es)
-    unfolding IsStrictlySortedBy
-    all_apart [] s = tt
-    all_apart (e ∷ es) s = (apart e.0 (keys_of es) s.0, all_apart es s.1)
-      where
-        not_less : (k : FareKey) → fare_order.ghosts.cmp k k ≡ Lower → ⊥
-        not_less k e = same_not (fare_order.ghosts.cmp k k) (cmp_same k) e
-          where
-            same_not : (o : Ordering) → o ≡ Equal → o ≡ Lower → ⊥
-            same_not Lower e f = cc
-            same_not Equal e f = cc
-            same_not Greater e f = cc
-            cmp_same : (k : FareKey) → fare_order.ghosts.cmp k k ≡ Equal
-            cmp_same k = ap₂ ordering_then (tied_itself nat_list_cmp_total k.carrier.0) (ap₂ ordering_then (tied_itself nat_list_cmp_total k.from.0) (ap₂ ordering_then (tied_itself nat_list_cmp_total k.to.0) (tied_itself nat_list_cmp_total k.basis.0)))
-        apart : (k : FareKey) (ks : List FareKey) → AllByRecursion (λ l. fare_order.ghosts.cmp k l ≡ Lower) ks → Each (λ l. k ≢ l) ks
-        apart k [] a = tt
-        apart k (l ∷ ls) a = (λ e. not_less k (ap (fare_order.ghosts.cmp k) e ∙ a.0), apart k ls a.1)
 
     all_live : (es : List (FareKey × Fare)) → ((e : FareKey × Fare) → IsIn e es → IsIn e entries) → Each (IsLive b) (keys_of es)
     all_live [] sub = tt

@@ -1,5 +1,5 @@
 -- The fault that an action has.
-use Rattle.std.proofs.Common.{◌≡◌, ◌%◌, ◌≤◌, ℕ, List, Option, Some, None, IsSome, refl, sym, ap, subst, ◌∙◌, arith}
+use Rattle.std.proofs.Common.{◌≡◌, ◌%◌, ◌≤◌, ℕ, List, Option, Some, None, Result, Ok, Err, IsSome, refl, sym, ap, subst, ◌∙◌, arith}
 use Rattle.fare_law.specs.declared.fares.Fare.{Fare}
 use Rattle.fare_law.specs.declared.fares.FareKey.{FareKey}
 use Rattle.fare_law.specs.declared.fares.FareKind.TheVariants.{R}
@@ -10,9 +10,13 @@ use Rattle.fare_law.specs.declared.filings.BookWhy.TheVariants.{SamePlace, OddRo
 use Rattle.fare_law.specs.declared.filings.SeatKey.{SeatKey}
 use Rattle.fare_law.specs.declared.names.Carrier.{Carrier}
 use Rattle.fare_law.specs.declared.rules.Rule.{Rule}
-use Rattle.fare_law.specs.Book.{Book, live_rule}
-use Rattle.fare_law.specs.Faults.{FaultOf, Why, reason_number}
-use Rattle.fare_book.specs.Drafts.{Faultless, OnlyLimit}
+use Rattle.fare_law.specs.Book.{Book, live_fare, live_rule}
+use Rattle.fare_law.specs.Faults.{FaultOf, HasMany, Why, reason_number}
+use Rattle.fare_book.specs.Counts.{Exactly}
+use Rattle.fare_book.specs.Drafts.{Acts, Drafts, Faultless, OnlyLimit, Places}
+use Rattle.fare_book.specs.declared.draft.Draft.{Draft}
+use Rattle.fare_book.specs.declared.draft.Stop.{Stop}
+use Rattle.fare_book.specs.declared.draft.Stop.TheVariants.{Fault, Mem}
 
 pub none_live : {A G : Type 0} (o : Option A) → o ≡ None → IsSome o → G
 none_live None e s = absurd (cc)
@@ -145,3 +149,24 @@ dropped_seats b key NoSeats w = refl
 
 pub faultless : (b : Book) (a : Action) (why : BookWhy) → ((other : BookWhy) → Why b a other → other ≡ why) → (Why b a why → ⊥) → Faultless b a
 faultless b a why h n other w = n (subst (Why b a) (h other w) w)
+
+-- ---- fares that have no other fault than want of room
+pub rule_lives : (b : Book) (fare : Fare) → OnlyLimit b fare → IsSome (live_rule b fare.key.carrier fare.rule)
+rule_lives b fare h = by (live_rule b fare.key.carrier fare.rule) refl
+  where
+    differ : NoRule ≡ Limit → ⊥
+    differ e = cc
+    by : (o : Option Rule) → live_rule b fare.key.carrier fare.rule ≡ o → IsSome o
+    by None e = absurd (differ (h NoRule e))
+    by (Some r) e = refl
+
+pub limit_fault : (b : Book) (fare : Fare) → OnlyLimit b fare → (count : ℕ) → 20000 ≤ count → count ≤ 20000 → Exactly count (λ key. IsSome (live_fare b key)) → live_fare b fare.key ≡ None → FaultOf b (PutFare fare) Limit
+limit_fault b fare h count low high c none = only b (PutFare fare) Limit h (none, subst (λ n. HasMany n (λ key. IsSome (live_fare b key))) (is count low high) c.many)
+  where
+    is : (count : ℕ) → 20000 ≤ count → count ≤ 20000 → count ≡ 20000
+    is count low high = omega (arith, low, high)
+
+pub placed_acts : (fare : Fare) (old new : Draft) (r : Result (Unit {0}) Stop) → ((b : Book) → Drafts b old → OnlyLimit b fare) → Places fare old new r → Acts (PutFare fare) old new r
+placed_acts fare old new (Ok u) h p = λ b next d f. p b next (h b d) d f
+placed_acts fare old new (Err (Fault why)) h p = λ b d. p b (h b d) d
+placed_acts fare old new (Err Mem) h p = tt

@@ -1,5 +1,5 @@
 -- The actions of a filing up to one, and the first that has a fault.
-use Rattle.std.proofs.Common.{◌≡◌, ◌⊎◌, ◌+◌, ◌<◌, ℕ, zero, suc, List, [], ◌∷◌, ◌++◌, length, take, drop, get_or, refl, sym, ap, ap₂, subst, ◌∙◌, inl, inr, arith}
+use Rattle.std.proofs.Common.{◌≡◌, ◌⊎◌, ◌+◌, ◌<◌, ℕ, zero, suc, List, [], ◌∷◌, ◌++◌, length, take, drop, get_or, Err, refl, sym, ap, ap₂, subst, ◌∙◌, inl, inr, arith}
 use Rattle.std.proofs.Math.Seq.{drop-cons, take-suc}
 use Rattle.std.proofs.lemmas.List.{take-append-drop}
 use Rattle.fare_law.specs.declared.filings.Action.{Action}
@@ -7,11 +7,13 @@ use Rattle.fare_law.specs.declared.filings.BookWhy.{BookWhy}
 use Rattle.fare_law.specs.declared.filings.Filing.{Filing}
 use Rattle.fare_law.specs.declared.filings.Refused.{Refused as Told}
 use Rattle.fare_law.specs.Book.{Book, Timetable}
-use Rattle.fare_law.specs.Faults.{Fault, FaultOf, Legal, Why, filed}
+use Rattle.fare_law.specs.Faults.{Fault as FaultOfFiling, FaultOf, Legal, Why, filed}
 use Rattle.fare_law.specs.Lists.{Each}
-use Rattle.fare_book.specs.Drafts.{Drafts, Faultless, Follows}
-use Rattle.fare_book.specs.Taking.{NoneStops, StopsAt}
+use Rattle.fare_book.specs.Drafts.{Acts, Drafts, Faultless, Follows}
+use Rattle.fare_book.specs.Taking.{NoneStops, StopsAt, fault_at}
 use Rattle.fare_book.specs.declared.draft.Draft.{Draft}
+use Rattle.fare_book.specs.declared.draft.Stop.{Stop}
+use Rattle.fare_book.specs.declared.draft.Stop.TheVariants.{Fault, Mem as NoMemory}
 use Rattle.fare_book.specs.declared.faults.BookFault.TheVariants.{Refused}
 use Rattle.fare_book.proofs.Following.{filed_follows}
 use Rattle.fare_book.proofs.TableRows.{front_is}
@@ -88,15 +90,20 @@ stops_at first old actions i a d why lt is fault so b start =
     (take i actions, a, drop (i + 1) actions, split_is actions i d a lt is, sym (one_more i) ∙ ap suc (sym (take_length actions i lt)), fault (filed b (take i actions)) before.0, before.1)
 
 -- ---- a filing's faults
-pub filing_fault : (b : Book) (filing : Filing) (r : Told) → length b.entries < 1000000 → StopsAt b filing.actions (Refused r) → Fault b filing r.action r.why
+pub filing_fault : (b : Book) (filing : Filing) (r : Told) → length b.entries < 1000000 → StopsAt b filing.actions (Refused r) → FaultOfFiling b filing r.action r.why
 filing_fault b filing r few stops = inr (few, stops)
 
-pub no_fault : (b : Book) (filing : Filing) → length b.entries < 1000000 → NoneStops b filing.actions → (at : ℕ) (why : BookWhy) → Fault b filing at why → ⊥
+pub no_fault : (b : Book) (filing : Filing) → length b.entries < 1000000 → NoneStops b filing.actions → (at : ℕ) (why : BookWhy) → FaultOfFiling b filing at why → ⊥
 no_fault b filing few none at why (inl h) = omega (arith, few, h.2)
 no_fault b filing few none at why (inr h) = none h.1.0 h.1.1 h.1.2 h.1.3 why h.1.5.0
 
-pub legal_more : (t : Timetable) (history : List Filing) (filing : Filing) → Legal t history → ((at : ℕ) (why : BookWhy) → Fault (record { timetable = t; entries = history }) filing at why → ⊥) → Legal t (history ++ filing ∷ [])
+pub legal_more : (t : Timetable) (history : List Filing) (filing : Filing) → Legal t history → ((at : ℕ) (why : BookWhy) → FaultOfFiling (record { timetable = t; entries = history }) filing at why → ⊥) → Legal t (history ++ filing ∷ [])
 legal_more t history filing legal none before other after e at why fault = elim (last_split history before after filing other e) [
-  | inl h ↦ none at why (subst (λ hs. Fault (record { timetable = t; entries = hs }) filing at why) (sym h.0) (subst (λ f. Fault (record { timetable = t; entries = before }) f at why) (sym h.1) fault))
+  | inl h ↦ none at why (subst (λ hs. FaultOfFiling (record { timetable = t; entries = hs }) filing at why) (sym h.0) (subst (λ f. FaultOfFiling (record { timetable = t; entries = before }) f at why) (sym h.1) fault))
   | inr h ↦ legal before other h.0 h.1 at why fault
 ]
+
+pub stops_told : (first old new : Draft) (actions : List Action) (i : ℕ) (a d : Action) (stop : Stop) → i < length actions → a ≡ get_or actions i d → Acts a old new (Err stop) → TakenSo first (take i actions) old
+    → (b : Book) → Drafts (filed b []) first → StopsAt b actions (fault_at (i + 1) stop)
+stops_told first old new actions i a d (Fault why) lt is acts so = stops_at first old actions i a d why lt is acts so
+stops_told first old new actions i a d NoMemory lt is acts so = λ b start. tt

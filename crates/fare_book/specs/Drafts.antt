@@ -39,13 +39,14 @@ pub record Follows (b : Book) (action : Action) (next : Book) : Type 0 where
 abbrev pub Faultless : Book → Action → Type 0
 Faultless b action = (why : BookWhy) → Why b action why → ⊥
 
+-- the seats that were changed, or else those that are shared
+abbrev pub own_or : Option (List (SeatKey × List ℕ)) → List (SeatKey × List ℕ) → List (SeatKey × List ℕ)
+own_or None shared = shared
+own_or (Some own) shared = own
+
 -- the seats of a draft
 abbrev pub drafted_seats : Draft → List (SeatKey × List ℕ)
-drafted_seats d = or_shared d.own_seats (arc_value d.seats)
-  where
-    or_shared : Option (List (SeatKey × List ℕ)) → List (SeatKey × List ℕ) → List (SeatKey × List ℕ)
-    or_shared None shared = shared
-    or_shared (Some own) shared = own
+drafted_seats d = own_or d.own_seats (arc_value d.seats)
 
 -- the rule of each live fare is live
 abbrev pub Stand : Fares → LiveRules → Type 0
@@ -91,3 +92,9 @@ Acts action old new (Err Mem) = Unit {0}
 -- a fare that is put has no fault but want of room
 abbrev pub OnlyLimit : Book → Fare → Type 0
 OnlyLimit b fare = (why : BookWhy) → Why b (PutFare fare) why → why ≡ Limit
+
+-- what comes of a fare that is put, where it has no other fault than want of room
+abbrev pub Places : Fare → Draft → Draft → Result (Unit {0}) Stop → Type 0
+Places fare old new (Ok _) = (b next : Book) → OnlyLimit b fare → Drafts b old → Follows b (PutFare fare) next → Drafts next new × Faultless b (PutFare fare)
+Places fare old new (Err (Fault why)) = (b : Book) → OnlyLimit b fare → Drafts b old → FaultOf b (PutFare fare) why
+Places fare old new (Err Mem) = Unit {0}

@@ -4,7 +4,9 @@ use Rattle.fare_law.specs.declared.filings.Action.{Action}
 use Rattle.fare_law.specs.declared.filings.BookWhy.{BookWhy}
 use Rattle.fare_law.specs.declared.filings.Filing.{Filing}
 use Rattle.fare_law.specs.Book.{Book}
-use Rattle.fare_law.specs.Faults.{Fault, FaultOf, Why, filed}
+use Rattle.fare_law.specs.Faults.{Fault as FaultOfFiling, FaultOf, Why, filed}
+use Rattle.fare_book.specs.declared.draft.Stop.{Stop}
+use Rattle.fare_book.specs.declared.draft.Stop.TheVariants.{Fault, Mem as NoMemory}
 use Rattle.fare_book.specs.declared.faults.BookFault.{BookFault}
 use Rattle.fare_book.specs.declared.faults.BookFault.TheVariants.{Refused, Mem}
 
@@ -20,5 +22,10 @@ StopsAt b actions Mem = Unit {0}
 
 -- a refusal is the filing's fault
 abbrev pub HasCause : Book → Filing → BookFault → Type 0
-HasCause b filing (Refused r) = Fault b filing r.action r.why
+HasCause b filing (Refused r) = FaultOfFiling b filing r.action r.why
 HasCause b filing Mem = Unit {0}
+
+-- what stops at an action, as a book tells it
+abbrev pub fault_at : ℕ → Stop → BookFault
+fault_at action (Fault why) = Refused (record { action = action; why = why })
+fault_at action NoMemory = Mem

@@ -8,6 +8,8 @@ ghost use Rattle.fare_book.specs.Keeping.{History, Limited, NoFare};
 ghost use Rattle.fare_book.specs.Seating.{SeatsBook};
 ghost use Rattle.seat_classes.specs.Held.{seats_in};
 
+mod next;
+
 use crate::Timetable;
 use crate::keys::{Market, RuleKey};
 use crate::rows::row_of;

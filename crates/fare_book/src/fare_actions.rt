@@ -4,7 +4,7 @@ ghost use Rattle.fare_law.specs.Book.{Book as Version, live_rule};
 ghost use Rattle.fare_law.specs.Faults.{FaultOf};
 ghost use Rattle.fare_law.specs.declared.fares.FareKind.TheVariants.{R};
 ghost use Rattle.fare_law.specs.declared.filings.Action.TheVariants.{PutFare, DropFare};
-ghost use Rattle.fare_book.specs.Drafts.{Acts, OnlyLimit};
+ghost use Rattle.fare_book.specs.Drafts.{Acts, OnlyLimit, Places};
 ghost use Rattle.fare_book.specs.Keeping.{Rules};
 ghost use Rattle.fare_book.specs.Tables.{rule_of};
 
@@ -24,9 +24,16 @@ const MOST: u32 = 20_000;
 pub fn put_fare(draft: &mut Draft, alloc: Global, fare: &Fare) -> Result<(), Stop>
     ensures { Acts (PutFare fare.now) draft.old draft.new result }
 {
-    if let Some(why) = fare_fault(&draft.rules, fare) {
-        return Err(Stop::Fault(why));
+    match fare_fault(&draft.rules, fare) {
+        Some(why) => Err(Stop::Fault(why)),
+        None => place_fare(draft, alloc, fare),
     }
+}
+
+/// Puts a fare that has no other fault than want of room.
+fn place_fare(draft: &mut Draft, alloc: Global, fare: &Fare) -> Result<(), Stop>
+    ensures { Places fare.now draft.old draft.new result }
+{
     match replace_fare(alloc, &mut draft.tables, &draft.sheets, fare)? {
         Some(old) => {
             forget_use(&mut draft.uses, rule_of(&old))?;

@@ -5,7 +5,7 @@ ghost use Rattle.fare_law.specs.Faults.{filed};
 ghost use Rattle.fare_law.specs.FilingLimits.{IsAction};
 ghost use Rattle.fare_law.specs.Lists.{Each};
 ghost use Rattle.fare_book.specs.Drafts.{Acts, Drafts};
-ghost use Rattle.fare_book.specs.Taking.{NoneStops, StopsAt};
+ghost use Rattle.fare_book.specs.Taking.{NoneStops, StopsAt, fault_at};
 
 use crate::BookFault;
 use crate::draft::{Draft, Stop};
@@ -29,16 +29,20 @@ pub fn take_actions(
     for (i, action) in actions.iter().enumerate() {
         match act(draft, alloc, action) {
             Ok(()) => {}
-            Err(Stop::Fault(why)) => {
-                return Err(BookFault::Refused(Refused {
-                    action: i as u32 + 1,
-                    why,
-                }));
-            }
-            Err(Stop::Mem) => return Err(BookFault::Mem),
+            Err(stop) => return Err(fault_at(i as u32 + 1, stop)),
         }
     }
     Ok(())
+}
+
+/// What stops at an action, counted from 1.
+fn fault_at(action: u32, stop: Stop) -> BookFault
+    ensures { result ≡ fault_at action stop }
+{
+    match stop {
+        Stop::Fault(why) => BookFault::Refused(Refused { action, why }),
+        Stop::Mem => BookFault::Mem,
+    }
 }
 
 /// Takes one action.

@@ -3,6 +3,7 @@ use Rattle.fare_law.specs.declared.filings.Action.TheVariants.{DropRule}
 use Rattle.fare_law.specs.Book.{live_fare, live_rule}
 use Rattle.fare_book.specs.Drafts.{RulesKept}
 use Rattle.fare_book.specs.Tables.{NamesRule}
+use Rattle.fare_book.specs.declared.keys.RuleKey.{RuleKey}
 use Rattle.fare_book.proofs.Assembled.{rules_alone}
 use Rattle.fare_book.proofs.Counting.{none_counted, some_counted}
 use Rattle.fare_book.proofs.Following.{fares_stay, rule_dropped_after, seats_stay}
@@ -15,7 +16,7 @@ pub returns-then-uses_of-ne0 : goal.returns-then-uses_of-ne0
 returns-then-uses_of-ne0 c = λ b d.
     let k = c.args.carrier in
     let m = c.args.number in
-    let key = record { carrier = k; number = m } in
+    let key : RuleKey = record { carrier = k; number = m } in
     let has = (c.has_rule.ensures b d.rules_kept.rules_are).0 c.if-not-has_rule.false in
     let named = some_counted (NamesRule (live_fare b) key) _ (d.fares_kept.uses_are key) (λ z. c.if-uses_of-ne0.true (c.uses_of.ensures.value ∙ z)) in
     rule_in_use b k m has (named.0, named.1.0, named.1.1, named.1.2, named.1.3)
@@ -25,7 +26,7 @@ returns c = λ b next d f.
     let old = c.args.draft.now in
     let k = c.args.carrier in
     let m = c.args.number in
-    let key = record { carrier = k; number = m } in
+    let key : RuleKey = record { carrier = k; number = m } in
     let proper = proper_number m c.requires.1 in
     let step = rule_dropped_after b next k m f in
     let has = (c.has_rule.ensures b d.rules_kept.rules_are).0 c.if-not-has_rule.false in
