@@ -34,7 +34,7 @@ sheet_found sheets m b v r is found s =
     match_behind arc_value r (lookup (same_market m) sheets) (NoFare b m.from m.to) (SheetOf b m.from m.to) (found ∙ market_found sheets m) (subst (λ w. MatchOption (sheet_at sheets m) (NoFare w m.from m.to) (SheetOf w m.from m.to)) is (s m))
 
 -- a change that a map tells, by the test of the definitions
-flips : {A : Type 0} (same : A → A → Bool) → ((a b : A) → Decides (same a b) (a ≡ b)) → (a b : A) → same a b ≡ same b a
+pub flips : {A : Type 0} (same : A → A → Bool) → ((a b : A) → Decides (same a b) (a ≡ b)) → (a b : A) → same a b ≡ same b a
 flips same tells a b = same_from_decides (same a b) (same b a) (tells a b) (Decides-like _ (λ e. sym e) (λ e. sym e) (tells b a))
 
 pub rule_changes : {X : Type 0} (old new : List (RuleKey × X)) (r : RuleKey) (w : Option X) → ((q : RuleKey) → lookup (rule.ghosts.eq q) new ≡ cond (rule.ghosts.eq r q) w (lookup (rule.ghosts.eq q) old))

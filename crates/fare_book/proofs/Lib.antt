@@ -20,3 +20,4 @@ pub mod Making
 pub mod TakingLemmas
 pub mod Placing
 pub mod Versions
+pub mod Causes

@@ -147,7 +147,7 @@ module _ {Z : Type 0} (sheets : List (Market × Arc Sheet Z)) (changed : List Ru
       here : (n : Market) (t : Arc Sheet Z) → lookup (same_market n) sheets ≡ Some t → n ≡ m → Settled new n t
       here n t has e = elim (cases_Bool stale) [
         | inl h ↦ inl (subst (λ x. IsSome (lookup (same_market x) new)) (sym e) (touched h))
-        | inr h ↦ inr (ap (λ a. list_any (λ row. list_any (same_rule (rule_of row.fare)) changed) (arc_value a).rows) (one t s (sym has ∙ ap (λ x. lookup (same_market x) sheets) e ∙ found)) ∙ sym told ∙ h)
+        | inr h ↦ inr (ap (λ (a : Arc Sheet Z). list_any (λ row. list_any (same_rule (rule_of row.fare)) changed) (arc_value a).rows) (one t s (sym has ∙ ap (λ x. lookup (same_market x) sheets) e ∙ found)) ∙ sym told ∙ h)
       ]
 
   pub settled_all : (fare : Fares) (rule : LiveRules) (tables : List (Market × BTreeMap FareKey Fare)) → ((m : Market) → MarketHolds fare rule changed sheets tables m) → SettledSo tables [] → (m : Market) → MarketHolds fare rule [] sheets tables m

@@ -1,11 +1,13 @@
 -- From a book to the next one.
-use Rattle.std.proofs.Common.{◌≡◌, ◌≢◌, ◌≤◌, ◌<◌, ◌+◌, ℕ, Bool, true, false, cond, List, [], ◌∷◌, ◌++◌, length, map, Global, Option, Some, None, IsSome, option_map, refl, sym, ap, subst, ◌∙◌, inl, inr, arith}
+use Rattle.std.proofs.Common.{◌≡◌, ◌≢◌, ◌≤◌, ◌<◌, ◌+◌, ℕ, Bool, true, false, cond, List, [], ◌∷◌, ◌++◌, length, map, take, get_or, Global, Option, Some, None, IsSome, option_map, refl, sym, ap, subst, ◌∙◌, inl, inr, arith}
 use Rattle.std.specs.Arc.{arc_value}
 use Rattle.std.specs.List.{AllZip}
 use Rattle.std.specs.Map.{lookup}
 use Rattle.std.specs.Option.{MatchOption}
 use Rattle.std.specs.declared.sync.Arc.{Arc}
 use Rattle.std.specs.BTreeMap.{BTreeMap}
+use Rattle.std.proofs.lemmas.List.{map-append}
+use Rattle.fare_book.proofs.TableRows.{front_is}
 use Rattle.seat_classes.specs.Held.{seats_at}
 use Rattle.fare_book.specs.Counts.{Exactly}
 use Rattle.fare_law.specs.declared.fares.Fare.{Fare}
@@ -14,7 +16,7 @@ use Rattle.fare_law.specs.declared.filings.Filing.{Filing}
 use Rattle.fare_law.specs.declared.filings.SeatKey.{SeatKey}
 use Rattle.fare_law.specs.declared.rules.Rule.{Rule}
 use Rattle.fare_law.specs.declared.sheets.SheetRow.{SheetRow}
-use Rattle.fare_law.specs.Book.{Book, actions, live_fare, live_rule, live_seats}
+use Rattle.fare_law.specs.Book.{Book, Timetable, actions, live_fare, live_rule, live_seats}
 use Rattle.fare_law.specs.Faults.{filed}
 use Rattle.fare_law.specs.FilingLimits.{IsFiling}
 use Rattle.fare_law.specs.Lists.{Each, IsIn}
@@ -143,3 +145,21 @@ draft_keeps b d sheets rules uses held k s r u h t c =
       seats_kept = parts.2;
       stand = k.counted.stand;
     })
+
+-- ---- entries
+pub copied_more : {X Y : Type 0} (f : X → Y) (all new src : List X) (x e : X) (i : ℕ) → new ≡ all ++ x ∷ [] → f x ≡ f e → e ≡ get_or src i e → i < length src → map f all ≡ map f (take i src) → map f new ≡ map f (take (i + 1) src)
+copied_more f all new src x e i pushed same is within so =
+    ap (map f) pushed ∙ map-append f all (x ∷ []) ∙ ap (λ z. z ++ f x ∷ []) so ∙ ap (λ z. map f (take i src) ++ z ∷ []) same
+    ∙ sym (map-append f (take i src) (e ∷ [])) ∙ sym (ap (map f) (front_is src i e e within is))
+
+pub entry_more : {X Y : Type 0} (f : X → Y) (all new src : List X) (x : X) → new ≡ all ++ x ∷ [] → map f all ≡ map f src → map f new ≡ map f src ++ f x ∷ []
+entry_more f all new src x pushed same = ap (map f) pushed ∙ map-append f all (x ∷ []) ∙ ap (λ z. z ++ f x ∷ []) same
+
+-- what a book that is made of these shows
+pub next_view : (b : Book) (timetable : Arc Timetable Global) (entries : List (Arc Filing Global)) (new_timetable : Arc Timetable Global) (new_entries : List (Arc Filing Global)) (filing : Filing) (slice : List (Arc Filing Global))
+    → record { timetable = arc_value timetable; entries = map arc_value entries } ≡ b → arc_value new_timetable ≡ arc_value timetable → slice ≡ entries → map arc_value new_entries ≡ map arc_value slice ++ filing ∷ []
+    → ◌≡◌ {A = Book} (record { timetable = arc_value new_timetable; entries = map arc_value new_entries }) (record { timetable = b.timetable; entries = b.entries ++ filing ∷ [] })
+next_view b timetable entries new_timetable new_entries filing slice view t s e =
+    let times : arc_value new_timetable ≡ b.timetable = t ∙ ap (λ (v : Book). v.timetable) view in
+    let all : map arc_value new_entries ≡ b.entries ++ filing ∷ [] = e ∙ ap (λ es. map arc_value es ++ filing ∷ []) s ∙ ap (λ (v : Book). v.entries ++ filing ∷ []) view in
+    λ i. record { timetable = times i; entries = all i }

@@ -107,11 +107,20 @@ fn with_entry(
 ) -> Result<List<Arc<Filing>>, Mem>
     ensures { IfOk result (λ l. map arc_value l ≡ map arc_value entries.now ++ arc_value filing ∷ []) }
 {
+    let mut all = shared(alloc, entries)?;
+    all.push(filing)?;
+    Ok(all)
+}
+
+/// The same entries.
+fn shared(alloc: Global, entries: &[Arc<Filing>]) -> Result<List<Arc<Filing>>, Mem>
+    ensures { IfOk result (λ l. map arc_value l ≡ map arc_value entries.now) }
+{
     let mut all = List::new(alloc);
     for entry in entries {
-        all.push(Arc::try_clone(entry)?)?;
+        let entry = Arc::try_clone(entry)?;
+        all.push(entry)?;
     }
-    all.push(filing)?;
     Ok(all)
 }
 
