@@ -95,6 +95,7 @@ module _ {Z : Type 0} (f g : Fares) (rule : LiveRules) (changed : List RuleKey) 
       twice : (b : Bool) (q : FareKey) → cond b (Some x) (f q) ≡ cond b (Some x) (cond b None (f q))
       twice true q = refl
       twice false q = refl
+
       was_live : (h : Fares) → ((q : FareKey) → h q ≡ cond (same_key q x.key) None (f q)) → (r : RuleKey) (q : FareKey) → NamesRule h r q → IsSome (f q)
       was_live h is r q n = elim (either same_key same_fares_tell f h x.key None is q) [
         | inl e ↦ clash (h q) n.0 (ap h e ∙ at_key same_key same_fares_tell f h x.key None is) n.1

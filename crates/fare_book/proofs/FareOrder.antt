@@ -44,7 +44,7 @@ fares_tell a b =
     then_eq c (ordering_then f (ordering_then t s)) ∙ ap (λ x. is_eq c && x) (then_eq f (ordering_then t s) ∙ ap (λ x. is_eq f && x) (then_eq t s)) in
     subst (λ x. Decides x (a ≡ b)) (sym parts)
     (Decides-like _ (λ e. whole a b e.0 e.1.0 e.1.1.0 e.1.1.1) (λ e. (ap (λ x. x.carrier.0) e, (ap (λ x. x.from.0) e, (ap (λ x. x.to.0) e, ap (λ x. x.basis.0) e))))
-      (Decides-and _ _ (words_tell a.carrier.0 b.carrier.0) (Decides-and _ _ (words_tell a.from.0 b.from.0) (Decides-and _ _ (words_tell a.to.0 b.to.0) (words_tell a.basis.0 b.basis.0)))))
+    (Decides-and _ _ (words_tell a.carrier.0 b.carrier.0) (Decides-and _ _ (words_tell a.from.0 b.from.0) (Decides-and _ _ (words_tell a.to.0 b.to.0) (words_tell a.basis.0 b.basis.0)))))
 
 -- comparing as equal is the law's test
 pub fares_compared : (λ (a b : FareKey). is_eq (fare_order.ghosts.cmp a b)) ≡ same_key

@@ -147,6 +147,7 @@ module _ {Z : Type 0} (f g : Fares) (rule : LiveRules) (changed : List RuleKey) 
     where
       whole : (a b : Market) → a.from ≡ b.from → a.to ≡ b.to → a ≡ b
       whole a b c n = λ i. record { from = c i; to = n i }
+
       agree : (n : Market) → same_market n m ≡ false → (q : FareKey) → q.from ≡ n.from → q.to ≡ n.to → (q ≡ k) ⊎ (g q ≡ f q) → g q ≡ f q
       agree n s q a b (inr e) = e
       agree n s q a b (inl e) =
@@ -179,7 +180,8 @@ pub changes_from : {Z : Type 0} (sheets : List (Market × Arc Sheet Z)) (old mid
 changes_from {Z = Z} sheets old mid new key after was market t changed_t is table others told puts puts_back f g rule changed keyed holds step =
     let from : market.from ≡ key.from = ap (λ (m : Market). m.from) is in
     let to : market.to ≡ key.to = ap (λ (m : Market). m.to) is in
-    let had : TableOf f market t = table f rule changed keyed (holds market) in
-    (told ∙ table_has f market t key from to had,
+    let had : TableOf f market t = table f rule changed keyed (holds market) in (
+      told ∙ table_has f market t key from to had,
       markets_step f g rule changed sheets key after step market from to mid new changed_t (table_step f g key after step market from to t changed_t.entries puts had) puts_back
-      (λ n apart. subst (λ o. MatchOption o (Untouched f rule changed n (sheet_at sheets n)) (λ t. TableOf f n t.entries)) (sym (others n apart)) (holds n)))
+          (λ n apart. subst (λ o. MatchOption o (Untouched f rule changed n (sheet_at sheets n)) (λ t. TableOf f n t.entries)) (sym (others n apart)) (holds n)),
+    )

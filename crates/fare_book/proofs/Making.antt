@@ -66,6 +66,7 @@ lookup_in (e ∷ es) key x s = by (lookup_in es key x) (same_key key e.0) s
   where
     one : Some e.1 ≡ Some x → e.1 ≡ x
     one t = cc
+
     by : (lookup (same_key key) es ≡ Some x → (e : FareKey × _) × IsIn e es × (e.1 ≡ x)) → (t : Bool) → cond t (Some e.1) (lookup (same_key key) es) ≡ Some x → (d : FareKey × _) × IsIn d (e ∷ es) × (d.1 ≡ x)
     by rest true s = (e, inl refl, one s)
     by rest false s = let found = rest s in (found.0, inr found.1, found.2)
@@ -82,12 +83,13 @@ all_apart (e ∷ es) s = (apart e.0 (keys_of es) s.0, all_apart es s.1)
         same_not Lower e f = cc
         same_not Equal e f = cc
         same_not Greater e f = cc
+
         cmp_same : (k : FareKey) → fare_order.ghosts.cmp k k ≡ Equal
         cmp_same k = ap₂ ordering_then (tied_itself nat_list_cmp_total k.carrier.0) (ap₂ ordering_then (tied_itself nat_list_cmp_total k.from.0) (ap₂ ordering_then (tied_itself nat_list_cmp_total k.to.0) (tied_itself nat_list_cmp_total k.basis.0)))
+
     apart : (k : FareKey) (ks : List FareKey) → AllByRecursion (λ l. fare_order.ghosts.cmp k l ≡ Lower) ks → Each (λ l. k ≢ l) ks
     apart k [] a = tt
     apart k (l ∷ ls) a = (λ e. not_less k (ap (fare_order.ghosts.cmp k) e ∙ a.0), apart k ls a.1)
-
 
 lookup_member : (es : List (FareKey × Fare)) → AllDifferent (keys_of es) → (e : FareKey × Fare) → IsIn e es → lookup (same_key e.0) es ≡ Some e.1
 lookup_member [] d e i = absurd i
@@ -157,6 +159,7 @@ module _ {Z : Type 0} (rules : List (RuleKey × Arc Rule Z)) where
       where
         rules_one : (r s : Rule) → Some r ≡ Some s → r ≡ s
         rules_one r s e = cc
+
         whole : (r s : SheetRow) → r.fare ≡ s.fare → r.rule ≡ s.rule → r ≡ s
         whole r s f u = λ i. record { fare = f i; rule = u i }
 
@@ -166,14 +169,18 @@ module _ {Z : Type 0} (rules : List (RuleKey × Arc Rule Z)) where
       where
         from_same : slice_cmp nat_cmp k.from.0 l.from.0 ≡ Equal
         from_same = ap (λ (p : Place). slice_cmp nat_cmp k.from.0 p.0) (sym f) ∙ tied_itself nat_list_cmp_total k.from.0
+
         to_same : slice_cmp nat_cmp k.to.0 l.to.0 ≡ Equal
         to_same = ap (λ (p : Place). slice_cmp nat_cmp k.to.0 p.0) (sym t) ∙ tied_itself nat_list_cmp_total k.to.0
+
         carriers : k.carrier.0 ≡ l.carrier.0 → k.carrier ≡ l.carrier
         carriers c = λ i. record { 0 = c i }
+
         basis : (o : Ordering) → MatchOrdering o (Less k.basis.0 l.basis.0) (k.basis.0 ≡ l.basis.0) (Less l.basis.0 k.basis.0) → o ≡ Lower → Less k.basis.0 l.basis.0
         basis Lower h e = h
         basis Equal h e = absurd (cc)
         basis Greater h e = absurd (cc)
+
         by : (o : Ordering) → MatchOrdering o (Less k.carrier.0 l.carrier.0) (k.carrier.0 ≡ l.carrier.0) (Less l.carrier.0 k.carrier.0) → ordering_then o (slice_cmp nat_cmp k.basis.0 l.basis.0) ≡ Lower
             → Less k.carrier.0 l.carrier.0 ⊎ ((k.carrier ≡ l.carrier) × Less k.basis.0 l.basis.0)
         by Lower h e = inl h
@@ -184,7 +191,7 @@ module _ {Z : Type 0} (rules : List (RuleKey × Arc Rule Z)) where
     pair_before r s d e rd se dl el low =
         subst (λ (x : Fare). Less x.key.carrier.0 s.fare.key.carrier.0 ⊎ ((x.key.carrier ≡ s.fare.key.carrier) × Less x.key.basis.0 s.fare.key.basis.0)) (sym rd.fare_is)
         (subst (λ (y : Fare). Less d.1.key.carrier.0 y.key.carrier.0 ⊎ ((d.1.key.carrier ≡ y.key.carrier) × Less d.1.key.basis.0 y.key.basis.0)) (sym se.fare_is)
-          (names_before d.1.key e.1.key (dl.from ∙ sym el.from) (dl.to ∙ sym el.to) (ap₂ fare_order.ghosts.cmp (sym dl.key) (sym el.key) ∙ low)))
+        (names_before d.1.key e.1.key (dl.from ∙ sym el.from) (dl.to ∙ sym el.to) (ap₂ fare_order.ghosts.cmp (sym dl.key) (sym el.key) ∙ low)))
 
     in_order : (rows : List SheetRow) (es : List (FareKey × Fare)) → ((e : FareKey × Fare) → IsIn e es → IsIn e entries) → Made rows es → IsStrictlySortedBy fare_order.ghosts.cmp (keys_of es) → EachPair RowBefore rows
     unfolding IsStrictlySortedBy
@@ -192,9 +199,10 @@ module _ {Z : Type 0} (rules : List (RuleKey × Arc Rule Z)) where
     in_order (r ∷ []) es sub made s = tt
     in_order (r ∷ q ∷ rows) [] sub made s = absurd made
     in_order (r ∷ q ∷ rows) (d ∷ []) sub made s = absurd made.1
-    in_order (r ∷ q ∷ rows) (d ∷ e ∷ es) sub made s =
-        (pair_before r q d e made.0 made.1.0 (entry_lives d (sub d (inl refl))) (entry_lives e (sub e (inr (inl refl)))) s.0.0,
-          in_order (q ∷ rows) (e ∷ es) (λ x i. sub x (inr i)) made.1 s.1)
+    in_order (r ∷ q ∷ rows) (d ∷ e ∷ es) sub made s = (
+      pair_before r q d e made.0 made.1.0 (entry_lives d (sub d (inl refl))) (entry_lives e (sub e (inr (inl refl)))) s.0.0,
+      in_order (q ∷ rows) (e ∷ es) (λ x i. sub x (inr i)) made.1 s.1,
+    )
 
     all_live : (es : List (FareKey × Fare)) → ((e : FareKey × Fare) → IsIn e es → IsIn e entries) → Each (IsLive b) (keys_of es)
     all_live [] sub = tt

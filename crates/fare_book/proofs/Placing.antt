@@ -56,12 +56,16 @@ sheet_right b m (Some s) stand h = record {
     no_change : (row : SheetRow) → (live_rule b row.fare.key.carrier row.fare.rule ≡ Some row.rule) ⊎ IsTrue false → live_rule b row.fare.key.carrier row.fare.rule ≡ Some row.rule
     no_change row (inl e) = e
     no_change row (inr e) = absurd (cc)
+
     live : (row : SheetRow) → IsOldRow (live_fare b) (live_rule b) [] m row → IsLiveRow b m.from m.to row
     live row r = record { filed_from = r.filed_from; filed_to = r.filed_to; fare = r.live; rule = no_change row r.rule_is }
+
     rules_one : (r s : Rule) → Some r ≡ Some s → r ≡ s
     rules_one r s e = cc
+
     whole : (r s : SheetRow) → r.fare ≡ s.fare → r.rule ≡ s.rule → r ≡ s
     whole r s f u = λ i. record { fare = f i; rule = u i }
+
     listed : (row : SheetRow) → IsLiveRow b m.from m.to row → IsIn row s.rows
     listed row l =
         let at = h.all row.fare.key row.fare l.fare l.filed_from l.filed_to in
@@ -108,6 +112,7 @@ fresh_row fare rule changed m rows row i none h = record { filed_from = h.filed_
         or_true : (b : Bool) → (b || true) ≡ true
         or_true true = refl
         or_true false = refl
+
     by : (rule row.fare.key.carrier row.fare.rule ≡ Some row.rule) ⊎ IsTrue (list_any (same_rule (rule_of row.fare)) changed) → (rule row.fare.key.carrier row.fare.rule ≡ Some row.rule) ⊎ IsTrue false
     by (inl e) = inl e
     by (inr t) = absurd (both_ways _ none (stale rows i t))
@@ -141,9 +146,11 @@ module _ {Z : Type 0} (sheets : List (Market × Arc Sheet Z)) (changed : List Ru
     where
       one : (a c : Arc Sheet Z) → Some a ≡ Some c → a ≡ c
       one a c e = cc
+
       kept : (n : Market) (t : Arc Sheet Z) → Settled old n t → Settled new n t
       kept n t (inl h) = inl (stay n h)
       kept n t (inr h) = inr h
+
       here : (n : Market) (t : Arc Sheet Z) → lookup (same_market n) sheets ≡ Some t → n ≡ m → Settled new n t
       here n t has e = elim (cases_Bool stale) [
         | inl h ↦ inl (subst (λ x. IsSome (lookup (same_market x) new)) (sym e) (touched h))
@@ -163,6 +170,7 @@ module _ {Z : Type 0} (sheets : List (Market × Arc Sheet Z)) (changed : List Ru
           not_some : {A : Type 0} (o : Option A) → o ≡ None → IsSome o → ⊥
           not_some None e s = cc
           not_some (Some x) e s = cc
+
       by : (o : Option (BTreeMap FareKey Fare)) → lookup (same_market m) tables ≡ o → MatchOption o (Untouched fare rule changed m (sheet_at sheets m)) (λ t. TableOf fare m t.entries) → MatchOption o (Untouched fare rule [] m (sheet_at sheets m)) (λ t. TableOf fare m t.entries)
       by None e h = sheet (lookup (same_market m) sheets) refl e h
       by (Some t) e h = h

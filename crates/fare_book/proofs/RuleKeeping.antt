@@ -79,6 +79,7 @@ from_pair rule p h = (λ z. clash (sym (ap (λ t. is_some (cond t None (rule p.0
   where
     clash : false ≡ true → ⊥
     clash e = cc
+
     by : (t : Bool) → is_some (cond t None (rule p.0 p.1)) ≡ true → IsSome (rule p.0 p.1)
     by true h = absurd (cc)
     by false h = h

@@ -156,6 +156,7 @@ rule_lives b fare h = by (live_rule b fare.key.carrier fare.rule) refl
   where
     differ : NoRule ≡ Limit → ⊥
     differ e = cc
+
     by : (o : Option Rule) → live_rule b fare.key.carrier fare.rule ≡ o → IsSome o
     by None e = absurd (differ (h NoRule e))
     by (Some r) e = refl

@@ -56,6 +56,7 @@ rows_push rows row old new puts held fare each key =
   where
     front : Each (λ r. fare r.fare.key ≡ Some r.fare) rows × (fare row.fare.key ≡ Some row.fare)
     front = each_front (λ r. fare r.fare.key ≡ Some r.fare) rows row each
+
     by : (t : Bool) → same_key key row.fare.key ≡ t → cond t (Some row.fare) (lookup (same_key key) old) ≡ cond (list_any (λ r. same_key key r.fare.key) rows || same_key key row.fare.key) (fare key) None
     by true t = sym front.1 ∙ ap fare (sym ((same_fares_tell key row.fare.key).0 t)) ∙ sym (ap (λ b. cond b (fare key) None) (ap (λ b. list_any (λ r. same_key key r.fare.key) rows || b) t ∙ or_true (list_any (λ r. same_key key r.fare.key) rows)))
     by false t = held fare front.0 key ∙ sym (ap (λ b. cond b (fare key) None) (ap (λ b. list_any (λ r. same_key key r.fare.key) rows || b) t ∙ or_false (list_any (λ r. same_key key r.fare.key) rows)))
@@ -109,12 +110,14 @@ sheet_table fare rule changed m sheet table keyed old rows key = rows fare (each
   where
     clash : {A : Type 0} → true ≡ false → A
     clash e = absurd (cc)
+
     none : (o : Option Fare) → fare key ≡ o → list_any (λ row. same_key key row.fare.key) sheet.rows ≡ false → in_market m key ≡ true → None ≡ fare key
     none None e a t = sym e
     none (Some f) e a t =
         let told = in_market_tells m key t in
         let row = old.all key f e told.0 told.1 in
         clash (sym (any_in key sheet.rows row.0 row.1 (keyed key f e ∙ ap (λ (x : Fare). x.key) (sym row.2))) ∙ a)
+
     by : (a : Bool) → list_any (λ row. same_key key row.fare.key) sheet.rows ≡ a → (t : Bool) → in_market m key ≡ t → cond a (fare key) None ≡ cond t (fare key) None
     by true a true t = refl
     by true a false t =

@@ -38,6 +38,7 @@ last_split {X = X} (x ∷ xs) (f ∷ fs) rest a e s = by (last_split xs fs rest 
   where
     first : x ≡ f
     first = head_is x f (xs ++ a ∷ []) (fs ++ e ∷ rest) s
+
     by : ((xs ≡ fs) × (a ≡ e)) ⊎ ((more : List X) × (xs ≡ fs ++ e ∷ more)) → ((x ∷ xs ≡ f ∷ fs) × (a ≡ e)) ⊎ ((more : List X) × (x ∷ xs ≡ f ∷ (fs ++ e ∷ more)))
     by (inl h) = inl (ap₂ (λ y ys. y ∷ ys) first h.0, h.1)
     by (inr h) = inr (h.0, ap₂ (λ y ys. y ∷ ys) first h.1)

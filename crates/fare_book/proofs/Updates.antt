@@ -67,6 +67,7 @@ module _ {K V : Type 0} (same : K → K → Bool) (tells : (a b : K) → Decides
         | inl e ↦ subst (λ r. IsSome (f r)) (sym e) (live_some (f k) o was)
         | inr h ↦ h
       ]
+
       now : (q : K) → IsSome (f q) → (q ≡ k) ⊎ IsSome (g q)
       now q h = elim (either q) [
         | inl e ↦ inl e

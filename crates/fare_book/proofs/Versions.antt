@@ -85,24 +85,25 @@ filed_nothing b d k =
 pub book_drafts : {Z : Type 0} (b : Book) (sheets copied_sheets : List (Market × Arc Sheet Z)) (rules copied_rules : List (RuleKey × Arc Rule Z)) (uses copied_uses : List (RuleKey × ℕ)) (fare_count rule_count : ℕ) (held copied_held : List (SeatKey × List ℕ))
     → Keeps b sheets rules uses fare_count rule_count held → AllZip (λ p q. (q.0 ≡ p.0) × (arc_value q.1 ≡ arc_value p.1)) sheets copied_sheets → AllZip (λ p q. (q.0 ≡ p.0) × (arc_value q.1 ≡ arc_value p.1)) rules copied_rules → copied_uses ≡ uses → copied_held ≡ held
     → FaresKept (live_fare b) (live_rule b) [] copied_sheets [] fare_count copied_uses × RulesKept (live_rule b) copied_rules rule_count × SeatsKept (live_seats b) copied_held
-book_drafts b sheets copied_sheets rules copied_rules uses copied_uses fare_count rule_count held copied_held k s r u h =
-    (record {
-      markets = λ m. subst (Untouched (live_fare b) (live_rule b) [] m) (sym (copied_arcs sheets copied_sheets s (same_market m))) (old_sheet b m (sheet_at sheets m) k.counted.stand (k.sheets_are m));
-      counted = k.counted.fares;
-      few = k.counted.few_fares;
-      uses_are = subst (λ us. (q : RuleKey) → Exactly (uses_at us q) (NamesRule (live_fare b) q)) (sym u) k.counted.uses;
-      keyed = live_key b;
-    },
-      record {
-        rules_are = λ q n. copied_arcs rules copied_rules r (same_rule q) ∙ k.rules_are q n;
-        counted = k.counted.rules;
-        few = k.counted.few_rules;
-        free = rule_free b;
-      },
-      record {
-        seats_are = λ q. ap (λ hs. seats_at hs q) h ∙ k.seats_are q;
-        few = k.counted.seats;
-      })
+book_drafts b sheets copied_sheets rules copied_rules uses copied_uses fare_count rule_count held copied_held k s r u h = (
+  record {
+    markets = λ m. subst (Untouched (live_fare b) (live_rule b) [] m) (sym (copied_arcs sheets copied_sheets s (same_market m))) (old_sheet b m (sheet_at sheets m) k.counted.stand (k.sheets_are m));
+    counted = k.counted.fares;
+    few = k.counted.few_fares;
+    uses_are = subst (λ us. (q : RuleKey) → Exactly (uses_at us q) (NamesRule (live_fare b) q)) (sym u) k.counted.uses;
+    keyed = live_key b;
+  },
+  record {
+    rules_are = λ q n. copied_arcs rules copied_rules r (same_rule q) ∙ k.rules_are q n;
+    counted = k.counted.rules;
+    few = k.counted.few_rules;
+    free = rule_free b;
+  },
+  record {
+    seats_are = λ q. ap (λ hs. seats_at hs q) h ∙ k.seats_are q;
+    few = k.counted.seats;
+  },
+)
 
 -- ---- from a draft to the next book
 pub draft_ready : (b : Book) (d : Draft) (tables : List (Market × BTreeMap FareKey Fare)) → Drafts b d → ((m : Market) → MarketHolds (live_fare b) (live_rule b) [] d.sheets.entries tables m) → Ready b d.sheets.entries tables d.rules.entries

@@ -47,10 +47,7 @@ fn table_of(alloc: Global, rows: &[SheetRow]) -> Result<BTreeMap<FareKey, Fare>,
 }
 
 /// Puts a fare in place of that of its key, which is given back.
-pub fn put_fare_in(
-    table: &mut BTreeMap<FareKey, Fare>,
-    fare: &Fare,
-) -> Result<Option<Fare>, Mem>
+pub fn put_fare_in(table: &mut BTreeMap<FareKey, Fare>, fare: &Fare) -> Result<Option<Fare>, Mem>
     ensures old { IfOk result (λ old. old ≡ lookup (same_key fare.now.key) table.old.entries) }
     ensures puts { OnOk result ((key : Key) → lookup (same_key key) table.new.entries ≡ (if same_key key fare.now.key then Some fare.now else lookup (same_key key) table.old.entries)) }
 {

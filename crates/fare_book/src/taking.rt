@@ -16,11 +16,7 @@ use fare_law::{Action, Refused};
 use std::alloc::Global;
 
 /// Takes the actions in order, up to the first that has a fault.
-pub fn take_actions(
-    draft: &mut Draft,
-    alloc: Global,
-    actions: &[Action],
-) -> Result<(), BookFault>
+pub fn take_actions(draft: &mut Draft, alloc: Global, actions: &[Action]) -> Result<(), BookFault>
     requires few { length actions.now ≤ 5000 }
     requires each { Each IsAction actions.now }
     ensures taken { OnOk result ((b : Version) → Drafts (filed b []) draft.old → Drafts (filed b actions.now) draft.new × NoneStops b actions.now) }

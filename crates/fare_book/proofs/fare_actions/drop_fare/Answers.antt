@@ -21,16 +21,17 @@ returns-in_ok-forget_use-in-Some c = λ b next d f.
     let changes : Changes old.sheets.entries old.tables.entries c.remove_fare.new.tables.entries key None (Some c.in-Some.old) = subst (λ o. Changes old.sheets.entries old.tables.entries c.remove_fare.new.tables.entries key None o) c.in-Some.is c.in_ok-old.ensures in
     let less = subst (λ r. (k : RuleKey) → uses_at c.forget_use.new.uses.entries k ≡ cond (same_rule k r) (uses_at old.uses.entries r - 1) (uses_at old.uses.entries k)) c.rule_of.ensures c.in_ok-forget_use-in-Some.ensures in
     let count : c.saturating_sub-draft.result ≡ old.fare_count - 1 = grind (arith, c.saturating_sub-draft.ensures) in
-    let told = changes (live_fare b) (live_fare next) (live_rule b) old.changed.keys d.fares_kept.keyed d.fares_kept.markets step in
-    (fares_alone b next _ (rules_stay b next (DropFare key) (λ c n. refl) f) (seats_stay b next (DropFare key) (λ k. refl) f)
-      (record {
-        fares_kept = subst (λ n. FaresKept (live_fare next) (live_rule b) old.changed.keys old.sheets.entries c.remove_fare.new.tables.entries n c.forget_use.new.uses.entries) (sym count)
-          (fares_gone (live_fare b) (live_fare next) (live_rule b) old.changed.keys old.sheets.entries old.tables.entries c.remove_fare.new.tables.entries old.fare_count old.uses.entries d.fares_kept key c.in-Some.old c.forget_use.new.uses.entries changes step less);
-        rules_kept = d.rules_kept;
-        seats_kept = d.seats_kept;
-        stand = stand_drop (live_fare b) (live_fare next) key (live_rule b) step d.stand;
-      }),
-      faultless b (DropFare key) NoFare (dropped_fare b key) (λ none. clash (live_fare b key) c.in-Some.old none (sym told.0)))
+    let told = changes (live_fare b) (live_fare next) (live_rule b) old.changed.keys d.fares_kept.keyed d.fares_kept.markets step in (
+      fares_alone b next _ (rules_stay b next (DropFare key) (λ c n. refl) f) (seats_stay b next (DropFare key) (λ k. refl) f)
+          (record {
+            fares_kept = subst (λ n. FaresKept (live_fare next) (live_rule b) old.changed.keys old.sheets.entries c.remove_fare.new.tables.entries n c.forget_use.new.uses.entries) (sym count)
+                (fares_gone (live_fare b) (live_fare next) (live_rule b) old.changed.keys old.sheets.entries old.tables.entries c.remove_fare.new.tables.entries old.fare_count old.uses.entries d.fares_kept key c.in-Some.old c.forget_use.new.uses.entries changes step less);
+            rules_kept = d.rules_kept;
+            seats_kept = d.seats_kept;
+            stand = stand_drop (live_fare b) (live_fare next) key (live_rule b) step d.stand;
+          }),
+      faultless b (DropFare key) NoFare (dropped_fare b key) (λ none. clash (live_fare b key) c.in-Some.old none (sym told.0)),
+    )
 
 pub returns-in-None : goal.returns-in-None
 returns-in-None c = λ b d.

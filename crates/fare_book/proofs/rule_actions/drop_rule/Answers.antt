@@ -32,12 +32,13 @@ returns c = λ b next d f.
     let has = (c.has_rule.ensures b d.rules_kept.rules_are).0 c.if-not-has_rule.false in
     let was = some_of (live_rule b k m) has in
     let none = none_counted (NamesRule (live_fare b) key) _ (d.fares_kept.uses_are key) (sym c.uses_of.ensures.value ∙ c.if-uses_of-ne0.false) in
-    let count : c.saturating_sub-draft.result ≡ old.rule_count - 1 = grind (arith, c.saturating_sub-draft.ensures) in
-    (rules_alone b next _ (fares_stay b next (DropRule k m) (λ q. refl) f) (seats_stay b next (DropRule k m) (λ q. refl) f)
-      (record {
-        fares_kept = fares_stay_kept (live_rule b) (live_rule next) k m None proper step (live_fare b) old.changed.keys c.unset_rule.new.changed.keys c.in_ok-unset_rule.ensures.changed old.sheets.entries old.tables.entries old.fare_count old.uses.entries d.fares_kept;
-        rules_kept = subst (RulesKept (live_rule next) c.unset_rule.new.rules.entries) (sym count) (rules_gone (live_rule b) (live_rule next) k m None proper step old.rules.entries c.unset_rule.new.rules.entries c.in_ok-unset_rule.ensures.rules old.rule_count d.rules_kept was.0 refl was.1);
-        seats_kept = d.seats_kept;
-        stand = stand_drop (live_rule b) (live_rule next) k m None proper step (live_fare b) none d.fares_kept.keyed d.stand;
-      }),
-      faultless_rule b k m has (λ u. none u.0 (u.1, u.2, u.3, u.4)))
+    let count : c.saturating_sub-draft.result ≡ old.rule_count - 1 = grind (arith, c.saturating_sub-draft.ensures) in (
+      rules_alone b next _ (fares_stay b next (DropRule k m) (λ q. refl) f) (seats_stay b next (DropRule k m) (λ q. refl) f)
+          (record {
+            fares_kept = fares_stay_kept (live_rule b) (live_rule next) k m None proper step (live_fare b) old.changed.keys c.unset_rule.new.changed.keys c.in_ok-unset_rule.ensures.changed old.sheets.entries old.tables.entries old.fare_count old.uses.entries d.fares_kept;
+            rules_kept = subst (RulesKept (live_rule next) c.unset_rule.new.rules.entries) (sym count) (rules_gone (live_rule b) (live_rule next) k m None proper step old.rules.entries c.unset_rule.new.rules.entries c.in_ok-unset_rule.ensures.rules old.rule_count d.rules_kept was.0 refl was.1);
+            seats_kept = d.seats_kept;
+            stand = stand_drop (live_rule b) (live_rule next) k m None proper step (live_fare b) none d.fares_kept.keyed d.stand;
+          }),
+      faultless_rule b k m has (λ u. none u.0 (u.1, u.2, u.3, u.4)),
+    )

@@ -15,13 +15,14 @@ returns-then-drop_row c = λ b next d f.
     let key = c.args.key.now in
     let new = c.drop_row.new.self in
     let kept : SeatsKept (live_seats b) c.in_ok-held.held = subst (SeatsKept (live_seats b)) (sym c.in_ok-held.ensures.seats) d.seats_kept in
-    let had : IsSome (live_seats b key) = subst IsSome (kept.seats_are key) (c.drop_row.ensures.found.0 c.if-drop_row.true) in
-    (seats_alone b next _ (fares_stay b next (DropSeats key) (λ k. refl) f) (rules_stay b next (DropSeats key) (λ k n. refl) f)
-      (subst (λ t. Keeping (live_fare b) (live_rule b) (live_seats next) (record t { own_seats = Some new })) (sym c.in_ok-held.ensures.rest)
-        (record {
-          fares_kept = d.fares_kept;
-          rules_kept = d.rules_kept;
-          seats_kept = seats_dropped (live_seats b) (live_seats next) c.in_ok-held.held new key kept c.drop_row.ensures.row (seats_dropped_after b next key f);
-          stand = d.stand;
-        })),
-      faultless b (DropSeats key) NoSeats (dropped_seats b key) (λ none. none_some (live_seats b key) none had))
+    let had : IsSome (live_seats b key) = subst IsSome (kept.seats_are key) (c.drop_row.ensures.found.0 c.if-drop_row.true) in (
+      seats_alone b next _ (fares_stay b next (DropSeats key) (λ k. refl) f) (rules_stay b next (DropSeats key) (λ k n. refl) f)
+          (subst (λ t. Keeping (live_fare b) (live_rule b) (live_seats next) (record t { own_seats = Some new })) (sym c.in_ok-held.ensures.rest)
+          (record {
+            fares_kept = d.fares_kept;
+            rules_kept = d.rules_kept;
+            seats_kept = seats_dropped (live_seats b) (live_seats next) c.in_ok-held.held new key kept c.drop_row.ensures.row (seats_dropped_after b next key f);
+            stand = d.stand;
+          })),
+      faultless b (DropSeats key) NoSeats (dropped_seats b key) (λ none. none_some (live_seats b key) none had),
+    )

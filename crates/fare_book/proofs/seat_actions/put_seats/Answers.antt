@@ -17,16 +17,17 @@ returns-in-Ok c = λ b next d f.
     let held = c.in_ok-held.held in
     let new = c.put.new.self in
     let kept : SeatsKept (live_seats b) held = subst (SeatsKept (live_seats b)) (sym c.in_ok-held.ensures.seats) d.seats_kept in
-    let room = λ (none : HasNoRoom held key). no_full c.in-Ok.field-0 (c.in-Ok.ensures.full.1 none) in
-    (seats_alone b next _ (fares_stay b next (PutSeats key seats) (λ k. refl) f) (rules_stay b next (PutSeats key seats) (λ k n. refl) f)
-      (subst (λ t. Keeping (live_fare b) (live_rule b) (live_seats next) (record t { own_seats = Some new })) (sym c.in_ok-held.ensures.rest)
-        (record {
-          fares_kept = d.fares_kept;
-          rules_kept = d.rules_kept;
-          seats_kept = seats_put (live_seats b) (live_seats next) held new key kept seats c.in-Ok.ensures.row (seats_put_after b next key seats f) room;
-          stand = d.stand;
-        })),
-      faultless b (PutSeats key seats) Limit (put_seats_limit b key seats) (λ full. room (kept.seats_are key ∙ full.0, rows_live (live_seats b) (live_seats next) held new key kept 200000 full.1)))
+    let room = λ (none : HasNoRoom held key). no_full c.in-Ok.field-0 (c.in-Ok.ensures.full.1 none) in (
+      seats_alone b next _ (fares_stay b next (PutSeats key seats) (λ k. refl) f) (rules_stay b next (PutSeats key seats) (λ k n. refl) f)
+          (subst (λ t. Keeping (live_fare b) (live_rule b) (live_seats next) (record t { own_seats = Some new })) (sym c.in_ok-held.ensures.rest)
+          (record {
+            fares_kept = d.fares_kept;
+            rules_kept = d.rules_kept;
+            seats_kept = seats_put (live_seats b) (live_seats next) held new key kept seats c.in-Ok.ensures.row (seats_put_after b next key seats f) room;
+            stand = d.stand;
+          })),
+      faultless b (PutSeats key seats) Limit (put_seats_limit b key seats) (λ full. room (kept.seats_are key ∙ full.0, rows_live (live_seats b) (live_seats next) held new key kept 200000 full.1)),
+    )
 
 pub returns-in-Err-Full : goal.returns-in-Err-Full
 returns-in-Err-Full c = λ b d.

@@ -27,10 +27,10 @@ loop-market-preserved c =
     record {
       holds = λ fare rule keyed holds m. c.in_ok-touch.ensures.holds fare rule changed keyed (c.loop-market.invariant.holds fare rule keyed holds) m;
       settled = settled_more sheets changed c.loop-market.tables.entries c.touch.new.tables.entries c.loop-market.market-iterator c.next.new.self c.in-Some.market.now c.in-Some.sheet.now c.is_stale.result
-        (rest_more deref_pair c.loop-market.market-iterator c.next.new.self c.next.result item c.in-Some.is c.next.ensures.steps)
-        (sym (market_found sheets c.in-Some.market.now) ∙ turn.1)
-        (c.is_stale.ensures ∙ ap (λ s. list_any (λ row. list_any (same_rule (rule_of row.fare)) changed) s.rows) c.deref.ensures)
-        c.in_ok-touch.ensures.touched c.in_ok-touch.ensures.stay c.loop-market.invariant.settled;
+          (rest_more deref_pair c.loop-market.market-iterator c.next.new.self c.next.result item c.in-Some.is c.next.ensures.steps)
+          (sym (market_found sheets c.in-Some.market.now) ∙ turn.1)
+          (c.is_stale.ensures ∙ ap (λ s. list_any (λ row. list_any (same_rule (rule_of row.fare)) changed) s.rows) c.deref.ensures)
+          c.in_ok-touch.ensures.touched c.in_ok-touch.ensures.stay c.loop-market.invariant.settled;
     }
 
 pub returns : goal.returns
