@@ -1,0 +1,9 @@
+pub mod Seating
+pub mod Counts
+pub mod Keys
+pub mod Keeping
+pub mod Rows
+pub mod Tables
+pub mod Drafts
+pub mod Ready
+pub mod Taking

@@ -1,0 +1,23 @@
+//! Books: a timetable with the filings so far, and the fares, rules and seats that they leave. Books are
+//! made by `Book::empty` and `Book::with`, which takes a filing whole or refuses it with its first
+//! fault; sheets, fares and seats are found as the law defines them.
+#![tactic(auto)]
+
+mod book;
+mod draft;
+mod fare_actions;
+mod faults;
+mod keys;
+mod rows;
+mod rule_actions;
+mod rules;
+mod seat_actions;
+mod sheets;
+mod tables;
+mod taking;
+mod timetable;
+mod uses;
+
+pub use book::Book;
+pub use faults::BookFault;
+pub use timetable::Timetable;
