@@ -1,12 +1,12 @@
 -- What a draft keeps of the rules, as one is put or dropped.
-use Rattle.std.proofs.Common.{◌≡◌, ◌≢◌, ◌⊎◌, ◌≤◌, ◌<◌, ◌+◌, ◌-◌, ◌==◌, ◌&&◌, ℕ, Bool, true, false, cond, List, [], ◌∷◌, Option, Some, None, Decides, IsSome, IsTrue, is_some, option_map, refl, sym, ap, subst, ◌∙◌, inl, inr, arith}
+use Rattle.std.proofs.Common.{◌≡◌, ◌≢◌, ◌⊎◌, ◌≤◌, ◌<◌, ◌+◌, ◌-◌, ◌==◌, ◌&&◌, ◌↔◌, ℕ, Bool, true, false, cond, List, [], ◌∷◌, Option, Some, None, Decides, IsSome, IsTrue, is_some, option_map, refl, sym, ap, ap₂, subst, ◌∙◌, inl, inr, arith}
 use Rattle.std.specs.Arc.{arc_value}
 use Rattle.std.specs.BTreeMap.{BTreeMap}
 use Rattle.std.specs.List.{list_any}
 use Rattle.std.specs.Map.{lookup}
 use Rattle.std.specs.Option.{MatchOption}
 use Rattle.std.specs.declared.sync.Arc.{Arc}
-use Rattle.std.proofs.lemmas.Bool.{cases_Bool, false_from_ne_true}
+use Rattle.std.proofs.lemmas.Bool.{both_ways, cases_Bool, false_from_ne_true}
 use Rattle.std.proofs.lemmas.Bool.Decides.{Decides-and, Decides-eqb, Decides-like}
 use Rattle.fare_law.specs.declared.fares.Fare.{Fare}
 use Rattle.fare_law.specs.declared.fares.FareKey.{FareKey}
@@ -19,12 +19,12 @@ use Rattle.fare_law.specs.Sheets.{Sheet}
 use Rattle.fare_book.specs.contracts.keys.RuleKeyPartialEq.TheImpl as rule_test
 use Rattle.fare_book.specs.Counts.{Exactly}
 use Rattle.fare_book.specs.Drafts.{FaresKept, RulesKept, Stand}
-use Rattle.fare_book.specs.Keeping.{Rules, rule_at, sheet_at}
+use Rattle.fare_book.specs.Keeping.{Rules, rule_at, sheet_at, uses_at}
 use Rattle.fare_book.specs.Keys.{same_market, same_rule}
-use Rattle.fare_book.specs.Tables.{Fares, IsOldRow, LiveRules, NamesRule, TableOf, Untouched, rule_of}
+use Rattle.fare_book.specs.Tables.{Fares, IsOldRow, LiveRules, MarketHolds, NamesRule, OldSheet, TableOf, Untouched, rule_of}
 use Rattle.fare_book.specs.declared.keys.Market.{Market}
 use Rattle.fare_book.specs.declared.keys.RuleKey.{RuleKey}
-use Rattle.fare_book.proofs.Counting.{count_same}
+use Rattle.fare_book.proofs.Counting.{count_same, none_counted, some_counted}
 use Rattle.fare_book.proofs.Finding.{rule_found}
 use Rattle.fare_book.proofs.Following.{rule_free}
 use Rattle.fare_book.proofs.SameKeys.{same_carriers_tell, same_rules_tell}

@@ -1,5 +1,5 @@
 -- From a book to the next one.
-use Rattle.std.proofs.Common.{◌≡◌, ◌<◌, ◌+◌, ℕ, Bool, true, false, cond, List, [], ◌∷◌, ◌++◌, length, map, take, get_or, Global, Option, Some, None, option_map, refl, sym, ap, subst, ◌∙◌, inl, arith}
+use Rattle.std.proofs.Common.{◌≡◌, ◌≢◌, ◌≤◌, ◌<◌, ◌+◌, ℕ, Bool, true, false, cond, List, [], ◌∷◌, ◌++◌, length, map, take, get_or, Global, Option, Some, None, IsSome, option_map, refl, sym, ap, subst, ◌∙◌, inl, inr, arith}
 use Rattle.std.specs.Arc.{arc_value}
 use Rattle.std.specs.List.{AllZip}
 use Rattle.std.specs.Map.{lookup}
@@ -15,16 +15,17 @@ use Rattle.fare_law.specs.declared.fares.FareKey.{FareKey}
 use Rattle.fare_law.specs.declared.filings.Filing.{Filing}
 use Rattle.fare_law.specs.declared.filings.SeatKey.{SeatKey}
 use Rattle.fare_law.specs.declared.rules.Rule.{Rule}
+use Rattle.fare_law.specs.declared.sheets.SheetRow.{SheetRow}
 use Rattle.fare_law.specs.Book.{Book, Timetable, actions, live_fare, live_rule, live_seats}
 use Rattle.fare_law.specs.Faults.{filed}
 use Rattle.fare_law.specs.FilingLimits.{IsFiling}
-use Rattle.fare_law.specs.Lists.{Each}
+use Rattle.fare_law.specs.Lists.{Each, IsIn}
 use Rattle.fare_law.specs.Sheets.{IsLiveRow, Sheet, SheetOf}
 use Rattle.fare_book.specs.Drafts.{Drafts, FaresKept, Keeping, RulesKept, SeatsKept, drafted_seats}
-use Rattle.fare_book.specs.Keeping.{History, Keeps, NoFare, RulesStand, Sheets, sheet_at, uses_at}
+use Rattle.fare_book.specs.Keeping.{Counted, History, Keeps, NoFare, RulesStand, Sheets, rule_at, sheet_at, uses_at}
 use Rattle.fare_book.specs.Keys.{same_market, same_rule}
 use Rattle.fare_book.specs.Ready.{Ready}
-use Rattle.fare_book.specs.Tables.{MarketHolds, NamesRule, Untouched}
+use Rattle.fare_book.specs.Tables.{IsOldRow, MarketHolds, NamesRule, NoneOf, OldSheet, Untouched}
 use Rattle.fare_book.specs.Taking.{NoneStops}
 use Rattle.fare_book.specs.declared.draft.Draft.{Draft}
 use Rattle.fare_book.specs.declared.keys.Market.{Market}

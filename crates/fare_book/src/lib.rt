@@ -21,3 +21,6 @@ mod uses;
 pub use book::Book;
 pub use faults::BookFault;
 pub use timetable::Timetable;
+
+#[cfg(test)]
+mod tests;

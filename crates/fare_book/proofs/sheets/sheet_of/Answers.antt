@@ -1,4 +1,4 @@
-use Rattle.std.proofs.Common.{◌≡◌, ◌∷◌, [], map, rules, Bor, IsSome, Some, sym, subst}
+use Rattle.std.proofs.Common.{◌≡◌, ◌∷◌, [], map, rules, Bor, IsSome, Some, refl, sym, ap, subst, ◌∙◌}
 use Rattle.std.specs.List.Sorted.{IsStrictlySortedBy}
 use Rattle.std.specs.Map.{keys_of}
 use Rattle.std.specs.Map.Iter.{deref_pair}
@@ -10,7 +10,7 @@ use Rattle.fare_law.specs.declared.fares.FareKey.{FareKey}
 use Rattle.fare_law.specs.Book.{Book, live_rule}
 use Rattle.fare_law.specs.Sheets.{SheetOf}
 use Rattle.fare_book.specs.Keeping.{Rules}
-use Rattle.fare_book.proofs.Making.{Made, is_sheet, made_push, sheet_made}
+use Rattle.fare_book.proofs.Making.{Made, MadeOf, is_sheet, made_push, sheet_made}
 use Rattle.fare_book.proofs.TableRows.{ok_as}
 use Rattle.fare_book.proofs.sheets.sheet_of.Goals as goal
 
