@@ -21,6 +21,3 @@ mod uses;
 pub use book::Book;
 pub use faults::BookFault;
 pub use timetable::Timetable;
-
-#[cfg(test)]
-mod tests;
