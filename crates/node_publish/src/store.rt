@@ -1,5 +1,5 @@
 //! Cells that nodes are kept in, and what a desk knows of them.
-ghost use Rattle.std.specs.Prelude.{◌≡◌, ◌+◌, ◌%◌, ◌<◌, ◌≤◌, ◌^◌, ℕ, length, IsNone, IsSome, IfNone, IfOk, IfSome, OnErr, Some, None};
+ghost use Rattle.std.specs.Prelude.{◌≡◌, ◌+◌, ◌%◌, ◌<◌, ◌≤◌, ℕ, length, IsNone, IsSome, IfNone, IfOk, IfSome, OnErr, Some, None};
 ghost use Rattle.std.specs.Option.{option_copied};
 ghost use Rattle.fare_component.specs.Keys.{asked};
 ghost use Rattle.node_publish.specs.Found.{IsHere, IsKept};
