@@ -9,7 +9,7 @@ use crate::{Residual, TicketPart};
 use flight_paths::Position;
 use name_text::place_of;
 use open_unit::OpenUnit;
-use word_text::cut;
+use word_text::{cut, cuts_tell, numbers_tell};
 
 /// The parts of a residual, before it is known whether they make one.
 #[derive(Clone, Copy, Debug)]
@@ -25,6 +25,8 @@ struct Parts {
 pub fn read_residual(bytes: &[u8]) -> Option<Residual>
     ensures { (x : State) → (result ≡ Some x) ↔ Spells bytes.now x }
 {
+    cuts_tell();
+    numbers_tell();
     let parts = parts_of(bytes)?;
     Residual::checked(parts.at, parts.first, parts.second, parts.part)
 }
