@@ -94,13 +94,31 @@ unit_whole : Words → (text : List ℕ) (u : OpenUnit) (a b c d f g h i j l : L
     → cut_at 62 text ≡ Some a → cut_at 58 a.1 ≡ Some b → cut_at 58 b.1 ≡ Some c → cut_at 58 c.1 ≡ Some d → cut_at 58 d.1 ≡ Some f → cut_at 58 f.1 ≡ Some g → cut_at 58 g.1 ≡ Some h → cut_at 58 h.1 ≡ Some i → cut_at 58 i.1 ≡ Some j → cut_at 58 j.1 ≡ Some l
     → place_of a.0 ≡ Some origin → place_of b.0 ≡ Some end → number_in 255 c.0 ≡ Some count → day_in d.0 ≡ Some first → set_day_in f.0 ≡ Some least → set_day_in g.0 ≡ Some greatest → set_day_in h.0 ≡ Some by → number_in 255 i.0 ≡ Some kinds → number_in 255 j.0 ≡ Some partner → carriers_in l.0 ≡ Some carrier → rules_in l.1 ≡ Some rule
     → ◌≡◌ {A = Option OpenUnit} (Some (record {
-      origin = origin; end = end; count = count; first_day = first; least = least; greatest = greatest; by = by;
-      kinds = kinds; partner = partner; carrier = carrier; rule = rule;
+      origin = origin;
+      end = end;
+      count = count;
+      first_day = first;
+      least = least;
+      greatest = greatest;
+      by = by;
+      kinds = kinds;
+      partner = partner;
+      carrier = carrier;
+      rule = rule;
     })) (Some u) → SpellsUnit text u
 unit_whole k text u a b c d f g h i j l origin end count first least greatest by kinds partner carrier rule was_a was_b was_c was_d was_f was_g was_h was_i was_j was_l is_origin is_end is_count is_first is_least is_greatest is_by is_kinds is_partner is_carrier is_rule e =
     let it : OpenUnit = record {
-      origin = origin; end = end; count = count; first_day = first; least = least; greatest = greatest; by = by;
-      kinds = kinds; partner = partner; carrier = carrier; rule = rule;
+      origin = origin;
+      end = end;
+      count = count;
+      first_day = first;
+      least = least;
+      greatest = greatest;
+      by = by;
+      kinds = kinds;
+      partner = partner;
+      carrier = carrier;
+      rule = rule;
     } in
     let read_origin = place_read a.0 origin is_origin in
     let read_end = place_read b.0 end is_end in
@@ -281,8 +299,8 @@ pub read_none : Words → (text : List ℕ) → None ≡ parts_in text → (x : 
 read_none k text none x = (
   λ e. absurd (cc),
   λ s.
-  let again : parts_in text ≡ Some (parts_of x) = ap parts_in s.written ∙ parts_again k x s.is in
-  absurd (cc),
+      let again : parts_in text ≡ Some (parts_of x) = ap parts_in s.written ∙ parts_again k x s.is in
+      absurd (cc),
 )
 
 pub read_exact : Words → (text : List ℕ) (p : Parts) (o : Option State) → Some p ≡ parts_in text → (IsSome o ↔ AreKept p.first p.second p.part) → IfSome o (λ r. r ≡ made p)

@@ -98,11 +98,33 @@ first_within d h = omega (arith, ints)
 pub free_unit : Words → (c : ℕ) → Separates c → ◌≢◌ {A = ℕ} 62 c → ◌≢◌ {A = ℕ} 58 c → (u : OpenUnit) → UnitKept u → IsNamed u → IsFreeOf c (unit_text u)
 free_unit k c s one other u h n =
     let words : Each (IsFreeOf c) (unit_words u) = (
-      free_place c s u.end n.end, (free_decimal k c s u.count (omega (arith, h.count)), (
-      free_signed k c s u.first_day h.first.0 (first_within u.first_day h.first), (
-      free_day k c s u.least h.least, (free_day k c s u.greatest h.greatest, (free_day k c s u.by h.by, (
-      free_decimal k c s u.kinds (omega (arith, h.kinds)), (free_decimal k c s u.partner (omega (arith, h.partner)), (
-      free_carriers c s u.carrier n.carrier, (free_rules k c s u.rule n.rule, tt)))))))))) in
+      free_place c s u.end n.end,
+      (
+        free_decimal k c s u.count (omega (arith, h.count)),
+        (
+          free_signed k c s u.first_day h.first.0 (first_within u.first_day h.first),
+          (
+            free_day k c s u.least h.least,
+            (
+              free_day k c s u.greatest h.greatest,
+              (
+                free_day k c s u.by h.by,
+                (
+                  free_decimal k c s u.kinds (omega (arith, h.kinds)),
+                  (
+                    free_decimal k c s u.partner (omega (arith, h.partner)),
+                    (
+                      free_carriers c s u.carrier n.carrier,
+                      (free_rules k c s u.rule n.rule, tt),
+                    ),
+                  ),
+                ),
+              ),
+            ),
+          ),
+        ),
+      ),
+    ) in
     free_joined c 62 one (u.origin.0 ∷ join_with_byte 58 (unit_words u) ∷ [])
     (free_place c s u.origin n.origin, (free_joined c 58 other (unit_words u) words, tt))
 

@@ -75,8 +75,17 @@ unit_in text = do
   carrier ← carriers_in j.0
   rule ← rules_in j.1
   Some (record {
-    origin = origin; end = end; count = count; first_day = first; least = least; greatest = greatest; by = by;
-    kinds = kinds; partner = partner; carrier = carrier; rule = rule;
+    origin = origin;
+    end = end;
+    count = count;
+    first_day = first;
+    least = least;
+    greatest = greatest;
+    by = by;
+    kinds = kinds;
+    partner = partner;
+    carrier = carrier;
+    rule = rule;
   })
 
 -- one unit, or two where there is a slash

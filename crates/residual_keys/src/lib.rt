@@ -15,6 +15,6 @@ mod words;
 
 pub use laws::{best_runs, nothing_lost, one_best, one_next, residual_order, runs_are_short};
 pub use parts::TicketPart;
-pub use reading::read_residual;
+pub use reading::{one_residual_text, read_residual};
 pub use residual::{Chosen, Next, Residual};
 pub use text::{push_residual, residual_text};

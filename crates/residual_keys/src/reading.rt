@@ -1,7 +1,7 @@
 //! Reading a residual's text.
 ghost use Rattle.std.specs.Prelude.{◌≡◌, ◌↔◌, MatchOption, None, Some};
 ghost use Rattle.residual_keys.specs.ResidualReading as Reading;
-ghost use Rattle.residual_keys.specs.ResidualText.{Spells};
+ghost use Rattle.residual_keys.specs.ResidualText.{IsWritten, Spells, residual_text};
 ghost use Rattle.residual_keys.specs.Residuals.{State};
 
 use crate::words::{byte_of, carriers_of, day_of, place_number_of, rules_of, set_day_of, via_of};
@@ -29,6 +29,15 @@ pub fn read_residual(bytes: &[u8]) -> Option<Residual>
     numbers_tell();
     let parts = parts_of(bytes)?;
     Residual::checked(parts.at, parts.first, parts.second, parts.part)
+}
+
+/// A residual whose names are well formed and whose numbers fit their fields has a text of its own:
+/// no other one has the same.
+pub fn one_residual_text()
+    ensures { (x y : State) → IsWritten x → IsWritten y → residual_text x ≡ residual_text y → x ≡ y }
+{
+    cuts_tell();
+    numbers_tell();
 }
 
 #[tactic(auto, unfolding(crate::specs::ResidualReading::parts_in))]

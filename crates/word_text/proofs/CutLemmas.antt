@@ -109,6 +109,7 @@ pub last_tells : LastCutTells
 last_tells = record { again = last_again; read = last_read }
 
 pub ruleset cut_rules = (cut_none, cut_of, last_none, last_of)
+
 pub ruleset cut_laws = (cut_tells, last_tells)
 
 -- one more byte that is no separator
@@ -128,7 +129,6 @@ parts_at c text i l e =
 
 pub free_all : (c : ℕ) (text : List ℕ) (i : ℕ) → length text ≤ i → IsFreeOf c (take i text) → IsFreeOf c text
 free_all c text i l h = subst (IsFreeOf c) (take_all i text l) h
-
 
 pub free_before : (c : ℕ) (text : List ℕ) (i : ℕ) → i < length text → IsFreeOf c (drop (i + 1) text) → get_or text i 0 ≢ c → IsFreeOf c (drop i text)
 free_before c text i l h ne =

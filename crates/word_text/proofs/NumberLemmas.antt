@@ -115,4 +115,5 @@ pub number_tells : NumberTells
 number_tells = record { again = number_again; read = number_read }
 
 pub ruleset number_laws = (digits_are, number_tells)
+
 pub ruleset number_steps = (begins_otherwise, not_text, parsed, number_within, number_past, number_never)
