@@ -1,10 +1,8 @@
 -- A text that is read is that of a residual.
-use Rattle.std.proofs.Common.{bytes_eq, ◌≡◌, ◌≢◌, ◌<◌, ◌≤◌, ◌^◌, ◌⊎◌, ◌↔◌, ℕ, ℤ, Bool, true, false, List, [], ◌∷◌, ◌++◌, length, slice_get, Option, Some, None, refl, arith, ap, sym, ◌∙◌, subst, inl, inr, option_and_then, option_map, if◌then◌else◌}
+use Rattle.std.proofs.Common.{◌≡◌, ◌≤◌, ◌↔◌, ℕ, ℤ, List, [], ◌∷◌, ◌++◌, length, slice_get, Option, Some, None, refl, arith, ap, sym, ◌∙◌, subst, inl, inr, option_and_then}
 use Rattle.std.specs.Fmt.{decimal, signed_decimal}
-use Rattle.std.specs.List.{join_with_byte}
 use Rattle.std.specs.Prelude.{IfSome, IsSome}
-use Rattle.std.proofs.lemmas.Option.{same_Some, some_pair_parts}
-use Rattle.std.proofs.lemmas.Slice.Eq.{bytes_eq-Decides}
+use Rattle.std.proofs.lemmas.Option.{same_Some}
 use Rattle.fare_law.specs.Lists.{Each}
 use Rattle.fare_law.specs.declared.names.Place.{Place}
 use Rattle.flight_paths.specs.declared.positions.Position.{Position}
@@ -16,7 +14,7 @@ use Rattle.residual_keys.specs.declared.parts.TicketPart.{TicketPart}
 use Rattle.residual_keys.specs.declared.reading.Parts.{Parts}
 use Rattle.residual_keys.specs.Kept.{AreKept, IsResidual, UnitKept, open_units}
 use Rattle.residual_keys.specs.ResidualReading.{via_in, day_in, set_day_in, carriers_in, rules_in, position_in, unit_in, units_parted, units_in, part_in, parts_in}
-use Rattle.residual_keys.specs.ResidualText.{AreCarriers, IsNamed, IsPosition, IsWritten, Spells, via_word, day_word, carriers_word, rules_word, position_words, unit_words, unit_text, units_text, part_text, residual_text}
+use Rattle.residual_keys.specs.ResidualText.{AreCarriers, IsNamed, IsPosition, IsWritten, Spells, via_word, day_word, carriers_word, rules_word, unit_text, units_text, part_text, residual_text}
 use Rattle.residual_keys.specs.Residuals.{State}
 use Rattle.residual_keys.proofs.WordFacts.{Words}
 use Rattle.residual_keys.proofs.WordsAgain.{marked, mapped, place_read, via_read, day_read, set_day_read, carriers_read, rules_read}

@@ -1,5 +1,5 @@
 -- What is known of words, as the law functions of their crate give it, and the bytes of a residual's words.
-use Rattle.std.proofs.Common.{◌≡◌, ◌≢◌, ◌<◌, ◌≤◌, ◌^◌, ℕ, ℤ, pos, negsuc, ◌≤ℤ◌, List, [], ◌∷◌, ◌++◌, map, Option, Some, None, refl, arith, inl, inr}
+use Rattle.std.proofs.Common.{◌≢◌, ◌<◌, ◌^◌, ℕ, ℤ, pos, negsuc, ◌≤ℤ◌, List, [], ◌∷◌, ◌++◌, map, Option, Some, None, arith, inl, inr}
 use Rattle.std.proofs.lemmas.Int.{ints}
 use Rattle.std.specs.Fmt.{decimal, signed_decimal}
 use Rattle.std.specs.Int.{IsInRange}

@@ -1,5 +1,5 @@
 -- What the parts of a text spell, word by word. That together they spell the residual of just this text is a clause of its reader.
-use Rattle.std.specs.Prelude.{bytes_eq, ℕ, ℤ, pos, List, [], ◌∷◌, Option, Some, None, option_map, option_and_then, if◌then◌else◌, codes}
+use Rattle.std.specs.Prelude.{bytes_eq, ℕ, ℤ, pos, List, Option, Some, None, option_map, option_and_then, if◌then◌else◌, codes}
 use Rattle.fare_law.specs.declared.names.Place.{Place}
 use Rattle.flight_paths.specs.declared.positions.Position.{Position}
 use Rattle.name_text.specs.Names.{place_of, carrier_of}

@@ -1,11 +1,10 @@
 -- A text is cut at its first separator, and there alone.
-use Rattle.std.proofs.Common.{◌==◌, is_some, if◌then◌else◌, zero, suc, ◌+◌, ◌-◌, ◌<◌, ◌≤◌, length, take, drop, get_or, arith, subst, sym, ◌∙◌, add-one, drop-cons, length-drop, ◌≡◌, ◌≢◌, ℕ, Bool, true, false, List, [], ◌∷◌, ◌++◌, Option, Some, None, MatchOption, option_map, refl, ap, eq-eqb, ne_eqb}
+use Rattle.std.proofs.Common.{◌==◌, is_some, if◌then◌else◌, zero, suc, ◌+◌, ◌-◌, ◌<◌, ◌≤◌, length, take, drop, get_or, arith, subst, sym, ◌∙◌, add-one, drop-cons, length-drop, ◌≡◌, ◌≢◌, ℕ, Bool, true, false, List, [], ◌∷◌, ◌++◌, Option, Some, None, option_map, refl, ap, eq-eqb, ne_eqb}
 use Rattle.std.proofs.lemmas.List.{take_all, take-append-drop}
 use Rattle.std.proofs.lemmas.Bool.{true≢false}
 use Rattle.std.proofs.lemmas.Bool.Decides.{nat_tests}
 use Rattle.std.proofs.lemmas.Option.{some_pair_parts}
 use Rattle.word_text.specs.Laws.{CutTells, LastCutTells}
-use Rattle.fare_law.specs.Lists.{Each}
 use Rattle.word_text.specs.Words.{IsFreeOf, cut_at, cut_last_at}
 
 -- what stands before the separator and after it is found again

@@ -1,7 +1,6 @@
 -- Words that are joined one after another.
-use Rattle.std.proofs.Common.{drop, get_or, ◌-◌, arith, ◌≡◌, ◌≤◌, ℕ, List, [], ◌∷◌, ◌++◌, length, map, take, append_assoc, append-nil, flat_map, refl, ap, sym, ◌∙◌, Bor}
+use Rattle.std.proofs.Common.{drop, get_or, ◌-◌, arith, ◌≡◌, ◌≤◌, ℕ, List, [], ◌∷◌, ◌++◌, length, map, take, append_assoc, append-nil, flat_map, ap, sym, ◌∙◌, Bor}
 use Rattle.std.proofs.lemmas.List.{take_all}
-use Rattle.std.proofs.lemmas.List.Folds.{flat_map-map}
 use Rattle.std.specs.List.{join_with_byte}
 
 -- the words after the first, each after a separator

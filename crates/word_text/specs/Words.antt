@@ -1,5 +1,5 @@
 -- Words of a text: what stands before and after a separator, and numbers in decimal digits.
-use Rattle.std.specs.Prelude.{bytes_eq, ◌≡◌, ◌≢◌, ◌⊎◌, ◌≤◌, ℕ, ◌==◌, nat_le, ◌&&◌, List, [], ◌∷◌, slice_index, Option, Some, None, option_map, is_some, if◌then◌else◌, decimal}
+use Rattle.std.specs.Prelude.{bytes_eq, ◌≡◌, ◌≢◌, ◌⊎◌, ℕ, ◌==◌, nat_le, ◌&&◌, List, [], ◌∷◌, slice_index, Option, Some, None, option_map, is_some, if◌then◌else◌, decimal}
 use Rattle.std.specs.Int.{IsInRange}
 use Rattle.std.specs.Str.Parse.{digits_value}
 use Rattle.fare_law.specs.Lists.{Each}

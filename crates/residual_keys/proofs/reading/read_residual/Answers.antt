@@ -1,4 +1,3 @@
-use Rattle.std.proofs.Common.{◌≡◌, None, Some}
 use Rattle.residual_keys.proofs.WordFacts.{Words}
 use Rattle.residual_keys.proofs.ResidualRead.{read_none, read_exact}
 use Rattle.residual_keys.proofs.reading.read_residual.Goals as goal

@@ -1,4 +1,4 @@
-use Rattle.std.proofs.Common.{arith, sym, ◌^◌, ◌<◌}
+use Rattle.std.proofs.Common.{arith, sym}
 use Rattle.word_text.proofs.NumberLemmas.{number_within, number_past}
 use Rattle.word_text.proofs.numbers.number_of.Goals as goal
 

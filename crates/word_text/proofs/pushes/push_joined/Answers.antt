@@ -1,4 +1,3 @@
-use Rattle.std.proofs.Common.{arith}
 use Rattle.word_text.proofs.JoinLemmas.{joined_whole}
 use Rattle.word_text.proofs.pushes.push_joined.Goals as goal
 
