@@ -22,6 +22,6 @@ whole_text c request t0 t1 t2 t3 t4 e0 e1 e2 e3 e4 =
     let two : t4 ≡ ((h ++ a) ++ r) ++ end_line = e4 ∙ ap (λ t. t ++ end_line) (e3 ∙ ap (λ t. t ++ r) (e2 ∙ ap (λ t. t ++ a) one)) in
     let line : List ℕ → List ℕ = λ x. x ++ 10 ∷ [] in
     let joined : text_of (cert_lines c request) ≡ h ++ (a ++ (r ++ end_line)) =
-        flat_joined line (head_lines c.number request) (answer_lines c.answers ++ (row_lines c.rows ++ codes "end" ∷ []))
-        ∙ ap (λ t. h ++ t) (flat_joined line (answer_lines c.answers) (row_lines c.rows ++ codes "end" ∷ []) ∙ ap (λ t. a ++ t) (flat_joined line (row_lines c.rows) (codes "end" ∷ []))) in
+    flat_joined line (head_lines c.number request) (answer_lines c.answers ++ (row_lines c.rows ++ codes "end" ∷ []))
+    ∙ ap (λ t. h ++ t) (flat_joined line (answer_lines c.answers) (row_lines c.rows ++ codes "end" ∷ []) ∙ ap (λ t. a ++ t) (flat_joined line (row_lines c.rows) (codes "end" ∷ []))) in
     two ∙ append_assoc (h ++ a) r end_line ∙ append_assoc h a (r ++ end_line) ∙ sym joined

@@ -14,7 +14,7 @@ spaced words = flat_map (λ word. 32 ∷ word) words
 
 -- a name and a number
 abbrev pub number_line : List ℕ → ℕ → List ℕ
-number_line name n = name ++ spaced (decimal n ∷ [])
+number_line name n = name ++ 32 ∷ decimal n
 
 -- a move: the count of its flights, their numbers, carrier, basis, the role's number and the slot
 abbrev pub move_words : Move → List (List ℕ)
@@ -32,7 +32,7 @@ bound_word (Some bound) = decimal bound
 
 -- a row: its residual's text and its bound
 abbrev pub row_line : CertRow → List ℕ
-row_line r = codes "row" ++ spaced (residual_text r.residual ∷ bound_word r.bound ∷ [])
+row_line r = codes "row " ++ (residual_text r.residual ++ 32 ∷ bound_word r.bound)
 
 -- 1 to 4 flights, names of their forms, and numbers that fit their fields
 pub record IsMove (m : Move) : Type 0 where

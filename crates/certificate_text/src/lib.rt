@@ -3,7 +3,18 @@
 //! meets the checks is for the layer above.
 #![tactic(auto)]
 
+mod certificates;
+mod faults;
 mod lines;
+mod lists;
+mod reading;
+mod request;
+mod spelled;
+#[cfg(test)]
+mod tests;
+mod words;
 mod writing;
 
+pub use certificates::read_cert;
+pub use faults::CertFault;
 pub use writing::cert_text;
