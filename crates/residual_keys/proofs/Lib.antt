@@ -19,3 +19,7 @@ pub mod Short
 pub mod Slots
 pub mod Compared
 pub mod Needed
+pub mod WordFacts
+pub mod WordsAgain
+pub mod ResidualAgain
+pub mod ResidualRead

@@ -6,3 +6,5 @@ pub mod ResidualOrder
 pub mod Short
 pub mod Kept
 pub mod AskedKeys
+pub mod ResidualText
+pub mod ResidualReading

@@ -6,10 +6,15 @@
 mod kept;
 mod laws;
 mod parts;
+mod reading;
 mod residual;
 #[cfg(test)]
 mod tests;
+mod text;
+mod words;
 
 pub use laws::{best_runs, nothing_lost, one_best, one_next, residual_order, runs_are_short};
 pub use parts::TicketPart;
+pub use reading::{one_residual_text, read_residual};
 pub use residual::{Chosen, Next, Residual};
+pub use text::{push_residual, residual_text};

@@ -1,0 +1,124 @@
+-- The lines of a certificate's text are read as what they spell, and what is read is spelled so.
+use Rattle.std.proofs.Common.{bytes_eq, ◌≡◌, ◌≢◌, ◌≤◌, ◌<◌, ◌^◌, ◌⊎◌, ◌↔◌, ◌==◌, ◌&&◌, ◌||◌, nat_le, inl, inr, ℕ, zero, suc, Bool, true, false, cond, List, [], ◌∷◌, ◌++◌, length, map, flat_map, Option, Some, None, option_map, option_and_then, if◌then◌else◌, refl, ap, ap₂, sym, ◌∙◌, subst, arith, eq-eqb, append_assoc, append-nil}
+use Rattle.std.specs.Char.{is_ascii_digit, is_ascii_uppercase}
+use Rattle.std.specs.Fmt.{decimal}
+use Rattle.std.specs.Int.{IsInRange}
+use Rattle.std.specs.List.{list_all}
+use Rattle.std.specs.Prelude.{IfSome, codes}
+use Rattle.std.proofs.lemmas.Bool.Decides.{nat_tests}
+use Rattle.std.proofs.lemmas.Option.{cond_some, same_Some}
+use Rattle.std.proofs.lemmas.Slice.Eq.{bytes_eq-Decides}
+use Rattle.certificate.specs.declared.parts.CertAnswer.{CertAnswer}
+use Rattle.certificate.specs.declared.parts.CertRow.{CertRow}
+use Rattle.certificate_text.specs.LineReading.{after_label, word_at, number_spelled, bound_in, role_numbered, role_in, flights_in, count_in, move_in, moves_in, answer_in}
+use Rattle.certificate_text.specs.Lines.{spaced, number_line, move_words, answer_line, bound_word, row_line, IsMove, IsAnswer, IsRow, SpellsNumber, SpellsAnswer, SpellsRow}
+use Rattle.certificate_text.proofs.LineWords.{Numbers, digits_free, from_step, bound_again, bound_read, bound_free}
+use Rattle.certificate_text.proofs.MoveLemmas.{moves_again, moves_read, spaced_ends}
+use Rattle.certificate_text.proofs.WordLemmas.{Ends, label_again, label_read, word_again, word_read}
+use Rattle.fare_law.specs.declared.moves.Move.{Move}
+use Rattle.fare_law.specs.declared.moves.Role.{Role}
+use Rattle.fare_law.specs.declared.moves.Role.TheVariants.{Alone, Opens, GoesOn, Closes}
+use Rattle.fare_law.specs.declared.names.Basis.{Basis}
+use Rattle.fare_law.specs.declared.names.Carrier.{Carrier}
+use Rattle.fare_law.specs.Lists.{Each}
+use Rattle.fare_law.specs.Moves.{role_code}
+use Rattle.fare_law.specs.Order.{IsBasis, IsCarrier, IsCharacter}
+use Rattle.name_text.specs.Names.{basis_of, carrier_of, is_character}
+use Rattle.residual_keys.specs.ResidualText.{Spells, residual_text}
+use Rattle.residual_keys.specs.Residuals.{State}
+use Rattle.word_text.specs.Laws.{CutTells, LastCutTells, NumberTells, DigitsAre}
+use Rattle.word_text.specs.Words.{IsFreeOf, cut_last_at, number_in}
+
+answer_again : Numbers → (a : CertAnswer) → IsAnswer a → answer_in (answer_line a) ≡ Some a
+unfolding answer_in
+answer_again k a h =
+    let rest = flat_map move_words a.moves in
+    rw (
+      label_again (codes "answer") (spaced (decimal a.price ∷ rest)),
+      word_again (decimal a.price) (spaced rest) (digits_free k a.price h.price) (spaced_ends rest),
+      k.number.again 18446744073709551615 a.price (omega (arith, h.price)) h.price,
+      moves_again k 18 a.moves h.few h.moves,
+    ) refl
+
+answer_read : Numbers → (line : List ℕ) (a : CertAnswer) → answer_in line ≡ Some a → SpellsAnswer line a
+unfolding answer_in
+answer_read k line a e =
+    from_step (after_label (codes "answer") line) _ a e (λ rest was_rest e.
+    from_step (word_at rest) _ a e (λ word was_word e.
+    from_step (number_in 18446744073709551615 word.0) _ a e (λ price is_price e.
+    from_step (moves_in 18 word.1) _ a e (λ moves was_moves e.
+    let n = k.number.read 18446744073709551615 price word.0 is_price in
+    let m = moves_read k 18 word.1 moves was_moves in
+    let it : CertAnswer = record { price = price; moves = moves } in
+    subst (SpellsAnswer line) (same_Some it a e) (record {
+      is = record { price = omega (arith, n.0); few = m.few; moves = m.moves };
+      written = label_read (codes "answer") line rest was_rest
+          ∙ ap (λ t. codes "answer" ++ t) (word_read rest word was_word ∙ ap₂ (λ a b. 32 ∷ (a ++ b)) n.1 m.written);
+    })))))
+
+pub answer_exact : Numbers → (line : List ℕ) (o : Option CertAnswer) → o ≡ answer_in line → (a : CertAnswer) → (o ≡ Some a) ↔ SpellsAnswer line a
+answer_exact k line o is a = (
+  λ e. answer_read k line a (sym is ∙ e),
+  λ s. is ∙ ap answer_in s.written ∙ answer_again k a s.is,
+)
+
+-- ---- rows
+
+-- the parts of a row's line
+pub row_rest : (line : List ℕ) (r : CertRow) → SpellsRow line r → after_label (codes "row ") line ≡ Some (residual_text r.residual ++ 32 ∷ bound_word r.bound)
+row_rest line r s = ap (after_label (codes "row ")) s.written ∙ label_again (codes "row ") (residual_text r.residual ++ 32 ∷ bound_word r.bound)
+
+pub row_parts : LastCutTells → Numbers → (line rest : List ℕ) (r : CertRow) → after_label (codes "row ") line ≡ Some rest → SpellsRow line r
+    → cut_last_at 32 rest ≡ Some (residual_text r.residual, bound_word r.bound)
+row_parts cuts k line rest r was s =
+    let same : residual_text r.residual ++ 32 ∷ bound_word r.bound ≡ rest = same_Some (residual_text r.residual ++ 32 ∷ bound_word r.bound) rest (sym (row_rest line r s) ∙ was) in
+    subst (λ t. cut_last_at 32 t ≡ Some (residual_text r.residual, bound_word r.bound)) same
+    (cuts.again 32 (residual_text r.residual) (bound_word r.bound) (bound_free k r.bound s.is.bound))
+
+pub row_words : LastCutTells → Numbers → (line rest : List ℕ) (p : List ℕ × List ℕ) (r : CertRow) → after_label (codes "row ") line ≡ Some rest → cut_last_at 32 rest ≡ Some p → SpellsRow line r
+    → (p.0 ≡ residual_text r.residual) × (p.1 ≡ bound_word r.bound)
+row_words cuts k line rest p r was cut s =
+    let same : p ≡ (residual_text r.residual, bound_word r.bound) = same_Some p (residual_text r.residual, bound_word r.bound) (sym cut ∙ row_parts cuts k line rest r was s) in
+    (ap (λ (q : List ℕ × List ℕ). q.0) same, ap (λ (q : List ℕ × List ℕ). q.1) same)
+
+abbrev RowIs : List ℕ → Option CertRow → Type 0
+RowIs line o = (r : CertRow) → (o ≡ Some r) ↔ SpellsRow line r
+
+pub row_none : (line : List ℕ) → ((r : CertRow) → SpellsRow line r → ⊥) → RowIs line None
+row_none line none r = (λ e. absurd (cc), λ s. absurd (none r s))
+
+pub row_no_label : (line : List ℕ) → after_label (codes "row ") line ≡ None → RowIs line None
+row_no_label line e = row_none line (λ r s. let k = row_rest line r s in absurd (cc))
+
+pub row_no_cut : LastCutTells → Numbers → (line rest : List ℕ) → after_label (codes "row ") line ≡ Some rest → cut_last_at 32 rest ≡ None → RowIs line None
+row_no_cut cuts k line rest was e = row_none line (λ r s. let h = row_parts cuts k line rest r was s in absurd (cc))
+
+pub row_no_residual : LastCutTells → Numbers → (line rest : List ℕ) (p : List ℕ × List ℕ) → after_label (codes "row ") line ≡ Some rest → cut_last_at 32 rest ≡ Some p
+    → ((x : State) → (None ≡ Some x) ↔ Spells p.0 x) → RowIs line None
+row_no_residual cuts k line rest p was cut tells =
+    row_none line (λ r s. let h = row_words cuts k line rest p r was cut s in
+    let e : ◌≡◌ {A = Option State} None (Some r.residual) = (tells r.residual).1 (record { is = s.is.residual; written = h.0 }) in absurd (cc))
+
+pub row_no_bound : LastCutTells → Numbers → (line rest : List ℕ) (p : List ℕ × List ℕ) → after_label (codes "row ") line ≡ Some rest → cut_last_at 32 rest ≡ Some p
+    → bound_in p.1 ≡ None → RowIs line None
+row_no_bound cuts k line rest p was cut none =
+    row_none line (λ r s. let h = row_words cuts k line rest p r was cut s in
+    let e : bound_in p.1 ≡ Some r.bound = ap bound_in h.1 ∙ bound_again k r.bound s.is.bound in absurd (cc))
+
+pub row_exact : LastCutTells → Numbers → (line rest : List ℕ) (p : List ℕ × List ℕ) (x : State) (b : Option ℕ) → after_label (codes "row ") line ≡ Some rest → cut_last_at 32 rest ≡ Some p
+    → ((y : State) → (Some x ≡ Some y) ↔ Spells p.0 y) → bound_in p.1 ≡ Some b → RowIs line (Some (record { residual = x; bound = b }))
+row_exact cuts k line rest p x b was cut tells is r = (
+  λ e.
+      let same : record { residual = x; bound = b } ≡ r = same_Some (record { residual = x; bound = b }) r e in
+      let s = (tells x).0 refl in
+      let n = bound_read k p.1 b is in
+      subst (SpellsRow line) same (record {
+        is = record { residual = s.is; bound = n.0 };
+        written = label_read (codes "row ") line rest was ∙ ap (λ t. codes "row " ++ t) ((cuts.read 32 rest p cut).0 ∙ ap₂ (λ a c. a ++ 32 ∷ c) s.written n.1);
+      }),
+  λ s.
+      let h = row_words cuts k line rest p r was cut s in
+      let one : x ≡ r.residual = same_Some x r.residual ((tells r.residual).1 (record { is = s.is.residual; written = h.0 })) in
+      let other : b ≡ r.bound = same_Some b r.bound (sym is ∙ ap bound_in h.1 ∙ bound_again k r.bound s.is.bound) in
+      ap₂ (λ (y : State) c. Some (record { residual = y; bound = c })) one other,
+)

@@ -1,0 +1,17 @@
+use Rattle.std.proofs.Common.{◌≡◌, ◌+◌, ℕ, List, [], ◌∷◌, refl, rules, sym, subst, ◌∙◌, arith}
+use Rattle.std.specs.Prelude.{codes}
+use Rattle.certificate.specs.declared.parts.CertAnswer.{CertAnswer}
+use Rattle.certificate.specs.declared.parts.CertRow.{CertRow}
+use Rattle.certificate_text.specs.Faults.{Due, Head, Version, Asked, AnswerCount, Answer, RowCount, Row, End, Nothing, answers_due, rows_due, IsOf, Miscounts, Passed, FaultFrom}
+use Rattle.certificate_text.specs.Lines.{SpellsNumber, SpellsAnswer, SpellsRow, number_line, answer_line, row_line}
+use Rattle.certificate_text.proofs.FaultLemmas.{passed_one, syntax_here, count_here, fault_more, none_spelled, some_spelled, is_spelled, not_spelled}
+use Rattle.certificate_text.proofs.reading.Lines.answer_count.Goals as goal
+
+pub returns-in_default-number_line-clause-fault : goal.returns-in_default-number_line-clause-fault
+returns-in_default-number_line-clause-fault c =
+    rw c.syntax-in_default-number_line.ensures (syntax_here c.cuts_tell.ensures.first AnswerCount c.args.self.rest.now c.in-Some.line.now c.in-Some.next.rest.now c.args.self.line c.in-Some.ensures.0 (λ next h. none_spelled (SpellsNumber (codes "answers") c.in-Some.line.now) c.in_default-number_line.ensures h.0 h.1) (λ h. h))
+
+pub returns-clause-ok : goal.returns-clause-ok
+returns-clause-ok c =
+    let s = some_spelled (SpellsNumber (codes "answers") c.in-Some.line.now) c.in-Some-number_line.number c.in-Some-number_line.ensures in
+    subst (λ (l : List ℕ). Passed AnswerCount c.args.self.rest.now c.args.self.line (l ∷ []) (answers_due c.in-Some-number_line.number) c.in-Some.next.rest.now c.in-Some.next.line) s.written (passed_one c.cuts_tell.ensures.first AnswerCount (answers_due c.in-Some-number_line.number) c.args.self.rest.now c.in-Some.line.now c.in-Some.next.rest.now c.args.self.line c.in-Some.next.line c.in-Some.ensures.0 c.in-Some.ensures.1 (c.in-Some-number_line.number, s, refl))

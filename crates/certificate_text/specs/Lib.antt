@@ -1,0 +1,4 @@
+pub mod Lines
+pub mod CertText
+pub mod LineReading
+pub mod Faults

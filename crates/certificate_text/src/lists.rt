@@ -1,0 +1,59 @@
+//! The answers and the rows of a certificate's text.
+ghost use Rattle.std.specs.Prelude.{◌+◌, ◌<◌, ◌^◌, length, IfOk, IfErr};
+ghost use Rattle.fare_law.specs.Lists.{Each};
+ghost use Rattle.certificate_text.specs.CertText.{answer_lines, row_lines};
+ghost use Rattle.certificate_text.specs.Faults.{Due, FaultFrom, Passed};
+ghost use Rattle.certificate_text.specs.Lines.{IsAnswer, IsRow};
+
+use crate::CertFault;
+use crate::reading::Lines;
+use certificate::{CertAnswer, CertRow};
+use fare_law::List;
+use std::alloc::Global;
+
+/// The answers and how many there are, and what is left after their lines.
+pub fn answers<'a>(
+    alloc: Global,
+    start: Lines<'a>,
+) -> Result<(List<CertAnswer>, Lines<'a>), CertFault>
+    requires { start.line + length start.rest.now < 2 ^ 32 }
+    ensures ok { IfOk result (λ x. Passed Due.AnswerCount start.entry.rest.now start.entry.line (answer_lines x.0) Due.RowCount x.1.rest.now x.1.line) }
+    ensures fits { IfOk result (λ x. Each IsAnswer x.0 × (length x.0 < 2 ^ 32)) }
+    ensures fault { IfErr result (FaultFrom Due.AnswerCount start.entry.rest.now start.entry.line) }
+{
+    let (count, first) = start.answer_count()?;
+    let mut answers = List::new(alloc);
+    let mut at = first;
+    while answers.len() < count as usize {
+        // not by `?`, as for rows below
+        let (answer, next) = match at.answer() {
+            Ok(found) => found,
+            Err(fault) => return Err(fault),
+        };
+        answers.push(answer)?;
+        at = next;
+    }
+    Ok((answers, at))
+}
+
+/// The rows and how many there are, and what is left after their lines.
+pub fn rows<'a>(alloc: Global, start: Lines<'a>) -> Result<(List<CertRow>, Lines<'a>), CertFault>
+    requires { start.line + length start.rest.now < 2 ^ 32 }
+    ensures ok { IfOk result (λ x. Passed Due.RowCount start.entry.rest.now start.entry.line (row_lines x.0) Due.End x.1.rest.now x.1.line) }
+    ensures fits { IfOk result (λ x. Each IsRow x.0 × (length x.0 < 2 ^ 32)) }
+    ensures fault { IfErr result (FaultFrom Due.RowCount start.entry.rest.now start.entry.line) }
+{
+    let (count, first) = start.row_count()?;
+    let mut rows = List::new(alloc);
+    let mut at = first;
+    while rows.len() < count as usize {
+        // not by `?`, which takes the row and the rest by value in a form that has no proof
+        let (row, next) = match at.row() {
+            Ok(found) => found,
+            Err(fault) => return Err(fault),
+        };
+        rows.push(row)?;
+        at = next;
+    }
+    Ok((rows, at))
+}

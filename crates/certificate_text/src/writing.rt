@@ -1,0 +1,57 @@
+//! Writing a certificate.
+ghost use Rattle.std.specs.Prelude.{◌≡◌, ◌++◌, ◌∷◌, [], length, map, IfOk, OnOk};
+ghost use Rattle.certificate_text.specs.CertText.{CertText, answer_lines, head_lines, row_lines, text_of};
+ghost use Rattle.fare_law.specs.Limits.{IsRequest};
+
+use crate::lines::{push_answer, push_number_line, push_row};
+use certificate::{CertAnswer, CertRow, Certificate};
+use fare_law::{List, Mem};
+use request_text::request_text;
+use std::alloc::Global;
+
+/// The text of the certificate, whose request is within its limits.
+pub fn cert_text(alloc: Global, certificate: &Certificate) -> Result<List<u8>, Mem>
+    requires { IsRequest certificate.now.request }
+    ensures { IfOk result (CertText certificate.now) }
+{
+    let request = request_text(alloc, &certificate.request)?;
+    let mut text = Vec::new(alloc);
+    push_head(&mut text, certificate.number, request.as_slice())?;
+    push_answers(&mut text, certificate.answers.as_slice())?;
+    push_rows(&mut text, certificate.rows.as_slice())?;
+    text.extend_from_slice(b"end\n")?;
+    Ok(List::from_vec(text))
+}
+
+fn push_head(text: &mut Vec<u8>, number: u32, request: &[u8]) -> Result<(), Mem>
+    ensures { OnOk result (text.new.items
+        ≡ text.old.items ++ text_of (head_lines number request.now)) }
+{
+    text.extend_from_slice(b"certificate 1\n")?;
+    push_number_line(text, b"version", number.into())?;
+    text.extend_from_slice(b"request ")?;
+    text.extend_from_slice(request)?;
+    text.push(b'\n')?;
+    Ok(())
+}
+
+fn push_answers(text: &mut Vec<u8>, answers: &[CertAnswer]) -> Result<(), Mem>
+    ensures { OnOk result (text.new.items
+        ≡ text.old.items ++ text_of (answer_lines answers.now)) }
+{
+    push_number_line(text, b"answers", answers.len() as u64)?;
+    for answer in answers {
+        push_answer(text, answer)?;
+    }
+    Ok(())
+}
+
+fn push_rows(text: &mut Vec<u8>, rows: &[CertRow]) -> Result<(), Mem>
+    ensures { OnOk result (text.new.items ≡ text.old.items ++ text_of (row_lines rows.now)) }
+{
+    push_number_line(text, b"rows", rows.len() as u64)?;
+    for row in rows {
+        push_row(text, row)?;
+    }
+    Ok(())
+}
