@@ -17,7 +17,8 @@ pub fn answers<'a>(
     start: Lines<'a>,
 ) -> Result<(List<CertAnswer>, Lines<'a>), CertFault>
     requires { start.line + length start.rest.now < 2 ^ 32 }
-    ensures ok { IfOk result (λ x. Passed Due.AnswerCount start.entry.rest.now start.entry.line (answer_lines x.0) Due.RowCount x.1.rest.now x.1.line) }
+    ensures ok { IfOk result (λ x. Passed Due.AnswerCount start.entry.rest.now start.entry.line
+        (answer_lines x.0) Due.RowCount x.1.rest.now x.1.line) }
     ensures fits { IfOk result (λ x. Each IsAnswer x.0 × (length x.0 < 2 ^ 32)) }
     ensures fault { IfErr result (FaultFrom Due.AnswerCount start.entry.rest.now start.entry.line) }
 {
@@ -39,7 +40,8 @@ pub fn answers<'a>(
 /// The rows and how many there are, and what is left after their lines.
 pub fn rows<'a>(alloc: Global, start: Lines<'a>) -> Result<(List<CertRow>, Lines<'a>), CertFault>
     requires { start.line + length start.rest.now < 2 ^ 32 }
-    ensures ok { IfOk result (λ x. Passed Due.RowCount start.entry.rest.now start.entry.line (row_lines x.0) Due.End x.1.rest.now x.1.line) }
+    ensures ok { IfOk result (λ x. Passed Due.RowCount start.entry.rest.now start.entry.line
+        (row_lines x.0) Due.End x.1.rest.now x.1.line) }
     ensures fits { IfOk result (λ x. Each IsRow x.0 × (length x.0 < 2 ^ 32)) }
     ensures fault { IfErr result (FaultFrom Due.RowCount start.entry.rest.now start.entry.line) }
 {

@@ -26,7 +26,8 @@ impl<'a> Lines<'a> {
     pub fn next(self) -> Option<(&'a [u8], Lines<'a>)>
         requires { self.line + length self.rest.now < 2 ^ 32 }
         ensures { MatchOption result (cut_at 10 self.entry.rest.now ≡ None)
-            (λ x. (cut_at 10 self.entry.rest.now ≡ Some (x.0.now, x.1.rest.now)) × (x.1.line ≡ self.entry.line + 1)) }
+            (λ x. (cut_at 10 self.entry.rest.now ≡ Some (x.0.now, x.1.rest.now))
+            × (x.1.line ≡ self.entry.line + 1)) }
     {
         cuts_tell();
         let (line, rest) = cut(self.rest, b'\n')?;
@@ -90,7 +91,8 @@ impl<'a> Lines<'a> {
     /// The request, and what is left after its line.
     pub fn request(self, alloc: Global) -> Result<(Request, Lines<'a>), CertFault>
         requires { self.line + length self.rest.now < 2 ^ 32 }
-        ensures ok { IfOk result (λ x. PassedRequest self.entry.rest.now self.entry.line x.0 x.1.rest.now x.1.line) }
+        ensures ok { IfOk result (λ x. PassedRequest self.entry.rest.now self.entry.line x.0
+            x.1.rest.now x.1.line) }
         ensures fault { IfErr result (FaultFrom Due.Asked self.entry.rest.now self.entry.line) }
     {
         cuts_tell();
@@ -127,7 +129,8 @@ impl<'a> Lines<'a> {
         ensures ok { IfOk result (λ x. (more : ℕ) → Passed (Due.Answer more) self.entry.rest.now self.entry.line
             (Text.answer_line x.0 ∷ []) (answers_due more) x.1.rest.now x.1.line) }
         ensures fits { IfOk result (λ x. IsAnswer x.0) }
-        ensures fault { IfErr result (λ f. (more : ℕ) → FaultFrom (Due.Answer more) self.entry.rest.now self.entry.line f) }
+        ensures fault { IfErr result (λ f. (more : ℕ)
+            → FaultFrom (Due.Answer more) self.entry.rest.now self.entry.line f) }
     {
         cuts_tell();
         let Some((line, next)) = self.next() else {
@@ -172,7 +175,8 @@ impl<'a> Lines<'a> {
         ensures ok { IfOk result (λ x. (more : ℕ) → Passed (Due.Row more) self.entry.rest.now self.entry.line
             (Text.row_line x.0 ∷ []) (rows_due more) x.1.rest.now x.1.line) }
         ensures fits { IfOk result (λ x. IsRow x.0) }
-        ensures fault { IfErr result (λ f. (more : ℕ) → FaultFrom (Due.Row more) self.entry.rest.now self.entry.line f) }
+        ensures fault { IfErr result (λ f. (more : ℕ)
+            → FaultFrom (Due.Row more) self.entry.rest.now self.entry.line f) }
     {
         cuts_tell();
         let Some((line, next)) = self.next() else {
@@ -193,7 +197,8 @@ impl<'a> Lines<'a> {
     /// After the line `end`, which nothing follows.
     pub fn end(self) -> Result<(), CertFault>
         requires { self.line + length self.rest.now < 2 ^ 32 }
-        ensures ok { IfOk result (λ x. Passed Due.End self.entry.rest.now self.entry.line (codes "end" ∷ []) Due.Nothing [] (self.entry.line + 1)) }
+        ensures ok { IfOk result (λ x. Passed Due.End self.entry.rest.now self.entry.line
+            (codes "end" ∷ []) Due.Nothing [] (self.entry.line + 1)) }
         ensures fault { IfErr result (FaultFrom Due.End self.entry.rest.now self.entry.line) }
     {
         cuts_tell();

@@ -31,7 +31,8 @@ pub fn request_line(alloc: Global, line: &[u8]) -> Result<Option<Request>, Mem>
 
 // The request that the text spells, in whatever form.
 fn spelled(alloc: Global, text: &[u8]) -> Result<Option<Request>, Mem>
-    ensures { IfOk result (λ found. MatchOption found ((q : RequestData) → request_of text.now ≡ Ok q → ⊥)
+    ensures { IfOk result (λ found. MatchOption found
+        ((q : RequestData) → request_of text.now ≡ Ok q → ⊥)
         (λ q. (request_of text.now ≡ Ok q) × IsRequest q)) }
 {
     match read_request(alloc, text) {
