@@ -1,0 +1,24 @@
+use Rattle.std.proofs.Common.{rules, arith}
+use Rattle.ticket_demands.proofs.PriceSums.{numbered}
+use Rattle.ticket_demands.proofs.pricing.component_price.Goals as goal
+
+pub overflow_add-result : goal.overflow_add-result
+overflow_add-result c = omega (arith, (c.limits.ensures.fares _ _ c.in_ok-row.ensures.0).1.amount, c.share.ensures.low, c.charge.ensures.low)
+
+pub overflow_add-result-2 : goal.overflow_add-result-2
+overflow_add-result-2 c = omega (arith, (c.limits.ensures.fares _ _ c.in_ok-row.ensures.0).1.amount, c.share.ensures.low, c.charge.ensures.low, c.surcharge.ensures.low)
+
+pub returns-clause-value : goal.returns-clause-value
+returns-clause-value c = record {
+  flights = _;
+  fare = _;
+  rule = _;
+  numbered = numbered c.args.book.now c.args.component.now.flights (λ u. absurd (let t = c.if-has_unknown_flight.ensures.1 u in cc));
+  some = search rules;
+  fare_is = c.in_ok-row.ensures.0;
+  rule_is = c.in_ok-row.ensures.1;
+  adds = search rules;
+}
+
+pub returns-clause-low : goal.returns-clause-low
+returns-clause-low c = omega (arith, (c.limits.ensures.fares _ _ c.in_ok-row.ensures.0).1.amount, c.share.ensures.low, c.charge.ensures.low, c.surcharge.ensures.low)

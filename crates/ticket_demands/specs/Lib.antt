@@ -1,0 +1,5 @@
+pub mod Known
+pub mod Prices
+pub mod Cuts
+pub mod Stretches
+pub mod Breaches

@@ -1,0 +1,51 @@
+//! What a ticket costs.
+ghost use Rattle.std.specs.Prelude.{◌≡◌, ◌≤◌, ℕ, Any, Some, IfSome, MatchOption};
+ghost use Rattle.fare_law.specs.Order.{Costs};
+ghost use Rattle.fare_law.specs.Parts as Parts;
+ghost use Rattle.fare_law.specs.declared.requests.Request.{Request};
+ghost use Rattle.ticket_demands.specs.Prices.{ComponentCosts, HasNoPrice, TicketCosts};
+
+use crate::known::{flights_of, has_unknown_flight};
+use fare_book::Book;
+use fare_law::{Component, Fare, FareKind, Ticket};
+use rule_route::{charge, limits_are_met, surcharge};
+
+/// The price of a ticket for one passenger, lawful or not: what its components cost. None exactly
+/// where a component has no flight, one that is unknown, or a fare that isn't live.
+pub fn price(ticket: &Ticket, book: &Book) -> Option<u64>
+    ensures sum { MatchOption result (Any (HasNoPrice book.now) ticket.now.components) (TicketCosts book.now ticket.now) }
+    ensures costs { (request : Request) (price : ℕ) → Costs ticket.now book.now request price → result ≡ Some price }
+{
+    let mut sum = 0;
+    for component in ticket.components.as_slice() {
+        sum += component_price(component, book)?;
+    }
+    Some(sum)
+}
+
+/// The price of a component.
+fn component_price(component: &Component, book: &Book) -> Option<u64>
+    ensures value { MatchOption result (HasNoPrice book.now component.now) (ComponentCosts book.now component.now) }
+    ensures low { IfSome result (λ price. price ≤ 1035000000) }
+{
+    if component.flights.len() == 0 || has_unknown_flight(component, book) {
+        return None;
+    }
+    book.limits();
+    limits_are_met();
+    let row = book.fare(&component.fare)?;
+    let flights = flights_of(component, book);
+    let flights = flights.as_slice();
+    Some(share(&row.fare) + charge(&row.rule, flights) + surcharge(&row.rule, flights))
+}
+
+/// The fare's amount, or half of it for a round trip fare.
+fn share(fare: &Fare) -> u64
+    ensures value { result ≡ Parts.share fare.now.kind fare.now.amount }
+    ensures low { result ≤ fare.now.amount }
+{
+    match fare.kind {
+        FareKind::R => fare.amount / 2,
+        FareKind::O | FareKind::S => fare.amount,
+    }
+}
