@@ -1,4 +1,7 @@
 //! The certificate of one flight and one fare, written.
+ghost use Rattle.std.specs.Prelude.{IfOk};
+ghost use Rattle.fare_law.specs.Limits.{IsRequest};
+
 use crate::*;
 use certificate::{CertAnswer, CertRow, Certificate};
 use fare_law::{ArrayVec, Basis, Carrier, List, Move, Place, Request, Role, Slice};
@@ -19,7 +22,9 @@ end
 ";
 
 /// LON to NYC on 2031-03-03 for one passenger, sold on 2031-02-01.
-fn request() -> Request {
+fn request() -> Request
+    ensures { IsRequest result }
+{
     let mut slices = ArrayVec::new();
     slices.push(Slice {
         from: Place(*b"LON"),
@@ -68,7 +73,9 @@ fn root() -> Option<Residual> {
     Residual::checked(at, None, None, part)
 }
 
-fn one_way(alloc: Global) -> Result<Certificate, AllocError> {
+fn one_way(alloc: Global) -> Result<Certificate, AllocError>
+    ensures { IfOk result (λ certificate. IsRequest certificate.request) }
+{
     let mut moves = ArrayVec::new();
     moves.push(only_move());
     let mut answers = Vec::new(alloc);
@@ -198,6 +205,7 @@ fn names_the_first_count_that_is_wrong(rt: HostRuntime) -> Result<(), Fail> {
     for (name, rest, fault) in cases {
         let mut text = Vec::from_slice(rt.alloc(), HEAD.as_bytes())?;
         text.extend_from_slice(rest.as_bytes())?;
+        assert!(rt; text.len() < 1000, "{name}");
         assert_eq!(rt;
             read_cert(rt.alloc(), text.as_slice()),
             Err(fault),
