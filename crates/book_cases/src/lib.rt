@@ -1,9 +1,11 @@
-//! Tests of books, each call with memory at hand: filings that are taken whole and filings that are
-//! refused. They stand in a crate of their own, since a crate with tests is proved twice. Nothing
-//! stands on this crate.
+//! Tests of books and of what the law demands of tickets: filings that are taken whole and filings that
+//! are refused, prices, demands that are met. They stand in a crate of their own, since a crate with
+//! tests is proved twice. Nothing stands on this crate.
 #![tactic(auto)]
 
 #[cfg(test)]
 mod books;
 #[cfg(test)]
 mod filings;
+#[cfg(test)]
+mod tickets;

@@ -1,0 +1,197 @@
+//! What small tickets cost, and what a ticket of one flight and one fare meets.
+ghost use Rattle.fare_law.specs.Days.{IsCalendarDay};
+ghost use Rattle.fare_law.specs.Limits.{IsSlice};
+
+use crate::filings::{LON, NYC, QX, fare, key, one};
+use fare_book::{Book, Timetable};
+use fare_law::{
+    Action, ArrayVec, Component, FareKind, FlightRow, List, PlaceRow, SeatRow, Slice, Ticket,
+};
+use schedule_book::Schedule;
+use std::alloc::Global;
+use std::sync::Arc;
+use std::test::Fail;
+use ticket_demands::{
+    ComponentDemand, Demand, JourneyDemand, UnitDemand, component_meets, cuts_meet, part_meets,
+    price,
+};
+
+const PLACES: [PlaceRow; 2] = [
+    PlaceRow {
+        line: 2,
+        place: LON,
+        connect: 60,
+    },
+    PlaceRow {
+        line: 3,
+        place: NYC,
+        connect: 60,
+    },
+];
+
+/// QX 101 on Monday 2031-03-03, from 10:00 to 13:00.
+const ROW: FlightRow = FlightRow {
+    line: 6,
+    carrier: QX,
+    number: 101,
+    from: LON,
+    to: NYC,
+    dep: 600,
+    dep_offset: 0,
+    arr: 780,
+    arr_offset: -300,
+    shift: 0,
+    first: 22341,
+    last: 22341,
+    days: 1,
+};
+
+/// Nine seats in class Y.
+const NINE: [u8; 32] = [
+    0, 0, 0, 0, 0, 0, 0, 0, 0, 0, 0, 0, 0, 0, 0, 0, 0, 0, 0, 0, 0, 0, 0, 0, 9, 0, 0, 0, 0, 0, 0, 0,
+];
+
+/// No seat in any class.
+const NONE: [u8; 32] = [0; 32];
+
+/// The book of the flight with these seats and the fare.
+fn book(alloc: Global, seats: [u8; 32]) -> Result<Book, Fail> {
+    let schedule = Schedule::build(alloc, &PLACES, &[ROW])?;
+    let mut rows = List::new(alloc);
+    rows.push(SeatRow {
+        line: 9,
+        carrier: QX,
+        number: 101,
+        from: LON,
+        day: None,
+        seats,
+    })?;
+    let timetable = Arc::new(alloc, Timetable::of(alloc, schedule, rows)?)?;
+    let opening = Book::empty(alloc, timetable)?;
+    let filing = one(alloc, Action::PutFare(fare(FareKind::O, 20000, 0)))?;
+    Ok(opening.with(alloc, filing)?)
+}
+
+/// A component of the fare over the flight of a number.
+fn component(number: Option<u32>) -> Component {
+    let mut flights = ArrayVec::new();
+    if let Some(number) = number {
+        flights.push(number);
+    }
+    Component {
+        flights,
+        fare: key(),
+        unit: 1,
+    }
+}
+
+/// A ticket of this component alone.
+fn ticket(component: Component) -> Ticket {
+    let mut components = ArrayVec::new();
+    components.push(component);
+    Ticket { components }
+}
+
+#[test]
+fn prices_what_is_known(rt: HostRuntime) -> Result<(), Fail> {
+    let book = book(rt.alloc(), NINE)?;
+    let cases = [
+        ("no component", Ticket::default(), Some(0)),
+        ("no flight", ticket(component(None)), None),
+        ("an unknown flight", ticket(component(Some(1))), None),
+        ("a known flight", ticket(component(Some(0))), Some(20000)),
+    ];
+    for (name, ticket, expected) in &cases {
+        assert_eq!(rt; price(ticket, &book), *expected, "{name}");
+    }
+    Ok(())
+}
+
+#[test]
+fn meets_what_is_demanded(rt: HostRuntime) -> Result<(), Fail> {
+    let seated = book(rt.alloc(), NINE)?;
+    let sold_out = book(rt.alloc(), NONE)?;
+    let component = component(Some(0));
+    let demands = [
+        ComponentDemand::KnownFlights,
+        ComponentDemand::FlightCount,
+        ComponentDemand::NoGap,
+        ComponentDemand::PlacesOnce,
+        ComponentDemand::LiveFare,
+        ComponentDemand::FareEnds,
+        ComponentDemand::DayTime,
+        ComponentDemand::Flights,
+        ComponentDemand::Stopovers,
+        ComponentDemand::Transfers,
+    ];
+    for demand in demands {
+        assert!(rt; component_meets(demand, &component, &seated, 1));
+        assert!(rt; component_meets(demand, &component, &sold_out, 1));
+    }
+    assert!(rt; component_meets(ComponentDemand::Seats, &component, &seated, 9));
+    assert!(rt; !component_meets(ComponentDemand::Seats, &component, &sold_out, 1));
+    Ok(())
+}
+
+#[test]
+fn meets_what_is_demanded_of_a_unit(rt: HostRuntime) -> Result<(), Fail> {
+    let book = book(rt.alloc(), NINE)?;
+    let only = [component(Some(0))];
+    let demands = [
+        UnitDemand::Shape,
+        UnitDemand::FareKind,
+        UnitDemand::FirstDay,
+        UnitDemand::TravelDates,
+        UnitDemand::Stay,
+        UnitDemand::Combination,
+    ];
+    for demand in demands {
+        assert!(rt; part_meets(demand, &only[0], &only, &book, 22320));
+    }
+    Ok(())
+}
+
+/// From London to New York, on this day.
+fn slice(day: i32) -> Slice
+    requires { IsCalendarDay day }
+    ensures { IsSlice result }
+{
+    Slice {
+        from: LON,
+        to: NYC,
+        first: day,
+        days: 1,
+    }
+}
+
+#[test]
+fn meets_what_is_demanded_of_a_journey(rt: HostRuntime) -> Result<(), Fail> {
+    let book = book(rt.alloc(), NINE)?;
+    let flights = book.timetable().schedule().flights();
+    let demands = [
+        JourneyDemand::Slices,
+        JourneyDemand::Length,
+        JourneyDemand::Places,
+        JourneyDemand::Connections,
+        JourneyDemand::Window,
+    ];
+    for demand in demands {
+        assert!(rt; cuts_meet(demand, &[slice(22341)], flights, &book));
+    }
+    assert!(rt; !cuts_meet(JourneyDemand::Window, &[slice(22340)], flights, &book));
+    Ok(())
+}
+
+#[test]
+fn numbers_demands(rt: HostRuntime) {
+    let cases = [
+        (1, Demand::HasComponent),
+        (7, Demand::OfJourney(JourneyDemand::Length)),
+        (13, Demand::Labels),
+        (19, Demand::OfUnit(UnitDemand::Shape)),
+        (26, Demand::Straddling),
+    ];
+    for (number, demand) in cases {
+        assert_eq!(rt; Demand::numbered(number), demand);
+    }
+}
