@@ -2,6 +2,7 @@ pub mod Fitting
 pub mod Bounds
 pub mod Told
 pub mod Scans
+pub mod Singles
 pub mod Growing
 pub mod Growth
 pub mod Orders

@@ -6,11 +6,13 @@
 mod paths;
 mod positions;
 mod ranges;
+mod single;
 mod steps;
 mod ways;
 
 pub use paths::{component_paths, root_position, slice_paths};
 pub use positions::{Path, Position};
+pub use single::path_of;
 
 #[cfg(test)]
 mod tests;

@@ -71,9 +71,9 @@ fn longer(
 
 /// Where a path that may grow stands, and the places where its flights arrived.
 #[derive(Drop)]
-struct Stand {
-    at: Position,
-    places: ArrayVec<Place, 4>,
+pub struct Stand {
+    pub at: Position,
+    pub places: ArrayVec<Place, 4>,
 }
 
 /// Adds the paths that go one flight further than a path, in order.
@@ -150,7 +150,7 @@ fn add_grown(
 
 /// The path that goes on from a path by the flight of this number, which is one of its position's
 /// range. None where the flight can't be taken there.
-fn grown(
+pub fn grown(
     schedule: &Schedule,
     slices: &[Slice],
     start: &Position,
