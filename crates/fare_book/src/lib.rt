@@ -20,4 +20,5 @@ mod uses;
 
 pub use book::Book;
 pub use faults::BookFault;
+pub use rules::copied_rule;
 pub use timetable::Timetable;

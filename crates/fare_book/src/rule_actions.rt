@@ -11,7 +11,7 @@ ghost use Rattle.fare_book.specs.declared.keys.RuleKey.{RuleKey as RuleName};
 use crate::draft::{Draft, Stop};
 use crate::fare_actions::has_rule;
 use crate::keys::RuleKey;
-use crate::rules::copied;
+use crate::rules::copied_rule;
 use crate::uses::uses_of;
 use fare_law::{BookWhy, Carrier, Mem, Rule};
 use std::alloc::Global;
@@ -72,7 +72,7 @@ fn set_rule(
     ensures rules { OnOk result ((q : RuleName) → rule_at rules.new.entries q ≡ (if same_rule q key then Some rule.now else rule_at rules.old.entries q)) }
     ensures changed { OnOk result ((q : RuleName) → list_any (same_rule q) changed.new.keys ≡ (if same_rule q key then true else list_any (same_rule q) changed.old.keys)) }
 {
-    let rule = Arc::new(alloc, copied(rule))?;
+    let rule = Arc::new(alloc, copied_rule(rule))?;
     rules.insert(key, rule)?;
     changed.insert(key)?;
     Ok(())

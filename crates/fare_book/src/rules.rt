@@ -6,8 +6,8 @@ use fare_law::{
     TravelRule,
 };
 
-/// The same rule.
-pub fn copied(rule: &Rule) -> Rule
+/// The same rule, whose lists are copied; it takes no memory.
+pub fn copied_rule(rule: &Rule) -> Rule
     ensures { result ≡ rule.now }
 {
     Rule {

@@ -13,7 +13,7 @@ ghost use Rattle.fare_book.specs.declared.keys.RuleKey.{RuleKey as RuleName};
 
 use crate::fare_actions::rule_of;
 use crate::keys::{Market, RuleKey};
-use crate::rules::copied;
+use crate::rules::copied_rule;
 use crate::tables::take_table;
 use fare_law::{Fare, FareKey, List, MarketSheet, Mem, Rule, SheetRow};
 use std::alloc::Global;
@@ -144,7 +144,7 @@ fn rule_for(rules: &HashMap<RuleKey, Arc<Rule>>, fare: &Fare) -> Rule
         return free_rule();
     }
     match rules.get(&rule_of(fare)) {
-        Some(rule) => copied(rule),
+        Some(rule) => copied_rule(rule),
         None => free_rule(),
     }
 }

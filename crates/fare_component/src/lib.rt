@@ -11,6 +11,7 @@ mod source;
 #[cfg(test)]
 mod tests;
 
+pub use component::is_offered;
 pub use laws::{one_list, prices_are_low, same_offers};
 pub use list::offers;
 pub use offer::{Offer, OfferRows};

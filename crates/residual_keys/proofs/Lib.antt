@@ -17,6 +17,7 @@ pub mod LeastOne
 pub mod OneBest
 pub mod Short
 pub mod Slots
+pub mod Components
 pub mod Compared
 pub mod Needed
 pub mod WordFacts

@@ -37,7 +37,7 @@ leads_one b sl s at f x y (inl h) (inr k) = absurd (k.0 h.0)
 leads_one b sl s at f x y (inr h) (inl k) = absurd (h.0 k.0)
 leads_one b sl s at f x y (inr h) (inr k) = h.2 ∙ sym k.2
 
-flies_one : (b : Book) (sl : List Slice) (s : Option Position) (ns : List ℕ) (fs : List Flight) (x y : Option Position) → Flies b sl s ns fs x → Flies b sl s ns fs y → x ≡ y
+pub flies_one : (b : Book) (sl : List Slice) (s : Option Position) (ns : List ℕ) (fs : List Flight) (x y : Option Position) → Flies b sl s ns fs x → Flies b sl s ns fs y → x ≡ y
 flies_one b sl s [] [] x y h k = h ∙ sym k
 flies_one b sl s [] (f ∷ fs) x y h k = absurd h
 flies_one b sl s (n ∷ ns) [] x y h k = absurd h
@@ -56,13 +56,13 @@ last_one P Q R f [] h k = absurd h
 last_one P Q R f (x ∷ []) h k = f x h k
 last_one P Q R f (x ∷ y ∷ ys) h k = last_one P Q R f (y ∷ ys) h k
 
-closing : Role → Bool
+pub closing : Role → Bool
 closing Alone = false
 closing Opens = false
 closing GoesOn = false
 closing Closes = true
 
-direction : (r : Role) (s : ℕ) (us us' : List OpenUnit) (p : Piece) → UnitStep r s us p us' → p.reverse ≡ closing r
+pub direction : (r : Role) (s : ℕ) (us us' : List OpenUnit) (p : Piece) → UnitStep r s us p us' → p.reverse ≡ closing r
 unfolding closing
 direction Alone s us us' p h = h.1.forward
 direction Opens s us us' p h = h.1.forward
@@ -76,7 +76,7 @@ filed_ends p false e h = subst (λ r. MatchBool r ((p.fare.key.from ≡ p.end) �
 pub some_one : {X : Type 0} (o : Option X) (x y : X) → o ≡ Some x → o ≡ Some y → x ≡ y
 some_one o x y h k = cc
 
-piece_one : (b : Book) (sale : ℤ) (fs : List Flight) (p q : Piece) (r : Bool) → StandsFor b sale p.fare.key fs p → StandsFor b sale q.fare.key fs q → p.reverse ≡ r → q.reverse ≡ r
+pub piece_one : (b : Book) (sale : ℤ) (fs : List Flight) (p q : Piece) (r : Bool) → StandsFor b sale p.fare.key fs p → StandsFor b sale q.fare.key fs q → p.reverse ≡ r → q.reverse ≡ r
     → p.fare.key.carrier ≡ q.fare.key.carrier → p.fare.key.basis ≡ q.fare.key.basis → p ≡ q
 piece_one b sale fs p q r h k pr qr c a =
     let bg : (p.begin ≡ q.begin) × (p.first_day ≡ q.first_day) = first_one (λ f. (p.begin ≡ f.from) × (p.first_day ≡ f.day)) (λ f. (q.begin ≡ f.from) × (q.first_day ≡ f.day)) _ (λ f x y. (x.0 ∙ sym y.0, x.1 ∙ sym y.1)) fs h.begins k.begins in
@@ -92,7 +92,7 @@ piece_one b sale fs p q r h k pr qr c a =
     let sl : p.sale ≡ q.sale = h.sale_is ∙ sym k.sale_is in
     λ i. record { begin = bg.0 i; end = en.0 i; fare = fare i; rule = rule i; reverse = rev i; first_day = bg.1 i; last_day = en.1 i; sale = sl i }
 
-units_one : (r : Role) (s : ℕ) (us x y : List OpenUnit) (p : Piece) → UnitStep r s us p x → UnitStep r s us p y → x ≡ y
+pub units_one : (r : Role) (s : ℕ) (us x y : List OpenUnit) (p : Piece) → UnitStep r s us p x → UnitStep r s us p y → x ≡ y
 units_one Alone s us x y p h k = h.2 ∙ sym k.2
 units_one Opens s us x y p h k = h.3 ∙ sym k.3
 units_one GoesOn s us x y p h k = h.3 ∙ ap (λ u. set us s (gone_on u p)) (some_one (slice_get us s) h.0 k.0 h.1 k.1) ∙ sym k.3

@@ -7,7 +7,8 @@ use Rattle.flight_paths.specs.declared.positions.Position.{Position}
 use Rattle.open_unit.specs.declared.units.OpenUnit.{OpenUnit}
 use Rattle.residual_keys.specs.declared.parts.TicketPart.{TicketPart}
 use Rattle.residual_keys.specs.declared.reading.Parts.{Parts}
-use Rattle.residual_keys.specs.Kept.{PartKept, UnitKept}
+use Rattle.open_unit.specs.Ranges.{UnitInRanges}
+use Rattle.residual_keys.specs.Kept.{PartKept}
 use Rattle.residual_keys.specs.ResidualReading.{position_in, unit_in, units_in, part_in, parts_in}
 use Rattle.residual_keys.specs.ResidualText.{AreCarriers, IsNamed, IsPosition, IsWritten, via_word, day_word, carriers_word, rules_word, unit_words, unit_text, units_text, part_text, residual_text}
 use Rattle.residual_keys.specs.Residuals.{State}
@@ -38,7 +39,7 @@ position_again k a rest h =
       k.number.again 4294967295 a.hi (omega (arith, h.hi)) (omega (arith, h.hi)),
     ) refl
 
-unit_again : Words → (u : OpenUnit) → UnitKept u → IsNamed u → unit_in (unit_text u) ≡ Some u
+unit_again : Words → (u : OpenUnit) → UnitInRanges u → IsNamed u → unit_in (unit_text u) ≡ Some u
 unfolding unit_in
 unit_again k u h n =
     let t9 = rules_word u.rule in
@@ -82,7 +83,7 @@ not_none u more n = longer (unit_text u ++ more) (45 ∷ []) (λ e. omega (arith
     length_cut : (xs : List ℕ) (c : ℕ) (ys more : List ℕ) → length xs ≤ length ((xs ++ c ∷ ys) ++ more)
     length_cut xs c ys more = search (rules, length-append)
 
-units_again : Words → (us : List OpenUnit) → length us ≤ 2 → Each UnitKept us → Each IsNamed us → units_in (units_text us) ≡ Some (slice_get us 0, slice_get us 1)
+units_again : Words → (us : List OpenUnit) → length us ≤ 2 → Each UnitInRanges us → Each IsNamed us → units_in (units_text us) ≡ Some (slice_get us 0, slice_get us 1)
 unfolding units_in
 units_again k [] few h n = refl
 units_again k (u ∷ []) few h n =

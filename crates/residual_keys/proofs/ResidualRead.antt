@@ -12,7 +12,8 @@ use Rattle.open_unit.specs.declared.marks.RuleMark.{RuleMark}
 use Rattle.open_unit.specs.declared.units.OpenUnit.{OpenUnit}
 use Rattle.residual_keys.specs.declared.parts.TicketPart.{TicketPart}
 use Rattle.residual_keys.specs.declared.reading.Parts.{Parts}
-use Rattle.residual_keys.specs.Kept.{AreKept, IsResidual, UnitKept, open_units}
+use Rattle.open_unit.specs.Ranges.{UnitInRanges}
+use Rattle.residual_keys.specs.Kept.{AreKept, IsResidual, open_units}
 use Rattle.residual_keys.specs.ResidualReading.{via_in, day_in, set_day_in, carriers_in, rules_in, position_in, unit_in, units_parted, units_in, part_in, parts_in}
 use Rattle.residual_keys.specs.ResidualText.{AreCarriers, IsNamed, IsPosition, IsWritten, Spells, via_word, day_word, carriers_word, rules_word, unit_text, units_text, part_text, residual_text}
 use Rattle.residual_keys.specs.Residuals.{State}
@@ -267,7 +268,7 @@ parts_read k text p e =
 kept_is : (p : Parts) → AreKept p.first p.second p.part → IsResidual (made p)
 kept_is p h = go p.first p.second h.turn h.first h.second
   where
-    go : (first second : Option OpenUnit) → (first ≡ None → second ≡ None) → IfSome first UnitKept → IfSome second UnitKept → IsResidual (record { at = p.at; units = open_units first second; part = p.part })
+    go : (first second : Option OpenUnit) → (first ≡ None → second ≡ None) → IfSome first UnitInRanges → IfSome second UnitInRanges → IsResidual (record { at = p.at; units = open_units first second; part = p.part })
     go None second turn one other = record { few = omega arith; units = tt; part = h.part }
     go (Some u) None turn one other = record { few = omega arith; units = (one, tt); part = h.part }
     go (Some u) (Some v) turn one other = record { few = omega arith; units = (one, (other, tt)); part = h.part }
@@ -286,7 +287,7 @@ spells k text p e h =
 made_again : (x : State) → IsResidual x → (made (parts_of x) ≡ x) × AreKept (slice_get x.units 0) (slice_get x.units 1) x.part
 made_again x h = go x.units h.few h.units
   where
-    go : (us : List OpenUnit) → length us ≤ 2 → Each UnitKept us
+    go : (us : List OpenUnit) → length us ≤ 2 → Each UnitInRanges us
         → (◌≡◌ {A = State} (record { at = x.at; units = open_units (slice_get us 0) (slice_get us 1); part = x.part }) (record { at = x.at; units = us; part = x.part })) × AreKept (slice_get us 0) (slice_get us 1) x.part
     go [] few each = (refl, record { turn = λ e. refl; first = tt; second = tt; part = h.part })
     go (u ∷ []) few each = (refl, record { turn = λ e. refl; first = each.0; second = tt; part = h.part })

@@ -15,7 +15,8 @@ use Rattle.open_unit.specs.declared.marks.CarrierMark.TheVariants.{NotYet, One, 
 use Rattle.open_unit.specs.declared.marks.RuleMark.{RuleMark}
 use Rattle.open_unit.specs.declared.marks.RuleMark.TheVariants.{One as OneRule, Mixed as MixedRules}
 use Rattle.open_unit.specs.declared.units.OpenUnit.{OpenUnit}
-use Rattle.residual_keys.specs.Kept.{IsSetDay, IsFirstDay, UnitKept}
+use Rattle.open_unit.specs.Ranges.{UnitInRanges}
+use Rattle.rule_unit.specs.Ranges.{IsDayWithin, IsStoredDay}
 use Rattle.residual_keys.specs.ResidualText.{AreCarriers, AreRules, IsNamed, via_word, day_word, carriers_word, rules_word, unit_words, unit_text, units_text}
 use Rattle.word_text.specs.Laws.{CutTells, NumberTells, DigitsAre}
 use Rattle.word_text.specs.Words.{IsFreeOf}
@@ -78,7 +79,7 @@ pub free_signed : Words → (c : ℕ) → Separates c → (d : ℤ) → pos 0 �
 free_signed k c s (pos n) low high = free_decimal k c s n (omega (arith, ints))
 free_signed k c s (negsuc n) low high = absurd (omega (arith, ints))
 
-pub free_day : Words → (c : ℕ) → Separates c → (d : Option ℤ) → IfSome d IsSetDay → IsFreeOf c (day_word d)
+pub free_day : Words → (c : ℕ) → Separates c → (d : Option ℤ) → IsStoredDay d → IsFreeOf c (day_word d)
 free_day k c s None h = (s.dash, tt)
 free_day k c s (Some d) h = free_signed k c s d h.0 h.1
 
@@ -91,11 +92,11 @@ pub free_rules : Words → (c : ℕ) → Separates c → (m : RuleMark) → AreR
 free_rules k c s (OneRule n) h = free_decimal k c s n (omega (arith, h))
 free_rules k c s MixedRules h = (s.star, tt)
 
-pub first_within : (d : ℤ) → IsFirstDay d → d ≤ℤ pos 100000
+pub first_within : (d : ℤ) → IsDayWithin (pos 99000) d → d ≤ℤ pos 100000
 first_within d h = omega (arith, ints)
 
 -- no text of a unit has a byte that neither its words nor its own separators have
-pub free_unit : Words → (c : ℕ) → Separates c → ◌≢◌ {A = ℕ} 62 c → ◌≢◌ {A = ℕ} 58 c → (u : OpenUnit) → UnitKept u → IsNamed u → IsFreeOf c (unit_text u)
+pub free_unit : Words → (c : ℕ) → Separates c → ◌≢◌ {A = ℕ} 62 c → ◌≢◌ {A = ℕ} 58 c → (u : OpenUnit) → UnitInRanges u → IsNamed u → IsFreeOf c (unit_text u)
 free_unit k c s one other u h n =
     let words : Each (IsFreeOf c) (unit_words u) = (
       free_place c s u.end n.end,
@@ -128,10 +129,10 @@ free_unit k c s one other u h n =
     free_joined c 62 one (u.origin.0 ∷ join_with_byte 58 (unit_words u) ∷ [])
     (free_place c s u.origin n.origin, (free_joined c 58 other (unit_words u) words, tt))
 
-pub free_units : Words → (us : List OpenUnit) → Each UnitKept us → Each IsNamed us → IsFreeOf 32 (units_text us)
+pub free_units : Words → (us : List OpenUnit) → Each UnitInRanges us → Each IsNamed us → IsFreeOf 32 (units_text us)
 free_units k [] h n = (space.dash, tt)
 free_units k (u ∷ us) h n = free_joined 32 47 (λ e. omega (arith, e)) (map unit_text (u ∷ us)) (each (u ∷ us) h n)
   where
-    each : (vs : List OpenUnit) → Each UnitKept vs → Each IsNamed vs → Each (IsFreeOf 32) (map unit_text vs)
+    each : (vs : List OpenUnit) → Each UnitInRanges vs → Each IsNamed vs → Each (IsFreeOf 32) (map unit_text vs)
     each [] h n = tt
     each (v ∷ vs) h n = (free_unit k 32 space (λ e. omega (arith, e)) (λ e. omega (arith, e)) v h.0 n.0, each vs h.1 n.1)

@@ -19,7 +19,7 @@ use Rattle.open_unit.specs.declared.marks.CarrierMark.{CarrierMark}
 use Rattle.open_unit.specs.declared.marks.CarrierMark.TheVariants.{NotYet, One, Mixed}
 use Rattle.open_unit.specs.declared.marks.RuleMark.{RuleMark}
 use Rattle.open_unit.specs.declared.marks.RuleMark.TheVariants.{One as OneRule, Mixed as MixedRules}
-use Rattle.residual_keys.specs.Kept.{IsSetDay}
+use Rattle.rule_unit.specs.Ranges.{IsStoredDay}
 use Rattle.residual_keys.specs.ResidualReading.{via_in, day_in, set_day_in, carriers_in, rules_in}
 use Rattle.residual_keys.specs.ResidualText.{AreCarriers, AreRules, via_word, day_word, carriers_word, rules_word}
 use Rattle.residual_keys.proofs.WordFacts.{Words}
@@ -72,7 +72,7 @@ day_again k (negsuc n) low high = absurd (omega (arith, ints))
 no_mark : Words → (n c : ℕ) → n < 2 ^ 64 → c < 48 → bytes_eq (decimal n) (c ∷ []) ≡ false
 no_mark k n c small low = differ (decimal n) (c ∷ []) (λ e. let h = subst (Each (IsInRange 48 57)) e (k.digits n small) in omega (arith, h.0, low))
 
-pub set_day_again : Words → (d : Option ℤ) → IfSome d IsSetDay → set_day_in (day_word d) ≡ Some d
+pub set_day_again : Words → (d : Option ℤ) → IsStoredDay d → set_day_in (day_word d) ≡ Some d
 unfolding set_day_in
 set_day_again k None h = refl
 set_day_again k (Some (pos n)) h = rw (no_mark k n 45 (omega (arith, ints)) (omega arith), day_again k (pos n) h.0 h.1) refl

@@ -5,6 +5,7 @@ pub mod OneNext
 pub mod ResidualOrder
 pub mod Short
 pub mod Kept
+pub mod Steps
 pub mod AskedKeys
 pub mod ResidualText
 pub mod ResidualReading

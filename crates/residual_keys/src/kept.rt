@@ -1,6 +1,8 @@
 //! What the type of residuals keeps, and residuals of given parts.
 ghost use Rattle.std.specs.Prelude.{◌≡◌, ◌↔◌, IfSome, IsSome, IsTrue};
-ghost use Rattle.residual_keys.specs.Kept.{AreKept, InTurn, IsResidual, IsSetDay, MarksAgree, PartKept, UnitKept, open_units};
+ghost use Rattle.open_unit.specs.Ranges.{MarksAgree, UnitInRanges};
+ghost use Rattle.residual_keys.specs.Kept.{AreKept, InTurn, IsResidual, PartKept, open_units};
+ghost use Rattle.rule_unit.specs.Ranges.{IsStoredDay};
 
 use crate::{Residual, TicketPart};
 use flight_paths::Position;
@@ -67,7 +69,7 @@ fn in_turn(first: &Option<OpenUnit>, second: &Option<OpenUnit>) -> bool
 }
 
 fn option_kept(unit: &Option<OpenUnit>) -> bool
-    ensures { IsTrue result ↔ IfSome unit.now UnitKept }
+    ensures { IsTrue result ↔ IfSome unit.now UnitInRanges }
 {
     match unit {
         Some(unit) => unit_kept(unit),
@@ -77,7 +79,7 @@ fn option_kept(unit: &Option<OpenUnit>) -> bool
 
 /// Whether the fields of an open unit lie in their ranges, and its marks agree.
 fn unit_kept(unit: &OpenUnit) -> bool
-    ensures { IsTrue result ↔ UnitKept unit.now }
+    ensures { IsTrue result ↔ UnitInRanges unit.now }
 {
     unit.first_day >= 0
         && unit.first_day <= 99_000
@@ -93,7 +95,7 @@ fn unit_kept(unit: &OpenUnit) -> bool
 
 /// Whether a day that a rule sets lies in its range.
 fn may_be_set(day: Option<i32>) -> bool
-    ensures { IsTrue result ↔ IfSome day IsSetDay }
+    ensures { IsTrue result ↔ IsStoredDay day }
 {
     match day {
         Some(day) => day >= 0 && day <= 100_000,

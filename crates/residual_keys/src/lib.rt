@@ -3,8 +3,12 @@
 //! lawful tickets, the least runs are the best tickets, runs are short, residuals are ordered.
 #![tactic(auto)]
 
+mod beginning;
+mod component;
 mod kept;
 mod laws;
+mod leaving;
+mod open_units;
 mod parts;
 mod reading;
 mod residual;
@@ -13,6 +17,7 @@ mod tests;
 mod text;
 mod words;
 
+pub use beginning::root;
 pub use laws::{best_runs, nothing_lost, one_best, one_next, residual_order, runs_are_short};
 pub use parts::TicketPart;
 pub use reading::{one_residual_text, read_residual};

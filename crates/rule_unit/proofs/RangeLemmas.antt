@@ -8,7 +8,9 @@ use Rattle.fare_law.specs.declared.rules.MinStay.{MinStay}
 use Rattle.fare_law.specs.declared.rules.Partners.{Partners}
 use Rattle.fare_law.specs.declared.rules.Partners.TheVariants.{Any, SameCarrier, SameRule}
 use Rattle.fare_law.specs.declared.rules.Rule.{Rule}
-use Rattle.fare_law.specs.Days.{weekday, first_sunday_after}
+use Rattle.fare_law.specs.declared.rules.TravelRule.{TravelRule}
+use Rattle.fare_law.specs.Days.{weekday, first_sunday_after, IsCalendarDay}
+use Rattle.fare_law.specs.RuleLimits.{IsRule, IsTravelRule}
 use Rattle.rule_unit.specs.declared.demand.UnitDemand.{UnitDemand}
 use Rattle.rule_unit.specs.Demands.{later_of, earlier_of, least_stay, greatest_stay, by_day, kinds_of, partner_number, partner_of, demand_of, met}
 use Rattle.rule_unit.specs.Ranges.{IsDayWithin, IsStoredDay, StaysInRange, DemandInRange}
@@ -54,6 +56,18 @@ earlier_within : (a b : Option ℤ) → IsStoredDay a → IsStoredDay b → IsSt
 earlier_within None b h k = k
 earlier_within (Some x) None h k = h
 earlier_within (Some x) (Some y) h k = within_some (int_min x y) (min_within x y h k)
+
+-- a rule within its limits
+by_stored : (by : Option ℤ) → IfSome by IsCalendarDay → IsStoredDay by
+by_stored None h = tt
+by_stored (Some day) h = (omega (arith, ints, h.0), omega (arith, ints, h.1))
+
+travel_stored : (c : Option TravelRule) → IfSome c IsTravelRule → IsStoredDay (by_day c)
+travel_stored None h = tt
+travel_stored (Some c) h = by_stored c.by h.by
+
+pub rule_stays : (r : Rule) → IsRule r → StaysInRange r
+rule_stays r h = record { least = h.cat6; greatest = h.cat7; by = travel_stored r.cat14 h.cat14 }
 
 partner_within : (c : Option CombineRule) → partner_of c ≤ 2
 partner_within None = omega arith

@@ -10,4 +10,4 @@ mod laws;
 mod tests;
 
 pub use demand::UnitDemand;
-pub use laws::demands_are_rules;
+pub use laws::{demands_are_rules, rules_stay_in_range};

@@ -16,7 +16,7 @@ pub returns-in-Some : goal.returns-in-Some
 returns-in-Some c = λ b rules s.
     let entries = c.args.rules.now.entries in
     let found : lookup (same_rule (rule_of c.args.fare.now)) entries ≡ Some c.in-Some.rule.now = sym (c.in-Some.ensures.value ∙ rule_found entries c.rule_of.result ∙ ap (λ k. lookup (same_rule k) entries) c.rule_of.ensures) in
-    sym (rules (rule_of c.args.fare.now) c.if-fare-eq0.false) ∙ ap (option_map arc_value) found ∙ ap Some (sym (c.copied.ensures ∙ c.deref.ensures))
+    sym (rules (rule_of c.args.fare.now) c.if-fare-eq0.false) ∙ ap (option_map arc_value) found ∙ ap Some (sym (c.copied_rule.ensures ∙ c.deref.ensures))
 
 pub returns-in-None : goal.returns-in-None
 returns-in-None c = λ b rules s.

@@ -1,0 +1,67 @@
+-- The flights of a component from their numbers, its legs, and its last flight.
+use Rattle.std.proofs.Common.{◌≡◌, ℕ, zero, suc, pos, ◌+◌, ◌-◌, ◌≤◌, ◌<◌, List, [], ◌∷◌, ◌++◌, length, map, take, get_or, slice_get, Some, refl, sym, ap, ap₂, subst, ◌∙◌, arith}
+use Rattle.fare_law.specs.declared.flights.Flight.{Flight}
+use Rattle.fare_law.specs.declared.sheets.Leg.{Leg}
+use Rattle.fare_law.specs.Book.{Book}
+use Rattle.fare_law.specs.Lists.{Matched, OnLast}
+use Rattle.fare_law.specs.Offers.{flights_of}
+use Rattle.fare_law.specs.Parts.{Numbers}
+
+-- what stands for a flight past the end of a list
+abbrev pub no_flight : Flight
+no_flight = record { carrier = record { 0 = [] }; number = 0; from = record { 0 = [] }; to = record { 0 = [] }; day = pos 0; minute = 0; dep = pos 0; arr = pos 0 }
+
+got_within : {X : Type 0} (xs : List X) (n : ℕ) (x : X) → slice_get xs n ≡ Some x → n < length xs
+got_within [] n x h = cc
+got_within (y ∷ xs) zero x h = omega arith
+got_within (y ∷ xs) (suc n) x h = omega (arith, got_within xs n x h)
+
+got_is : {X : Type 0} (xs : List X) (n : ℕ) (x d : X) → slice_get xs n ≡ Some x → get_or xs n d ≡ x
+got_is [] n x d h = cc
+got_is (y ∷ xs) zero x d h = cc
+got_is (y ∷ xs) (suc n) x d h = got_is xs n x d h
+
+pub number_within : (b : Book) (ns : List ℕ) (fs : List Flight) (i : ℕ) → Numbers b ns fs → i < length ns → get_or ns i 0 < length b.timetable.flights
+number_within b [] fs i h lt = absurd (omega arith)
+number_within b (n ∷ ns) [] i h lt = absurd h
+number_within b (n ∷ ns) (f ∷ fs) zero h lt = got_within b.timetable.flights n f h.0
+number_within b (n ∷ ns) (f ∷ fs) (suc i) h lt = number_within b ns fs i h.1 (omega arith)
+
+-- the flights so far and one more
+pub flights_next : (b : Book) (ns : List ℕ) (fs : List Flight) (i : ℕ) (d : Flight) → Numbers b ns fs → i < length ns → take (suc i) fs ≡ take i fs ++ get_or b.timetable.flights (get_or ns i 0) d ∷ []
+flights_next b [] fs i d h lt = absurd (omega arith)
+flights_next b (n ∷ ns) [] i d h lt = absurd h
+flights_next b (n ∷ ns) (f ∷ fs) zero d h lt = ap (λ x. x ∷ []) (sym (got_is b.timetable.flights n f d h.0))
+flights_next b (n ∷ ns) (f ∷ fs) (suc i) d h lt = ap (λ xs. f ∷ xs) (flights_next b ns fs i d h.1 (omega arith))
+
+pub flights_all : (b : Book) (ns : List ℕ) (fs : List Flight) (i : ℕ) → Numbers b ns fs → length ns ≤ i → take i fs ≡ fs
+flights_all b [] [] zero h le = refl
+flights_all b [] [] (suc i) h le = refl
+flights_all b [] (f ∷ fs) i h le = absurd h
+flights_all b (n ∷ ns) [] i h le = absurd h
+flights_all b (n ∷ ns) (f ∷ fs) zero h le = absurd (omega arith)
+flights_all b (n ∷ ns) (f ∷ fs) (suc i) h le = ap (λ xs. f ∷ xs) (flights_all b ns fs i h.1 (omega arith))
+
+-- one more of each
+pub matched_more : {X Y : Type 0} (R : X → Y → Type 0) (xs : List X) (ys : List Y) (x : X) (y : Y) → Matched R xs ys → R x y → Matched R (xs ++ x ∷ []) (ys ++ y ∷ [])
+matched_more R [] [] x y h r = (r, tt)
+matched_more R [] (z ∷ ys) x y h r = absurd h
+matched_more R (w ∷ xs) [] x y h r = absurd h
+matched_more R (w ∷ xs) (z ∷ ys) x y h r = (h.0, matched_more R xs ys x y h.1 r)
+
+pub legs_more : (legs : List Leg) (leg : Leg) → flights_of (legs ++ leg ∷ []) ≡ flights_of legs ++ leg.flight ∷ []
+legs_more [] leg = refl
+legs_more (l ∷ legs) leg = ap (λ xs. l.flight ∷ xs) (legs_more legs leg)
+
+pub last_stands : (fs : List Flight) (d : Flight) → 1 ≤ length fs → OnLast (λ f. get_or fs (length fs - 1) d ≡ f) fs
+last_stands [] d h = absurd (omega arith)
+last_stands (f ∷ []) d h = refl
+last_stands (f ∷ g ∷ fs) d h = subst (λ k. OnLast (λ x. get_or (f ∷ g ∷ fs) k d ≡ x) (g ∷ fs)) (shift (length fs)) (last_stands (g ∷ fs) d (omega arith))
+  where
+    shift : (k : ℕ) → suc (suc k - 1) ≡ suc (suc k) - 1
+    shift k = omega arith
+
+pub on_last_to : {X : Type 0} (P Q : X → Type 0) (xs : List X) → OnLast P xs → ((x : X) → P x → Q x) → OnLast Q xs
+on_last_to P Q [] h to = h
+on_last_to P Q (x ∷ []) h to = to x h
+on_last_to P Q (x ∷ y ∷ ys) h to = on_last_to P Q (y ∷ ys) h to

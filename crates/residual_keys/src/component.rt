@@ -1,0 +1,82 @@
+//! One component of a search: its flights, its legs, and what a fare over them is to a unit.
+ghost use Rattle.std.specs.Prelude.{◌≡◌, ◌≤◌, List, length};
+ghost use Rattle.fare_law.specs.declared.flights.Flight.{Flight as DatedFlight};
+ghost use Rattle.fare_law.specs.Lists.{Matched, OnFirst, OnLast};
+ghost use Rattle.fare_law.specs.Offers.{flights_of};
+ghost use Rattle.fare_law.specs.Parts.{Numbers};
+ghost use Rattle.flight_paths.specs.Plans.{HasPlan};
+ghost use Rattle.residual_keys.specs.AskedKeys.{IsLeg};
+
+use fare_book::{Book, copied_rule};
+use fare_law::{ArrayVec, Flight, Leg, Piece, SheetRow};
+use schedule_book::Schedule;
+
+/// The places and the flights of a book.
+pub fn schedule_of(book: &Book) -> &Schedule
+    ensures { HasPlan book.now result.now }
+{
+    book.timetable().schedule()
+}
+
+/// The flights of these numbers, at most four.
+pub fn flights_of(book: &Book, numbers: &[u32]) -> ArrayVec<Flight, 4>
+    requires few { length numbers.now ≤ 4 }
+    requires known { (fs : List DatedFlight) × Numbers book.now numbers.now fs }
+    ensures { (fs : List DatedFlight) → Numbers book.now numbers.now fs → result ≡ fs }
+{
+    let all = schedule_of(book).flights();
+    let mut flights = ArrayVec::new();
+    for number in numbers {
+        flights.push(all[*number as usize]);
+    }
+    flights
+}
+
+/// The flights as legs, with the classes that have seats for the party.
+pub fn legs_of(book: &Book, party: u8, flights: &[Flight]) -> ArrayVec<Leg, 4>
+    requires { length flights.now ≤ 4 }
+    ensures legs { Matched (IsLeg book.now party) flights.now result }
+    ensures flights { flights_of result ≡ flights.now }
+{
+    let seats = book.seats();
+    let mut legs = ArrayVec::new();
+    for flight in flights {
+        legs.push(Leg {
+            flight: *flight,
+            classes: seats.mask(flight, party),
+        });
+    }
+    legs
+}
+
+/// What a fare with its rule over these flights is to a unit and to a ticket.
+pub fn piece_over(flights: &[Flight], row: &SheetRow, reverse: bool, sale: i32) -> Piece
+    requires { 1 ≤ length flights.now }
+    ensures begins { OnFirst (λ f. (result.begin ≡ f.from) × (result.first_day ≡ f.day)) flights.now }
+    ensures ends { OnLast (λ f. (result.end ≡ f.to) × (result.last_day ≡ f.day)) flights.now }
+    ensures fare { result.fare ≡ row.now.fare }
+    ensures rule { result.rule ≡ row.now.rule }
+    ensures reverse { result.reverse ≡ reverse }
+    ensures sale { result.sale ≡ sale }
+{
+    let first = &flights[0];
+    let last = last_of(flights);
+    Piece {
+        begin: first.from,
+        end: last.to,
+        fare: row.fare.copied(),
+        rule: copied_rule(&row.rule),
+        reverse,
+        first_day: first.day,
+        last_day: last.day,
+        sale,
+    }
+}
+
+/// The last of some flights.
+fn last_of(flights: &[Flight]) -> &Flight
+    requires { 1 ≤ length flights.now }
+    ensures { OnLast (λ f. result.now ≡ f) flights.now }
+{
+    &flights[flights.len() - 1]
+}
