@@ -1,9 +1,10 @@
 -- The flights of a component from their numbers, its legs, and its last flight.
-use Rattle.std.proofs.Common.{◌≡◌, ℕ, zero, suc, pos, ◌+◌, ◌-◌, ◌≤◌, ◌<◌, List, [], ◌∷◌, ◌++◌, length, map, take, get_or, slice_get, Some, refl, sym, ap, ap₂, subst, ◌∙◌, arith}
+use Rattle.std.proofs.Common.{◌≡◌, ℕ, zero, suc, pos, ◌+◌, ◌-◌, ◌≤◌, ◌<◌, List, [], ◌∷◌, ◌++◌, length, map, take, get_or, slice_get, All, Some, refl, sym, ap, ap₂, subst, ◌∙◌, arith}
+use Rattle.std.proofs.lemmas.List.Elements.{All-cons, All-nil}
 use Rattle.fare_law.specs.declared.flights.Flight.{Flight}
 use Rattle.fare_law.specs.declared.sheets.Leg.{Leg}
 use Rattle.fare_law.specs.Book.{Book}
-use Rattle.fare_law.specs.Lists.{Matched, OnLast}
+use Rattle.fare_law.specs.Lists.{Each, Matched, OnFirst, OnLast}
 use Rattle.fare_law.specs.Offers.{flights_of}
 use Rattle.fare_law.specs.Parts.{Numbers}
 
@@ -65,3 +66,20 @@ pub on_last_to : {X : Type 0} (P Q : X → Type 0) (xs : List X) → OnLast P xs
 on_last_to P Q [] h to = h
 on_last_to P Q (x ∷ []) h to = to x h
 on_last_to P Q (x ∷ y ∷ ys) h to = on_last_to P Q (y ∷ ys) h to
+
+-- flights of a list whose elements are within limits are too
+got_holds : {X : Type 0} (P : X → Type 0) (xs : List X) (n : ℕ) (x : X) → Each P xs → slice_get xs n ≡ Some x → P x
+got_holds P [] n x h e = cc
+got_holds P (y ∷ xs) zero x h e = let same : y ≡ x = cc in subst P same h.0
+got_holds P (y ∷ xs) (suc n) x h e = got_holds P xs n x h.1 e
+
+pub numbered_hold : (P : Flight → Type 0) (b : Book) (ns : List ℕ) (fs : List Flight) → Each P b.timetable.flights → Numbers b ns fs → All P fs
+numbered_hold P b [] [] h k = All-nil P
+numbered_hold P b [] (f ∷ fs) h k = absurd k
+numbered_hold P b (n ∷ ns) [] h k = absurd k
+numbered_hold P b (n ∷ ns) (f ∷ fs) h k = All-cons P f fs (got_holds P b.timetable.flights n f h k.0) (numbered_hold P b ns fs h k.1)
+
+-- what holds of the last flight, beside what holds of the first
+pub on_ends : (P : Flight → Flight → Type 0) (first last : Flight) (fs : List Flight) → OnFirst (λ f. first ≡ f) fs → OnLast (λ f. last ≡ f) fs → P first last → OnFirst (λ f. OnLast (λ z. P f z) fs) fs
+on_ends P first last [] a b h = absurd a
+on_ends P first last (f ∷ fs) a b h = on_last_to (λ z. last ≡ z) (λ z. P f z) (f ∷ fs) b (λ z e. subst (λ y. P f y) e (subst (λ y. P y last) a h))

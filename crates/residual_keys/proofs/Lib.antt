@@ -11,6 +11,8 @@ pub mod Runs
 pub mod NothingLost
 pub mod OneNext
 pub mod OneTicket
+pub mod StepFacts
+pub mod StepTaken
 pub mod RunsBest
 pub mod Ordered
 pub mod LeastOne

@@ -16,7 +16,7 @@ use Rattle.fare_law.specs.declared.moves.Role.TheVariants.{Alone, Opens, GoesOn,
 use Rattle.open_unit.specs.OpenUnits.{gone_on}
 use Rattle.flight_paths.specs.Positions.{Flies, LeadsTo, before_slice}
 use Rattle.fare_law.specs.Flights.{Ascending}
-use Rattle.residual_keys.specs.Residuals.{State, begins, part_with, UnitStep, Moves, Run, no_part, LeadsFrom}
+use Rattle.residual_keys.specs.Residuals.{State, begins, closes, part_with, UnitStep, Moves, Run, no_part, LeadsFrom}
 use Rattle.residual_keys.specs.NothingLost.{SameCompletions}
 use Rattle.ticket_order.specs.Coding.{Coded}
 use Rattle.residual_keys.proofs.Known.{Known}
@@ -56,14 +56,7 @@ last_one P Q R f [] h k = absurd h
 last_one P Q R f (x ∷ []) h k = f x h k
 last_one P Q R f (x ∷ y ∷ ys) h k = last_one P Q R f (y ∷ ys) h k
 
-pub closing : Role → Bool
-closing Alone = false
-closing Opens = false
-closing GoesOn = false
-closing Closes = true
-
-pub direction : (r : Role) (s : ℕ) (us us' : List OpenUnit) (p : Piece) → UnitStep r s us p us' → p.reverse ≡ closing r
-unfolding closing
+pub direction : (r : Role) (s : ℕ) (us us' : List OpenUnit) (p : Piece) → UnitStep r s us p us' → p.reverse ≡ closes r
 direction Alone s us us' p h = h.1.forward
 direction Opens s us us' p h = h.1.forward
 direction GoesOn s us us' p h = h.2.forward
@@ -103,7 +96,7 @@ pub moves_one : (b : Book) (q : Request) (r : State) (m : Move) (fs gs : List Fl
     → Moves b q r m fs p next us → Moves b q r m gs p' next' us' → (fs ≡ gs) × (p ≡ p') × (next ≡ next') × (us ≡ us')
 moves_one b q r m fs gs p p' next next' us us' h k =
     let ef = numbers_one b m.flights fs gs (flies_numbers b q.slices (Some r.at) next m.flights fs h.path.flies) (flies_numbers b q.slices (Some r.at) next' m.flights gs k.path.flies) in
-    let ep = piece_one b q.sale fs p p' (closing m.role) h.stands (subst (λ z. StandsFor b q.sale p'.fare.key z p') (sym ef) k.stands)
+    let ep = piece_one b q.sale fs p p' (closes m.role) h.stands (subst (λ z. StandsFor b q.sale p'.fare.key z p') (sym ef) k.stands)
     (direction m.role m.slot r.units us p h.units) (direction m.role m.slot r.units us' p' k.units) (sym h.carrier ∙ k.carrier) (sym h.basis ∙ k.basis) in (
       ef,
       ep,

@@ -40,6 +40,13 @@ begins Opens = true
 begins GoesOn = false
 begins Closes = false
 
+-- whether a component in this role has a fare that is filed from its end to its beginning
+abbrev pub closes : Role → Bool
+closes Alone = false
+closes Opens = false
+closes GoesOn = false
+closes Closes = true
+
 -- 0, 1, or 2 for two and more
 abbrev pub one_more : Bool → ℕ → ℕ
 one_more true units = cond (units == 0) 1 2

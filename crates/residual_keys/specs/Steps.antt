@@ -1,12 +1,14 @@
 -- What a move leaves, and the moves of a state as a list.
-use Rattle.std.specs.Prelude.{◌≡◌, ◌↔◌, ℕ, List, [], Option, Some, None, IfNone}
+use Rattle.std.specs.Prelude.{◌≡◌, ◌↔◌, ℕ, List, [], Option, Some, None, IfNone, MatchBool}
+use Rattle.fare_law.specs.declared.fares.FareKey.{FareKey}
 use Rattle.fare_law.specs.declared.flights.Flight.{Flight}
 use Rattle.fare_law.specs.declared.moves.Move.{Move}
 use Rattle.fare_law.specs.declared.moves.Role.{Role}
 use Rattle.fare_law.specs.declared.requests.Request.{Request}
 use Rattle.fare_law.specs.declared.tickets.Piece.{Piece}
-use Rattle.fare_law.specs.Book.{Book}
-use Rattle.fare_law.specs.Lists.{EachPair, IsIn}
+use Rattle.fare_law.specs.declared.sheets.SheetRow.{SheetRow}
+use Rattle.fare_law.specs.Book.{Book, live_fare, live_rule}
+use Rattle.fare_law.specs.Lists.{EachPair, IsIn, OnFirst, OnLast}
 use Rattle.fare_law.specs.Moves.{move_code}
 use Rattle.fare_law.specs.Order.{Less}
 use Rattle.fare_law.specs.Parts.{price_of}
@@ -16,7 +18,19 @@ use Rattle.residual_keys.specs.declared.parts.TicketPart.{TicketPart}
 use Rattle.residual_keys.specs.declared.residual.Chosen.{Chosen}
 use Rattle.residual_keys.specs.declared.residual.Next.{Next}
 use Rattle.residual_keys.specs.declared.residual.Next.TheVariants.{At, Done}
-use Rattle.residual_keys.specs.Residuals.{State, Moves, PartAllows, UnitStep, begins, part_with}
+use Rattle.residual_keys.specs.Residuals.{State, Moves, PartAllows, UnitStep, begins, closes, part_with}
+
+-- The key of the fare that a move names on these flights: filed from their beginning to their end, or for the last of a unit from their end to their beginning.
+pub record KeyOn (m : Move) (fs : List Flight) (key : FareKey) : Type 0 where
+  pub carrier : key.carrier ≡ m.carrier
+  pub basis : key.basis ≡ m.basis
+  pub ends : OnFirst (λ f. OnLast (λ z. MatchBool (closes m.role) ((key.from ≡ z.to) × (key.to ≡ f.from)) ((key.from ≡ f.from) × (key.to ≡ z.to))) fs) fs
+
+-- The row is the live fare of the key that a move names on these flights, with its live rule.
+pub record IsLiveOn (b : Book) (m : Move) (fs : List Flight) (row : SheetRow) : Type 0 where
+  pub key : KeyOn m fs row.fare.key
+  pub fare : live_fare b row.fare.key ≡ Some row.fare
+  pub rule : live_rule b row.fare.key.carrier row.fare.rule ≡ Some row.rule
 
 -- where a search stands after a component that leads to a position, with these units open; none is the end of the journey
 abbrev pub left_at : Option Position → List OpenUnit → TicketPart → Next

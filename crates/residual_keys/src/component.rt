@@ -1,5 +1,11 @@
 //! One component of a search: its flights, its legs, and what a fare over them is to a unit.
-ghost use Rattle.std.specs.Prelude.{◌≡◌, ◌≤◌, List, length};
+ghost use Rattle.std.specs.Prelude.{◌≡◌, ◌≤◌, All, List, length};
+ghost use Rattle.fare_law.specs.Days.{IsCalendarDay};
+ghost use Rattle.fare_law.specs.Limits.{IsFlight};
+ghost use Rattle.fare_law.specs.RuleLimits.{IsRule};
+ghost use Rattle.open_unit.specs.Ranges.{PieceInRanges};
+ghost use Rattle.residual_keys.specs.Residuals.{closes};
+ghost use Rattle.residual_keys.specs.Steps.{KeyOn};
 ghost use Rattle.fare_law.specs.declared.flights.Flight.{Flight as DatedFlight};
 ghost use Rattle.fare_law.specs.Lists.{Matched, OnFirst, OnLast};
 ghost use Rattle.fare_law.specs.Offers.{flights_of};
@@ -8,7 +14,8 @@ ghost use Rattle.flight_paths.specs.Plans.{HasPlan};
 ghost use Rattle.residual_keys.specs.AskedKeys.{IsLeg};
 
 use fare_book::{Book, copied_rule};
-use fare_law::{ArrayVec, Flight, Leg, Piece, SheetRow};
+use fare_law::{ArrayVec, FareKey, Flight, Leg, Move, Piece, Place, Role, SheetRow};
+use rule_unit::rules_stay_in_range;
 use schedule_book::Schedule;
 
 /// The places and the flights of a book.
@@ -22,7 +29,8 @@ pub fn schedule_of(book: &Book) -> &Schedule
 pub fn flights_of(book: &Book, numbers: &[u32]) -> ArrayVec<Flight, 4>
     requires few { length numbers.now ≤ 4 }
     requires known { (fs : List DatedFlight) × Numbers book.now numbers.now fs }
-    ensures { (fs : List DatedFlight) → Numbers book.now numbers.now fs → result ≡ fs }
+    ensures flights { (fs : List DatedFlight) → Numbers book.now numbers.now fs → result ≡ fs }
+    ensures limits { All IsFlight result }
 {
     let all = schedule_of(book).flights();
     let mut flights = ArrayVec::new();
@@ -51,7 +59,11 @@ pub fn legs_of(book: &Book, party: u8, flights: &[Flight]) -> ArrayVec<Leg, 4>
 
 /// What a fare with its rule over these flights is to a unit and to a ticket.
 pub fn piece_over(flights: &[Flight], row: &SheetRow, reverse: bool, sale: i32) -> Piece
-    requires { 1 ≤ length flights.now }
+    requires some { 1 ≤ length flights.now }
+    requires flights { All IsFlight flights.now }
+    requires rule { IsRule row.now.rule }
+    requires sale { IsCalendarDay sale }
+    ensures in_ranges { PieceInRanges result }
     ensures begins { OnFirst (λ f. (result.begin ≡ f.from) × (result.first_day ≡ f.day)) flights.now }
     ensures ends { OnLast (λ f. (result.end ≡ f.to) × (result.last_day ≡ f.day)) flights.now }
     ensures fare { result.fare ≡ row.now.fare }
@@ -59,7 +71,8 @@ pub fn piece_over(flights: &[Flight], row: &SheetRow, reverse: bool, sale: i32) 
     ensures reverse { result.reverse ≡ reverse }
     ensures sale { result.sale ≡ sale }
 {
-    let first = &flights[0];
+    rules_stay_in_range();
+    let first = first_of(flights);
     let last = last_of(flights);
     Piece {
         begin: first.from,
@@ -73,10 +86,53 @@ pub fn piece_over(flights: &[Flight], row: &SheetRow, reverse: bool, sale: i32) 
     }
 }
 
+/// The key of the fare that a move names on its flights.
+pub fn key_on(flights: &[Flight], mv: &Move) -> FareKey
+    requires { 1 ≤ length flights.now }
+    ensures { KeyOn mv.now flights.now result }
+{
+    let begin = first_of(flights).from;
+    let end = last_of(flights).to;
+    if closes(mv.role) {
+        key_between(mv, end, begin)
+    } else {
+        key_between(mv, begin, end)
+    }
+}
+
+/// The key of the fare that a move names, filed from the one place to the other.
+fn key_between(mv: &Move, from: Place, to: Place) -> FareKey
+    ensures { result ≡ record { carrier = mv.now.carrier; from = from; to = to; basis = mv.now.basis } }
+{
+    FareKey {
+        carrier: mv.carrier,
+        from,
+        to,
+        basis: mv.basis.copied(),
+    }
+}
+
+/// Whether a component in this role has a fare that is filed from its end to its beginning.
+pub fn closes(role: Role) -> bool
+    ensures { result ≡ closes role }
+{
+    matches!(role, Role::Closes)
+}
+
+/// The first of some flights.
+fn first_of(flights: &[Flight]) -> &Flight
+    requires { 1 ≤ length flights.now }
+    ensures first { OnFirst (λ f. result.now ≡ f) flights.now }
+    ensures limits { All IsFlight flights.now → IsFlight result.now }
+{
+    &flights[0]
+}
+
 /// The last of some flights.
 fn last_of(flights: &[Flight]) -> &Flight
     requires { 1 ≤ length flights.now }
-    ensures { OnLast (λ f. result.now ≡ f) flights.now }
+    ensures last { OnLast (λ f. result.now ≡ f) flights.now }
+    ensures limits { All IsFlight flights.now → IsFlight result.now }
 {
     &flights[flights.len() - 1]
 }

@@ -12,6 +12,7 @@ mod open_units;
 mod parts;
 mod reading;
 mod residual;
+mod stepping;
 #[cfg(test)]
 mod tests;
 mod text;
@@ -21,5 +22,6 @@ pub use beginning::root;
 pub use laws::{best_runs, nothing_lost, one_best, one_next, residual_order, runs_are_short};
 pub use parts::TicketPart;
 pub use reading::{one_residual_text, read_residual};
+pub use stepping::step;
 pub use residual::{Chosen, Next, Residual};
 pub use text::{push_residual, residual_text};

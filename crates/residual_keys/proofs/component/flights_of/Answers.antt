@@ -1,6 +1,8 @@
-use Rattle.std.proofs.Common.{◌≡◌, ℕ, suc, ◌+◌, ◌<◌, ◌++◌, ◌∷◌, [], take, get_or, length, pos, sym, ap, subst, ◌∙◌, arith}
+use Rattle.std.proofs.Common.{◌≡◌, ℕ, suc, ◌+◌, ◌<◌, ◌++◌, ◌∷◌, [], take, get_or, length, All, pos, sym, ap, subst, ◌∙◌, arith}
 use Rattle.fare_law.specs.declared.flights.Flight.{Flight}
-use Rattle.residual_keys.proofs.Components.{flights_all, flights_next, no_flight, number_within}
+use Rattle.fare_law.specs.Limits.{IsFlight}
+use Rattle.fare_law.specs.Lists.{Each}
+use Rattle.residual_keys.proofs.Components.{flights_all, flights_next, no_flight, number_within, numbered_hold}
 use Rattle.residual_keys.proofs.component.flights_of.Goals as goal
 
 pub bounds-all-number : goal.bounds-all-number
@@ -19,5 +21,13 @@ loop-number-preserved c = λ fs h.
     ∙ ap (λ xs. take i fs ++ get_or xs n no_flight ∷ []) (c.flights-all.ensures.flights ∙ sym c.schedule_of.ensures.flights)
     ∙ sym (flights_next c.args.book.now c.args.numbers.now fs i no_flight h c.loop-number-test.true) ∙ ap (λ k. take k fs) (one_more i)
 
-pub returns : goal.returns
-returns c = λ fs h. c.loop-number.invariant fs h ∙ flights_all c.args.book.now c.args.numbers.now fs c.loop-number.number-index h c.loop-number-test.false
+pub returns-clause-limits : goal.returns-clause-limits
+returns-clause-limits c =
+    let b = c.args.book.now in
+    let ns = c.args.numbers.now in
+    let fs = c.requires.known.0 in
+    let is : c.loop-number.flights ≡ fs = c.loop-number.invariant fs c.requires.known.1 ∙ flights_all b ns fs c.loop-number.number-index c.requires.known.1 c.loop-number-test.false in
+    subst (All IsFlight) (sym is) (numbered_hold IsFlight b ns fs (subst (Each IsFlight) (c.flights-all.ensures.flights ∙ sym c.schedule_of.ensures.flights) (subst (Each IsFlight) (sym c.flights-all.ensures.flights) c.flights-all.ensures.limits)) c.requires.known.1)
+
+pub returns-clause-flights : goal.returns-clause-flights
+returns-clause-flights c = λ fs h. c.loop-number.invariant fs h ∙ flights_all c.args.book.now c.args.numbers.now fs c.loop-number.number-index h c.loop-number-test.false

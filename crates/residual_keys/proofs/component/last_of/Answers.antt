@@ -1,5 +1,5 @@
 use Rattle.residual_keys.proofs.Components.{last_stands}
 use Rattle.residual_keys.proofs.component.last_of.Goals as goal
 
-pub returns : goal.returns
-returns c = last_stands c.args.flights.now _ c.requires
+pub returns-clause-last : goal.returns-clause-last
+returns-clause-last c = last_stands c.args.flights.now _ c.requires

@@ -3,11 +3,8 @@ use Rattle.residual_keys.specs.declared.residual.Next.{Next}
 use Rattle.residual_keys.specs.Residuals.{UnitStep}
 use Rattle.residual_keys.specs.Steps.{Leaves}
 use Rattle.residual_keys.proofs.OneNext.{units_one}
+use Rattle.residual_keys.proofs.StepTaken.{if_none}
 use Rattle.residual_keys.proofs.leaving.next_after.Goals as goal
-
-if_none : {X : Type 0} (P Q : Type 0) (o : Option X) → IfNone o P → (P → Q) → IfNone o Q
-if_none P Q (Some x) h k = tt
-if_none P Q None h k = k h
 
 pub returns-in-Some-clause-none : goal.returns-in-Some-clause-none
 returns-in-Some-clause-none c =
