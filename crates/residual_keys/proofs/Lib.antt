@@ -11,8 +11,11 @@ pub mod Runs
 pub mod NothingLost
 pub mod OneNext
 pub mod OneTicket
+pub mod Adding
+pub mod Choosing
 pub mod StepFacts
 pub mod StepTaken
+pub mod Offering
 pub mod RunsBest
 pub mod Ordered
 pub mod LeastOne

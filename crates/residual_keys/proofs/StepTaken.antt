@@ -1,5 +1,5 @@
 -- A move over given flights is the step that the calls take.
-use Rattle.std.proofs.Common.{◌≡◌, ℕ, zero, suc, ◌≤◌, ◌<◌, Bool, true, false, List, [], ◌∷◌, length, slice_get, Option, Some, None, IfNone, IfSome, sym, refl, ap, ◌∙◌, subst, arith}
+use Rattle.std.proofs.Common.{◌≡◌, ℕ, zero, suc, ◌≤◌, ◌<◌, Bool, true, false, List, [], ◌∷◌, length, slice_get, Option, Some, None, IfNone, IfSome, sym, refl, ap, ap₂, ◌∙◌, subst, arith}
 use Rattle.fare_law.specs.declared.fares.FareKey.{FareKey}
 use Rattle.fare_law.specs.declared.flights.Flight.{Flight}
 use Rattle.fare_law.specs.declared.moves.Move.{Move}
@@ -27,7 +27,7 @@ pub some_none : {X : Type 0} (x : X) → Some x ≡ None → ⊥
 some_none x e = cc
 
 -- some numbers have some flights
-numbered_some : (b : Book) (ns : List ℕ) (fs : List Flight) → (ns ≡ [] → ⊥) → Numbers b ns fs → 1 ≤ length fs
+pub numbered_some : (b : Book) (ns : List ℕ) (fs : List Flight) → (ns ≡ [] → ⊥) → Numbers b ns fs → 1 ≤ length fs
 numbered_some b [] fs some h = absurd (some refl)
 numbered_some b (n ∷ ns) [] some h = absurd h
 numbered_some b (n ∷ ns) (f ∷ fs) some h = omega arith
@@ -70,28 +70,28 @@ module _ (b : Book) (q : Request) (r : State) (m : Move) (fs : List Flight) (aft
 
   module _ (row : SheetRow) (p : Piece) (live : IsLiveOn b m fs row) (over : IsOver q m fs row p) where
     -- a lawful component that leaves something is a move
+    pub taken_at : ComponentLawful b q.party fs p → (price : ℕ) → price ≡ price_of fs p → (next : Next) → Leaves r after p m.role m.slot next → IsChosen b q r (record { mv = m; price = price; next = next })
+    taken_at lawful price costs next l = record {
+      flights = fs;
+      piece = p;
+      after = after;
+      units = l.units;
+      moves = record {
+        path = path;
+        stands = row_stands b q m fs row p live over;
+        carrier = sym (ap (λ f. f.key.carrier) over.fare ∙ live.key.carrier);
+        basis = sym (ap (λ f. f.key.basis) over.fare ∙ live.key.basis);
+        lawful = lawful;
+        units = l.step;
+        part = l.part;
+        done = l.done;
+      };
+      costs = costs;
+      left = l.left;
+    }
+
     pub taken : ComponentLawful b q.party fs p → (next : Next) → Leaves r after p m.role m.slot next → StepsTo b q r m next
-    taken lawful next l = (
-      price_of fs p,
-      record {
-        flights = fs;
-        piece = p;
-        after = after;
-        units = l.units;
-        moves = record {
-          path = path;
-          stands = row_stands b q m fs row p live over;
-          carrier = sym (ap (λ f. f.key.carrier) over.fare ∙ live.key.carrier);
-          basis = sym (ap (λ f. f.key.basis) over.fare ∙ live.key.basis);
-          lawful = lawful;
-          units = l.step;
-          part = l.part;
-          done = l.done;
-        };
-        costs = refl;
-        left = l.left;
-      },
-    )
+    taken lawful next l = (price_of fs p, taken_at lawful (price_of fs p) refl next l)
 
     piece_same : (gs : List Flight) (o : Piece) (next : Option Position) (us : List OpenUnit) → Moves b q r m gs o next us → o ≡ p
     piece_same gs o next us h =
@@ -113,6 +113,13 @@ module _ (b : Book) (q : Request) (r : State) (m : Move) (fs : List Flight) (aft
             left = subst (λ z. next ≡ left_at z c.units (part_with r.part (begins m.role) p)) s.1 (subst (λ z. next ≡ left_at c.after c.units (part_with r.part (begins m.role) z)) e c.left);
           },
         )
+
+    -- and it costs what the component costs
+    pub cost_is : (price : ℕ) (next : Next) → IsChosen b q r (record { mv = m; price = price; next = next }) → price ≡ price_of fs p
+    cost_is price next c =
+        let s = flights_same c.flights c.piece c.after c.units c.moves in
+        let e = piece_same c.flights c.piece c.after c.units c.moves in
+        c.costs ∙ ap₂ price_of s.0 e
 
 -- a live fare of the key that a move names
 pub live_on : (b : Book) (m : Move) (fs : List Flight) (key : FareKey) (row : SheetRow) → KeyOn m fs key → live_fare b key ≡ Some row.fare → live_rule b key.carrier row.fare.rule ≡ Some row.rule → key ≡ row.fare.key → IsLiveOn b m fs row

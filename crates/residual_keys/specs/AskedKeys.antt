@@ -1,5 +1,5 @@
 -- The keys by which a search asks for offers: for each path of a residual, its legs with a sheet of the book.
-use Rattle.std.specs.Prelude.{◌≡◌, ◌≢◌, ◌⊎◌, ◌↔◌, ℕ, ◌≤◌, ◌<◌, List, [], Option, IsBitSet}
+use Rattle.std.specs.Prelude.{◌≡◌, ◌≢◌, ◌⊎◌, ◌↔◌, ℕ, ◌≤◌, ◌<◌, ◌^◌, List, [], Option, IsBitSet}
 use Rattle.fare_law.specs.declared.flights.Flight.{Flight}
 use Rattle.fare_law.specs.declared.market.OfferKey.{OfferKey}
 use Rattle.fare_law.specs.declared.names.Place.{Place}
@@ -16,6 +16,7 @@ use Rattle.residual_keys.specs.Searches.{Reached}
 -- The leg is this flight, with the classes that have seats for the party.
 pub record IsLeg (b : Book) (party : ℕ) (f : Flight) (leg : Leg) : Type 0 where
   pub flight : leg.flight ≡ f
+  pub fits : leg.classes < 2 ^ 32
   pub classes : (class : ℕ) → class < 32 → IsBitSet leg.classes class ↔ (party ≤ seats b f class)
 
 -- the key has these flights as legs, and the book's sheet from the one place to the other

@@ -6,6 +6,7 @@ pub mod ResidualOrder
 pub mod Short
 pub mod Kept
 pub mod Steps
+pub mod Gathered
 pub mod AskedKeys
 pub mod ResidualText
 pub mod ResidualReading

@@ -4,7 +4,9 @@
 #![tactic(auto)]
 
 mod beginning;
+mod choices;
 mod component;
+mod gathering;
 mod kept;
 mod laws;
 mod leaving;

@@ -12,7 +12,7 @@ mod tickets;
 
 pub use keys::cmp_key;
 pub use laws::{codes_tell, order_laws};
-pub use numbers::code;
+pub use numbers::{code, move_code};
 pub use roles::moves_of;
 pub use tickets::ticket_of;
 

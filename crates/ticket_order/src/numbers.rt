@@ -3,7 +3,7 @@ ghost use Rattle.std.specs.Prelude.{◌≡◌, ◌+◌, ◌≤◌, ◌∷◌, �
 ghost use Rattle.fare_law.specs.Moves.{move_code, role_code, run_code};
 ghost use Rattle.fare_law.specs.Order.{basis_number, carrier_number, character_value};
 
-use fare_law::{Basis, Carrier, Code, Move, Role};
+use fare_law::{ArrayVec, Basis, Carrier, Code, Move, Role};
 
 /// The code of at most 18 moves: of each move the count of its flights, their numbers, the
 /// carrier's number, the basis's number, the role from 0 to 3, and the slot.
@@ -24,24 +24,36 @@ fn push_move(code: &mut Code, m: &Move)
     ensures code { code.new ≡ code.old ++ move_code m.now }
     ensures fits { length code.new ≤ length code.old + 9 }
 {
-    push_flights(code, m.flights.as_slice());
-    code.push(carrier_number(m.carrier));
-    code.push(basis_number(&m.basis));
-    code.push(role_number(m.role));
-    code.push(u64::from(m.slot));
+    let numbers = move_code(m);
+    for number in numbers.as_slice() {
+        code.push(*number);
+    }
 }
 
-/// Adds the count of flights and their numbers.
-fn push_flights(code: &mut Code, flights: &[u32])
-    requires few { length flights.now ≤ 4 }
-    requires room { length code.old ≤ 153 }
-    ensures code { code.new ≡ code.old ++ (length flights.now ∷ flights.now) }
-    ensures fits { length code.new ≡ length code.old + length flights.now + 1 }
+/// The code of one move: the count of its flights, their numbers, the carrier's number, the basis's
+/// number, the role from 0 to 3, and the slot.
+pub fn move_code(m: &Move) -> ArrayVec<u64, 9>
+    ensures { result ≡ move_code m.now }
 {
-    code.push(flights.len() as u64);
+    let mut numbers = flight_numbers(m.flights.as_slice());
+    numbers.push(carrier_number(m.carrier));
+    numbers.push(basis_number(&m.basis));
+    numbers.push(role_number(m.role));
+    numbers.push(u64::from(m.slot));
+    numbers
+}
+
+/// The count of at most four flights and their numbers.
+fn flight_numbers(flights: &[u32]) -> ArrayVec<u64, 9>
+    requires { length flights.now ≤ 4 }
+    ensures { result ≡ length flights.now ∷ flights.now }
+{
+    let mut numbers = ArrayVec::new();
+    numbers.push(flights.len() as u64);
     for flight in flights {
-        code.push(u64::from(*flight));
+        numbers.push(u64::from(*flight));
     }
+    numbers
 }
 
 /// The number of a carrier: 37 times its first character's value and the second's.
