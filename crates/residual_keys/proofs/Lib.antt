@@ -16,6 +16,8 @@ pub mod Choosing
 pub mod StepFacts
 pub mod StepTaken
 pub mod Offering
+pub mod Sheeted
+pub mod Offered
 pub mod RunsBest
 pub mod Ordered
 pub mod LeastOne

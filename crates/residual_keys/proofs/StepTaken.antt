@@ -47,7 +47,7 @@ module _ (b : Book) (q : Request) (r : State) (m : Move) (fs : List Flight) (aft
   path_few = path.shape.few
 
   -- the flights of a move are those of its numbers, and lead where these do
-  flights_same : (gs : List Flight) (p : Piece) (next : Option Position) (us : List OpenUnit) → Moves b q r m gs p next us → (gs ≡ fs) × (next ≡ after)
+  pub flights_same : (gs : List Flight) (p : Piece) (next : Option Position) (us : List OpenUnit) → Moves b q r m gs p next us → (gs ≡ fs) × (next ≡ after)
   flights_same gs p next us h =
       let e = numbers_one b m.flights gs fs (flies_numbers b q.slices (Some r.at) next m.flights gs h.path.flies) path_numbers in
       (e, flies_one b q.slices (Some r.at) m.flights fs next after (subst (λ z. Flies b q.slices (Some r.at) m.flights z next) e h.path.flies) path.flies)

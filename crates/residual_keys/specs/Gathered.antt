@@ -1,5 +1,7 @@
 -- What calls add to a list of moves: those of one component, of one sheet, of one path.
-use Rattle.std.specs.Prelude.{◌≡◌, ◌↔◌, ℕ, Bool, List, ◌++◌, map, MatchBool, Option, Some}
+use Rattle.std.specs.Prelude.{◌≡◌, ◌↔◌, ℕ, Bool, List, ◌++◌, map, slice_get, MatchBool, Option, Some}
+use Rattle.fare_component.specs.declared.offer.Offer.{Offer}
+use Rattle.fare_component.specs.Offers.{StandsBefore}
 use Rattle.fare_law.specs.declared.fares.FareKey.{FareKey}
 use Rattle.fare_law.specs.declared.flights.Flight.{Flight}
 use Rattle.fare_law.specs.declared.moves.Role.{Role}
@@ -9,7 +11,7 @@ use Rattle.fare_law.specs.declared.sheets.Leg.{Leg}
 use Rattle.fare_law.specs.declared.sheets.SheetRow.{SheetRow}
 use Rattle.fare_law.specs.declared.tickets.Piece.{Piece}
 use Rattle.fare_law.specs.Book.{Book, live_fare, live_rule}
-use Rattle.fare_law.specs.Lists.{AllDifferent, IsIn, Matched, OnFirst, OnLast}
+use Rattle.fare_law.specs.Lists.{AllDifferent, EachPair, IsIn, Matched, OnFirst, OnLast}
 use Rattle.fare_law.specs.Offers.{IsOffered, flights_of, row_price}
 use Rattle.flight_paths.specs.declared.positions.Path.{Path}
 use Rattle.flight_paths.specs.declared.positions.Position.{Position}
@@ -68,6 +70,18 @@ pub record IsOfferedOver (b : Book) (reverse : Bool) (fs : List Flight) (legs : 
   pub filed : FiledOver reverse fs row.fare.key
   pub offered : IsOffered legs row
   pub costs : price ≡ row_price fs row
+
+-- the row at an offer's place is offered on these legs at its price
+pub record IsOfferOn (legs : List Leg) (rows : List SheetRow) (o : Offer) : Type 0 where
+  pub row : SheetRow
+  pub stands : slice_get rows o.place ≡ Some row
+  pub offered : IsOffered legs row
+  pub costs : o.price ≡ row_price (flights_of legs) row
+
+-- The offers of rows on these legs, ascending by place.
+pub record OffersOn (legs : List Leg) (rows : List SheetRow) (offers : List Offer) : Type 0 where
+  pub ascending : EachPair StandsBefore offers
+  pub exact : (o : Offer) → IsIn o offers ↔ IsOfferOn legs rows o
 
 -- a path of the state, with its flights
 abbrev pub IsPathOf : Book → Request → State → Path → List Flight → Type 0
