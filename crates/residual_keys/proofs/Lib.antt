@@ -18,6 +18,7 @@ pub mod StepTaken
 pub mod Offering
 pub mod Sheeted
 pub mod Offered
+pub mod Markets
 pub mod RunsBest
 pub mod Ordered
 pub mod LeastOne

@@ -120,7 +120,7 @@ pub fn closes(role: Role) -> bool
 }
 
 /// The first of some flights.
-fn first_of(flights: &[Flight]) -> &Flight
+pub fn first_of(flights: &[Flight]) -> &Flight
     requires { 1 ≤ length flights.now }
     ensures first { OnFirst (λ f. result.now ≡ f) flights.now }
     ensures limits { All IsFlight flights.now → IsFlight result.now }
@@ -129,7 +129,7 @@ fn first_of(flights: &[Flight]) -> &Flight
 }
 
 /// The last of some flights.
-fn last_of(flights: &[Flight]) -> &Flight
+pub fn last_of(flights: &[Flight]) -> &Flight
     requires { 1 ≤ length flights.now }
     ensures last { OnLast (λ f. result.now ≡ f) flights.now }
     ensures limits { All IsFlight flights.now → IsFlight result.now }

@@ -12,7 +12,8 @@ ghost use Rattle.residual_keys.specs.AskedKeys.{IsKey, KeyOfFlights};
 ghost use Rattle.residual_keys.specs.Gathered.{Adds, AreLegs, IsChosenFiled, IsChosenOn, IsChosenWith, IsOfferedOver, IsPathOf, MarketOver, OffersOn};
 
 use crate::choices::add_choices;
-use crate::component::piece_over;
+use crate::component::{first_of, flights_of, last_of, legs_of, piece_over};
+use crate::open_units::OpenUnits;
 use crate::{Chosen, Residual};
 use fare_book::Book;
 use fare_component::{Offer, OfferSource};
@@ -177,4 +178,89 @@ fn add_market<O: OfferSource>(
         }
         None => Ok(()),
     }
+}
+
+/// Adds the moves on a path, and has the source settle what the keys of its flights ask for.
+pub fn add_path<O: OfferSource>(
+    alloc: Global,
+    found: &mut List<Chosen>,
+    book: &Book,
+    request: &Request,
+    residual: &Residual,
+    path: &Path,
+    offers: &mut O,
+) -> Result<(), Mem>
+    requires request { IsRequest request.now }
+    requires path { (fs : List DatedFlight) × IsPathOf book.now request.now residual.now path.now fs }
+    ensures moves { OnOk result (Adds (IsChosenOn book.now request.now residual.now path.now.flights) found.old found.new) }
+    ensures base { O.base offers.new ≡ O.base offers.old }
+    ensures stays { (a : Asked) → O.settled offers.old a → O.settled offers.new a }
+    ensures asked { OnOk result ((fs : List DatedFlight) → IsPathOf book.now request.now residual.now path.now fs → (key : Key) → KeyOfFlights book.now request.now residual.now fs key → O.settled offers.new (asked key)) }
+{
+    let flights = flights_of(book, path.flights.as_slice());
+    add_both(
+        alloc,
+        found,
+        book,
+        request,
+        residual,
+        path,
+        flights.as_slice(),
+        offers,
+    )?;
+    Ok(())
+}
+
+/// The same, where these are the flights of the path.
+fn add_both<O: OfferSource>(
+    alloc: Global,
+    found: &mut List<Chosen>,
+    book: &Book,
+    request: &Request,
+    residual: &Residual,
+    path: &Path,
+    flights: &[Flight],
+    offers: &mut O,
+) -> Result<(), Mem>
+    requires request { IsRequest request.now }
+    requires path { IsPathOf book.now request.now residual.now path.now flights.now }
+    requires flights { All IsFlight flights.now }
+    ensures moves { OnOk result (Adds (IsChosenOn book.now request.now residual.now path.now.flights) found.old found.new) }
+    ensures base { O.base offers.new ≡ O.base offers.old }
+    ensures stays { (a : Asked) → O.settled offers.old a → O.settled offers.new a }
+    ensures asked { OnOk result ((key : Key) → KeyOfFlights book.now request.now residual.now flights.now key → O.settled offers.new (asked key)) }
+{
+    let legs = legs_of(book, request.party, flights);
+    let begin = first_of(flights).from;
+    let end = last_of(flights).to;
+    add_market(
+        alloc,
+        found,
+        book,
+        request,
+        residual,
+        path,
+        flights,
+        &legs,
+        (begin, end),
+        false,
+        offers,
+    )?;
+    if OpenUnits::of(residual).is_empty() {
+        return Ok(());
+    }
+    add_market(
+        alloc,
+        found,
+        book,
+        request,
+        residual,
+        path,
+        flights,
+        &legs,
+        (end, begin),
+        true,
+        offers,
+    )?;
+    Ok(())
 }

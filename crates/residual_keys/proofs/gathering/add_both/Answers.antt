@@ -1,0 +1,1 @@
+use Rattle.residual_keys.proofs.gathering.add_both.Goals as goal
