@@ -12,13 +12,16 @@ pub mod NothingLost
 pub mod OneNext
 pub mod OneTicket
 pub mod Adding
-pub mod Choosing
+pub mod RolesHad
 pub mod StepFacts
 pub mod StepTaken
 pub mod Offering
 pub mod Sheeted
 pub mod Offered
 pub mod Markets
+pub mod Pathed
+pub mod PathByPath
+pub mod InOrder
 pub mod RunsBest
 pub mod Ordered
 pub mod LeastOne

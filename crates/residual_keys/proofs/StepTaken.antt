@@ -125,19 +125,22 @@ module _ (b : Book) (q : Request) (r : State) (m : Move) (fs : List Flight) (aft
 pub live_on : (b : Book) (m : Move) (fs : List Flight) (key : FareKey) (row : SheetRow) → KeyOn m fs key → live_fare b key ≡ Some row.fare → live_rule b key.carrier row.fare.rule ≡ Some row.rule → key ≡ row.fare.key → IsLiveOn b m fs row
 live_on b m fs key row on fare rule e = record { key = subst (KeyOn m fs) e on; fare = subst (λ k. live_fare b k ≡ Some row.fare) e fare; rule = subst (λ k. live_rule b k.carrier row.fare.rule ≡ Some row.rule) e rule }
 
--- a state that has a move is in a slice of the request
-pub slice_known : (b : Book) (q : Request) (r : State) (m : Move) (next : Next) → StepsTo b q r m next → r.at.slice < length q.slices
-slice_known b q r m next (price, c) = go m.flights c.flights c.moves.path.some c.moves.path.flies
+-- a state that has a path or a move is in a slice of the request
+pub path_known : (b : Book) (q : Request) (r : State) (ns : List ℕ) (fs : List Flight) (next : Option Position) → IsPath b q.slices r.at ns fs next → r.at.slice < length q.slices
+path_known b q r ns fs next h = go ns fs h.some h.flies
   where
     got_within : {X : Type 0} (xs : List X) (n : ℕ) (x : X) → slice_get xs n ≡ Some x → n < length xs
     got_within [] n x h = cc
     got_within (y ∷ xs) zero x h = omega arith
     got_within (y ∷ xs) (suc n) x h = omega (arith, got_within xs n x h)
 
-    go : (ns : List ℕ) (fs : List Flight) → (ns ≡ [] → ⊥) → Flies b q.slices (Some r.at) ns fs c.after → r.at.slice < length q.slices
+    go : (ns : List ℕ) (fs : List Flight) → (ns ≡ [] → ⊥) → Flies b q.slices (Some r.at) ns fs next → r.at.slice < length q.slices
     go [] fs some h = absurd (some refl)
     go (n ∷ ns) [] some h = absurd h
     go (n ∷ ns) (f ∷ fs) some h = got_within q.slices r.at.slice h.0 h.1
+
+pub slice_known : (b : Book) (q : Request) (r : State) (m : Move) (next : Next) → StepsTo b q r m next → r.at.slice < length q.slices
+slice_known b q r m next (price, c) = path_known b q r m.flights c.flights c.after c.moves.path
 
 -- a test that failed
 pub not_so : {A : Type 0} (t : Bool) → t ≡ false → (A → t ≡ true) → A → ⊥

@@ -5,6 +5,7 @@
 
 mod beginning;
 mod choices;
+mod choosing;
 mod component;
 mod gathering;
 mod kept;
@@ -21,6 +22,7 @@ mod text;
 mod words;
 
 pub use beginning::root;
+pub use choosing::moves;
 pub use laws::{best_runs, nothing_lost, one_best, one_next, residual_order, runs_are_short};
 pub use parts::TicketPart;
 pub use reading::{one_residual_text, read_residual};

@@ -12,7 +12,7 @@ use Rattle.ticket_order.proofs.Words.{before_never, before_trans}
 abbrev pub Tells : Ordering → ℕ → List ℕ → ℕ → List ℕ → Type 0
 Tells o p v q w = MatchOrdering o (Before p v q w) ((p ≡ q) × (v ≡ w)) (Before q w p v)
 
-words_told : (v w : List ℕ) → MatchOrdering (slice_cmp nat_cmp v w) (Less v w) (v ≡ w) (Less w v)
+pub words_told : (v w : List ℕ) → MatchOrdering (slice_cmp nat_cmp v w) (Less v w) (v ≡ w) (Less w v)
 words_told [] [] = refl
 words_told [] (y ∷ w) = tt
 words_told (x ∷ v) [] = tt

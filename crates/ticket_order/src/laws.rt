@@ -1,4 +1,6 @@
 //! The laws of codes and of their order.
+ghost use Rattle.std.specs.Cmp.Lexicographic.{slice_cmp};
+ghost use Rattle.std.specs.Ordering.{MatchOrdering, nat_cmp};
 ghost use Rattle.std.specs.Prelude.{◌≡◌, ◌⊎◌, ◌↔◌, ℕ, ◌+◌, ◌≤◌, List, ◌++◌};
 ghost use Rattle.fare_law.specs.declared.moves.Move.{Move};
 ghost use Rattle.fare_law.specs.Lists.{Each, IsPrefix};
@@ -17,13 +19,15 @@ pub fn codes_tell()
     ensures joined { (xs ys : List Move) → run_code (xs ++ ys) ≡ run_code xs ++ run_code ys }
 {}
 
-/// The order of words, and the order by price and word, are strict and total. The order of joined
+/// The order of words, and the order by price and word, are strict and total, and the comparison of lists
+/// of numbers tells the order of words. The order of joined
 /// words is that of the second parts where the first parts are one, and that of the first parts
 /// where neither of these is the front of the other.
 pub fn order_laws()
     ensures less_never { (w : List ℕ) → Less w w → ⊥ }
     ensures less_trans { (u v w : List ℕ) → Less u v → Less v w → Less u w }
     ensures less_total { (v w : List ℕ) → Less v w ⊎ ((v ≡ w) ⊎ Less w v) }
+    ensures less_told { (v w : List ℕ) → MatchOrdering (slice_cmp nat_cmp v w) (Less v w) (v ≡ w) (Less w v) }
     ensures less_cut { (w v z : List ℕ) → Less w (v ++ z) → Less w v ⊎ IsPrefix v w }
     ensures less_more { (w v z : List ℕ) → Less w v → Less w (v ++ z) }
     ensures less_second { (u v w : List ℕ) → Less v w ↔ Less (u ++ v) (u ++ w) }

@@ -1,4 +1,4 @@
-use Rattle.residual_keys.proofs.Choosing.{choice_made, no_choice}
+use Rattle.residual_keys.proofs.RolesHad.{choice_made, no_choice}
 use Rattle.residual_keys.proofs.choices.add_choice.Goals as goal
 
 pub returns-in_ok-push-in-Some : goal.returns-in_ok-push-in-Some

@@ -1,4 +1,4 @@
-use Rattle.residual_keys.proofs.Choosing.{all_choices}
+use Rattle.residual_keys.proofs.RolesHad.{all_choices}
 use Rattle.residual_keys.proofs.choices.add_choices.Goals as goal
 
 pub returns : goal.returns

@@ -1,3 +1,4 @@
+use Rattle.ticket_order.proofs.Comparing.{words_told}
 use Rattle.ticket_order.proofs.Words.{less_never, less_trans, less_total, less_cut, less_more, less_second, less_first, before_never, before_trans, before_total, before_more, before_second}
 use Rattle.ticket_order.proofs.laws.order_laws.Goals as goal
 
@@ -6,6 +7,7 @@ returns c = record {
   less_never = less_never;
   less_trans = less_trans;
   less_total = less_total;
+  less_told = words_told;
   less_cut = less_cut;
   less_more = less_more;
   less_second = less_second;

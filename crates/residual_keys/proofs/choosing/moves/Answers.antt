@@ -1,0 +1,35 @@
+use Rattle.std.proofs.Common.{◌≡◌, ◌↔◌, ◌++◌, List, [], length, map, sym, ap, subst, ◌∙◌, arith}
+use Rattle.fare_law.specs.Lists.{AllDifferent, Each, EachPair, IsIn}
+use Rattle.fare_law.specs.Moves.{move_code}
+use Rattle.fare_law.specs.Order.{Less}
+use Rattle.ticket_order.specs.Coding.{Coded}
+use Rattle.residual_keys.specs.declared.residual.Chosen.{Chosen}
+use Rattle.residual_keys.specs.Steps.{AreMoves, IsChosen}
+use Rattle.residual_keys.proofs.InOrder.{same_length, same_moves, written}
+use Rattle.residual_keys.proofs.PathByPath.{all_coded}
+use Rattle.residual_keys.proofs.choosing.moves.Goals as goal
+
+pub put_in_order-requires-clause-coded : goal.put_in_order-requires-clause-coded
+put_in_order-requires-clause-coded g c =
+    let added = c.in_ok-found.ensures.moves in
+    subst (Each (λ x. Coded x.mv)) (sym (c.as_mut_slice.ensures.value ∙ c.into_vec-found.ensures ∙ added.joined)) (all_coded c.args.book.now c.args.request.now c.args.residual.now c.limits.ensures.keys added.more (λ x i. (added.are x).0 i))
+
+pub returns-clause-moves : goal.returns-clause-moves
+returns-clause-moves g c =
+    let b = c.args.book.now in
+    let q = c.args.request.now in
+    let r = c.args.residual.now in
+    let added = c.in_ok-found.ensures.moves in
+    let old = c.as_mut_slice.result.now in
+    let new = c.put_in_order.new.found in
+    let old_is : old ≡ added.more = c.as_mut_slice.ensures.value ∙ c.into_vec-found.ensures ∙ added.joined in
+    let items = c.into_vec-found.result.items in
+    let long : length new ≡ length items = same_length old new c.put_in_order.ensures.same ∙ ap length c.as_mut_slice.ensures.value in
+    let result_is : c.from_vec.result ≡ new = c.from_vec.ensures ∙ written c.into_vec-found.result.len items new (omega (arith, c.into_vec-found.result.ok.0)) long in
+    record {
+      ascending = subst (EachPair (λ x y. Less (move_code x.mv) (move_code y.mv))) (sym result_is) c.put_in_order.ensures.order;
+      are = λ x. let p = same_moves x old new c.put_in_order.ensures.same in (
+        λ i. (added.are x).0 (subst (IsIn x) old_is (p.1 (subst (IsIn x) result_is i))),
+        λ h. subst (IsIn x) (sym result_is) (p.0 (subst (IsIn x) (sym old_is) ((added.are x).1 h))),
+      );
+    }
