@@ -1,17 +1,17 @@
 -- Legs of flights are one, and so is the key of legs and a market; a market without fares has no moves.
-use Rattle.std.proofs.Common.{◌≡◌, ◌⊎◌, ◌↔◌, ℕ, zero, suc, ◌+◌, ◌*◌, ◌/◌, ◌%◌, ◌^◌, ◌≤◌, ◌<◌, Bool, List, [], ◌∷◌, IsBitSet, bit_and, MatchBool, Option, Some, None, refl, sym, ap, ap₂, subst, ◌∙◌, inl, inr, arith}
+use Rattle.std.proofs.Common.{◌≡◌, ◌⊎◌, ◌↔◌, ℕ, zero, suc, ◌<◌, Bool, List, [], ◌∷◌, IsBitSet, refl, sym, ap₂, subst, ◌∙◌, inl, arith}
 use Rattle.std.specs.Int.{bit_at}
 use Rattle.std.proofs.lemmas.Nat.Bits.{bit_at-lt, same_from_bits_below, shr_and_one}
 use Rattle.std.proofs.lemmas.Nat.{bit_set_by_shift}
 use Rattle.fare_book.specs.Keeping.{NoFare}
-use Rattle.fare_component.specs.Keys.{Asked, asked}
+use Rattle.fare_component.specs.Keys.{asked}
 use Rattle.fare_law.specs.declared.flights.Flight.{Flight}
 use Rattle.fare_law.specs.declared.market.OfferKey.{OfferKey}
 use Rattle.fare_law.specs.declared.names.Place.{Place}
 use Rattle.fare_law.specs.declared.requests.Request.{Request}
 use Rattle.fare_law.specs.declared.sheets.Leg.{Leg}
 use Rattle.fare_law.specs.declared.sheets.SheetRow.{SheetRow}
-use Rattle.fare_law.specs.Book.{Book, live_fare}
+use Rattle.fare_law.specs.Book.{Book}
 use Rattle.fare_law.specs.Lists.{IsIn, Matched}
 use Rattle.fare_law.specs.Order.{Less}
 use Rattle.fare_law.specs.Sheets.{IsLiveRow, Sheet, SheetOf}

@@ -1,5 +1,5 @@
 -- The moves with the fares of a sheet, offer by offer.
-use Rattle.std.proofs.Common.{◌≡◌, ◌⊎◌, ◌↔◌, ℕ, zero, suc, ◌+◌, ◌≤◌, ◌<◌, Bool, true, false, Option, List, [], ◌∷◌, ◌++◌, length, take, get_or, slice_get, MatchBool, Some, refl, sym, ap, subst, ◌∙◌, inl, inr, arith}
+use Rattle.std.proofs.Common.{◌≡◌, ◌⊎◌, ℕ, zero, suc, ◌+◌, ◌<◌, Bool, true, false, Option, List, [], ◌∷◌, ◌++◌, length, take, get_or, slice_get, MatchBool, Some, refl, sym, ap, subst, ◌∙◌, inl, inr, arith}
 use Rattle.std.proofs.Math.Seq.{take-suc}
 use Rattle.fare_book.specs.Keeping.{Limited}
 use Rattle.fare_component.specs.declared.offer.Offer.{Offer}
@@ -12,8 +12,8 @@ use Rattle.fare_law.specs.declared.names.Place.{Place}
 use Rattle.fare_law.specs.declared.requests.Request.{Request}
 use Rattle.fare_law.specs.declared.sheets.Leg.{Leg}
 use Rattle.fare_law.specs.declared.sheets.SheetRow.{SheetRow}
-use Rattle.fare_law.specs.Book.{Book, live_fare, live_rule}
-use Rattle.fare_law.specs.Lists.{EachPair, IsIn, OnFirst, OnLast}
+use Rattle.fare_law.specs.Book.{Book}
+use Rattle.fare_law.specs.Lists.{EachPair, IsIn}
 use Rattle.fare_law.specs.Limits.{IsFare}
 use Rattle.fare_law.specs.Offers.{IsOffered, flights_of, row_price}
 use Rattle.fare_law.specs.Order.{Less}
@@ -23,8 +23,8 @@ use Rattle.flight_paths.specs.declared.positions.Path.{Path}
 use Rattle.flight_paths.specs.Positions.{IsPath}
 use Rattle.residual_keys.specs.declared.residual.Chosen.{Chosen}
 use Rattle.residual_keys.specs.Gathered.{Adds, AreLegs, FiledOver, IsChosenFiled, IsChosenWith, IsOfferOn, IsOfferedOver, IsPathOf, MarketOver, OffersOn}
-use Rattle.residual_keys.specs.Residuals.{State, closes}
-use Rattle.residual_keys.specs.Steps.{IsChosen, IsLiveOn, KeyOn}
+use Rattle.residual_keys.specs.Residuals.{State}
+use Rattle.residual_keys.specs.Steps.{IsChosen, KeyOn}
 use Rattle.residual_keys.proofs.Adding.{adds_like, adds_none, adds_then, in_either, in_left, in_right}
 use Rattle.residual_keys.proofs.Components.{on_last_to}
 use Rattle.residual_keys.proofs.OneNext.{last_one}

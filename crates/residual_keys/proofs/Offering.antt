@@ -1,5 +1,5 @@
 -- The moves with the fare of one row are those of the component over it.
-use Rattle.std.proofs.Common.{◌≡◌, ◌↔◌, ℕ, ◌+◌, ◌≤◌, ◌<◌, Bool, List, [], ◌∷◌, length, MatchBool, Option, Some, None, refl, sym, ap, ap₂, subst, ◌∙◌, arith}
+use Rattle.std.proofs.Common.{◌≡◌, ℕ, ◌+◌, ◌≤◌, ◌<◌, Bool, List, length, MatchBool, sym, ap, ap₂, subst, ◌∙◌}
 use Rattle.fare_law.specs.declared.flights.Flight.{Flight}
 use Rattle.fare_law.specs.declared.moves.Move.{Move}
 use Rattle.fare_law.specs.declared.moves.Role.{Role}
@@ -9,15 +9,13 @@ use Rattle.fare_law.specs.declared.sheets.SheetRow.{SheetRow}
 use Rattle.fare_law.specs.declared.tickets.Piece.{Piece}
 use Rattle.fare_law.specs.Book.{Book}
 use Rattle.fare_law.specs.Lists.{OnFirst, OnLast}
-use Rattle.fare_law.specs.Offers.{row_price}
 use Rattle.fare_law.specs.Parts.{ComponentLawful, Numbers, price_of, share, stopover_charge, surcharges}
 use Rattle.flight_paths.specs.declared.positions.Path.{Path}
-use Rattle.flight_paths.specs.declared.positions.Position.{Position}
 use Rattle.flight_paths.specs.Positions.{IsPath}
 use Rattle.residual_keys.specs.declared.residual.Chosen.{Chosen}
-use Rattle.residual_keys.specs.Gathered.{Adds, AreLegs, FiledOver, IsChoice, IsChoiceOf, IsChosenWith, IsOfferedOver, IsPathOf}
+use Rattle.residual_keys.specs.Gathered.{Adds, AreLegs, IsChoice, IsChoiceOf, IsChosenWith, IsOfferedOver, IsPathOf}
 use Rattle.residual_keys.specs.Residuals.{State, closes}
-use Rattle.residual_keys.specs.Steps.{IsChosen, IsLiveOn, KeyOn, Leaves}
+use Rattle.residual_keys.specs.Steps.{IsChosen, IsLiveOn, Leaves}
 use Rattle.residual_keys.proofs.Adding.{adds_like}
 use Rattle.residual_keys.proofs.OneNext.{direction}
 use Rattle.residual_keys.proofs.StepFacts.{IsOver, offered_lawful}

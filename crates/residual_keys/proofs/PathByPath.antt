@@ -1,5 +1,5 @@
 -- The moves of a residual, path by path.
-use Rattle.std.proofs.Common.{◌≡◌, ◌⊎◌, ◌↔◌, ℕ, zero, suc, ◌+◌, ◌≤◌, ◌<◌, List, [], ◌∷◌, ◌++◌, length, take, get_or, Option, Some, refl, sym, ap, subst, ◌∙◌, inl, inr, arith}
+use Rattle.std.proofs.Common.{◌≡◌, ◌⊎◌, ℕ, zero, suc, ◌+◌, ◌≤◌, ◌<◌, List, [], ◌∷◌, ◌++◌, length, take, get_or, refl, sym, ap, subst, ◌∙◌, inl, inr, arith}
 use Rattle.std.proofs.Math.Seq.{take-suc}
 use Rattle.fare_law.specs.declared.flights.Flight.{Flight}
 use Rattle.fare_law.specs.declared.market.OfferKey.{OfferKey}
@@ -10,7 +10,6 @@ use Rattle.fare_law.specs.Order.{HasKeys, IsBasis, IsCarrier, Less}
 use Rattle.ticket_order.specs.Coding.{Coded}
 use Rattle.flight_paths.specs.declared.positions.Path.{Path}
 use Rattle.flight_paths.specs.Paths.{ArePaths, Precedes}
-use Rattle.flight_paths.specs.Positions.{Flies, IsPath}
 use Rattle.residual_keys.specs.AskedKeys.{KeyOf, KeyOfFlights}
 use Rattle.residual_keys.specs.declared.residual.Chosen.{Chosen}
 use Rattle.residual_keys.specs.Gathered.{Adds, IsChosenOn, IsPathOf}

@@ -1,5 +1,5 @@
 -- The moves of one component: one in each role and slot at most, and in no others than six.
-use Rattle.std.proofs.Common.{◌≡◌, ◌≢◌, ◌⊎◌, ◌↔◌, ℕ, zero, suc, ◌≤◌, List, [], ◌∷◌, ◌++◌, length, slice_get, Option, Some, None, refl, sym, ap, subst, ◌∙◌, inl, inr, arith}
+use Rattle.std.proofs.Common.{◌≡◌, ◌≢◌, ◌⊎◌, ℕ, zero, suc, ◌≤◌, List, [], ◌∷◌, ◌++◌, length, slice_get, Option, Some, refl, sym, ap, subst, ◌∙◌, inl, inr, arith}
 use Rattle.fare_law.specs.declared.moves.Move.{Move}
 use Rattle.fare_law.specs.declared.moves.Role.{Role}
 use Rattle.fare_law.specs.declared.moves.Role.TheVariants.{Alone, Opens, GoesOn, Closes}
@@ -9,7 +9,7 @@ use Rattle.open_unit.specs.declared.units.OpenUnit.{OpenUnit}
 use Rattle.residual_keys.specs.declared.residual.Chosen.{Chosen}
 use Rattle.residual_keys.specs.declared.residual.Next.{Next}
 use Rattle.residual_keys.specs.Gathered.{Adds, IsChoice, IsChoiceOf}
-use Rattle.residual_keys.specs.Residuals.{State, UnitStep, begins, part_with}
+use Rattle.residual_keys.specs.Residuals.{State, begins, part_with}
 use Rattle.residual_keys.specs.Steps.{Leaves, left_at}
 use Rattle.residual_keys.proofs.Adding.{adds_like, adds_none, adds_one, adds_then}
 use Rattle.residual_keys.proofs.OneNext.{units_one}

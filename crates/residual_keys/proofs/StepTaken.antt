@@ -14,7 +14,6 @@ use Rattle.fare_law.specs.Parts.{ComponentLawful, Numbers, StandsFor, price_of}
 use Rattle.flight_paths.specs.declared.positions.Position.{Position}
 use Rattle.flight_paths.specs.Positions.{Flies, IsPath}
 use Rattle.open_unit.specs.declared.units.OpenUnit.{OpenUnit}
-use Rattle.residual_keys.specs.declared.residual.Chosen.{Chosen}
 use Rattle.residual_keys.specs.declared.residual.Next.{Next}
 use Rattle.residual_keys.specs.Residuals.{Moves, PartAllows, State, UnitStep, begins, closes, part_with}
 use Rattle.residual_keys.specs.Steps.{IsChosen, IsLiveOn, KeyOn, Leaves, StepsTo, left_at}

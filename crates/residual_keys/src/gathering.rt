@@ -17,9 +17,7 @@ use crate::open_units::OpenUnits;
 use crate::{Chosen, Residual};
 use fare_book::Book;
 use fare_component::{Offer, OfferSource};
-use fare_law::{
-    ArrayVec, Flight, Leg, List, MarketSheet, Mem, OfferKey, Place, Request, SheetRow,
-};
+use fare_law::{ArrayVec, Flight, Leg, List, MarketSheet, Mem, OfferKey, Place, Request, SheetRow};
 use flight_paths::Path;
 use std::alloc::Global;
 use std::sync::Arc;

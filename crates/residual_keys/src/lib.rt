@@ -26,6 +26,6 @@ pub use choosing::moves;
 pub use laws::{best_runs, nothing_lost, one_best, one_next, residual_order, runs_are_short};
 pub use parts::TicketPart;
 pub use reading::{one_residual_text, read_residual};
-pub use stepping::step;
 pub use residual::{Chosen, Next, Residual};
+pub use stepping::step;
 pub use text::{push_residual, residual_text};

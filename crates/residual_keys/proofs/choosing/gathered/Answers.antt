@@ -1,13 +1,12 @@
-use Rattle.std.proofs.Common.{◌≡◌, ◌≤◌, ◌<◌, ℕ, [], length, take, sym, ap, subst, ◌∙◌, arith}
+use Rattle.std.proofs.Common.{◌≡◌, [], sym, ap, subst, ◌∙◌, arith}
 use Rattle.std.proofs.lemmas.List.{take_all}
-use Rattle.fare_component.specs.Keys.{Asked, asked}
+use Rattle.fare_component.specs.Keys.{asked}
 use Rattle.fare_law.specs.declared.market.OfferKey.{OfferKey}
 use Rattle.fare_law.specs.Lists.{IsIn}
-use Rattle.flight_paths.specs.declared.positions.Path.{Path}
 use Rattle.flight_paths.specs.Paths.{ArePaths}
 use Rattle.residual_keys.specs.Gathered.{Adds}
 use Rattle.residual_keys.specs.Steps.{IsChosen}
-use Rattle.residual_keys.proofs.PathByPath.{HoldsOn, OnPaths, all_keys, all_paths, holds_more, no_slice, path_more, paths_none, read_in}
+use Rattle.residual_keys.proofs.PathByPath.{HoldsOn, OnPaths, all_keys, all_paths, holds_more, no_slice, path_more, read_in}
 use Rattle.residual_keys.proofs.StepTaken.{path_known}
 use Rattle.residual_keys.proofs.choosing.gathered.Goals as goal
 

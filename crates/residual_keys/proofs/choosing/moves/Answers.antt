@@ -1,10 +1,8 @@
-use Rattle.std.proofs.Common.{◌≡◌, ◌↔◌, ◌++◌, List, [], length, map, sym, ap, subst, ◌∙◌, arith}
-use Rattle.fare_law.specs.Lists.{AllDifferent, Each, EachPair, IsIn}
+use Rattle.std.proofs.Common.{◌≡◌, length, sym, ap, subst, ◌∙◌, arith}
+use Rattle.fare_law.specs.Lists.{Each, EachPair, IsIn}
 use Rattle.fare_law.specs.Moves.{move_code}
 use Rattle.fare_law.specs.Order.{Less}
 use Rattle.ticket_order.specs.Coding.{Coded}
-use Rattle.residual_keys.specs.declared.residual.Chosen.{Chosen}
-use Rattle.residual_keys.specs.Steps.{AreMoves, IsChosen}
 use Rattle.residual_keys.proofs.InOrder.{same_length, same_moves, written}
 use Rattle.residual_keys.proofs.PathByPath.{all_coded}
 use Rattle.residual_keys.proofs.choosing.moves.Goals as goal

@@ -1,6 +1,5 @@
-use Rattle.std.proofs.Common.{rules, List, ℕ}
+use Rattle.std.proofs.Common.{rules}
 use Rattle.std.proofs.lemmas.List.Sorted.{answers_always}
-use Rattle.residual_keys.specs.declared.residual.Chosen.{Chosen}
 use Rattle.residual_keys.proofs.InOrder.{NoneLower, code_of, sorted_order}
 use Rattle.residual_keys.proofs.choosing.put_in_order.Goals as goal
 

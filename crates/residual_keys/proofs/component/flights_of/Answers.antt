@@ -1,5 +1,4 @@
-use Rattle.std.proofs.Common.{◌≡◌, ℕ, suc, ◌+◌, ◌<◌, ◌++◌, ◌∷◌, [], take, get_or, length, All, pos, sym, ap, subst, ◌∙◌, arith}
-use Rattle.fare_law.specs.declared.flights.Flight.{Flight}
+use Rattle.std.proofs.Common.{◌≡◌, ℕ, suc, ◌+◌, ◌<◌, ◌++◌, ◌∷◌, [], take, get_or, length, All, sym, ap, subst, ◌∙◌, arith}
 use Rattle.fare_law.specs.Limits.{IsFlight}
 use Rattle.fare_law.specs.Lists.{Each}
 use Rattle.residual_keys.proofs.Components.{flights_all, flights_next, no_flight, number_within, numbered_hold}

@@ -1,4 +1,4 @@
-use Rattle.std.proofs.Common.{◌≡◌, true, false, sym, ap, ◌∙◌}
+use Rattle.std.proofs.Common.{true, false, sym, ap, ◌∙◌}
 use Rattle.residual_keys.proofs.StepFacts.{key_stands}
 use Rattle.residual_keys.proofs.component.key_on.Goals as goal
 

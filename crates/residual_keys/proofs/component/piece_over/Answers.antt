@@ -1,4 +1,4 @@
-use Rattle.std.proofs.Common.{◌≡◌, ap, rules}
+use Rattle.std.proofs.Common.{rules}
 use Rattle.residual_keys.proofs.Components.{on_last_to}
 use Rattle.residual_keys.proofs.component.piece_over.Goals as goal
 

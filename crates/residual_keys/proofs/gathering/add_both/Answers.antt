@@ -1,4 +1,4 @@
-use Rattle.std.proofs.Common.{◌≡◌, sym, ◌∙◌}
+use Rattle.std.proofs.Common.{sym, ◌∙◌}
 use Rattle.residual_keys.proofs.Pathed.{both_ways, forward_alone}
 use Rattle.residual_keys.proofs.gathering.add_both.Goals as goal
 

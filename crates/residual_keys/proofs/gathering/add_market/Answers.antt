@@ -1,6 +1,5 @@
-use Rattle.std.proofs.Common.{◌≡◌, subst}
+use Rattle.std.proofs.Common.{subst}
 use Rattle.std.specs.Arc.{arc_value}
-use Rattle.fare_component.specs.Keys.{Asked}
 use Rattle.residual_keys.proofs.Markets.{asked_one, no_moves, no_sheet}
 use Rattle.residual_keys.proofs.gathering.add_market.Goals as goal
 

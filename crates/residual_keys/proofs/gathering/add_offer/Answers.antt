@@ -1,4 +1,4 @@
-use Rattle.std.proofs.Common.{◌≡◌, ◌≤◌, length, arith, rules}
+use Rattle.std.proofs.Common.{arith, rules}
 use Rattle.residual_keys.proofs.Offering.{IsPieceOf, adds_chosen}
 use Rattle.residual_keys.proofs.gathering.add_offer.Goals as goal
 

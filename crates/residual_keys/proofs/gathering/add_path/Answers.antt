@@ -1,10 +1,8 @@
-use Rattle.std.proofs.Common.{◌≡◌, List, sym, subst}
-use Rattle.fare_component.specs.Keys.{asked}
-use Rattle.fare_law.specs.declared.flights.Flight.{Flight}
+use Rattle.std.proofs.Common.{sym, subst}
 use Rattle.fare_law.specs.Parts.{Numbers}
 use Rattle.residual_keys.specs.AskedKeys.{KeyOfFlights}
 use Rattle.residual_keys.specs.Gathered.{IsPathOf}
-use Rattle.residual_keys.proofs.Pathed.{path_found, path_numbers, path_one}
+use Rattle.residual_keys.proofs.Pathed.{path_found, path_numbers}
 use Rattle.residual_keys.proofs.gathering.add_path.Goals as goal
 
 pub flights_of-flights-requires-clause-known : goal.flights_of-flights-requires-clause-known

@@ -1,6 +1,5 @@
-use Rattle.std.proofs.Common.{◌≡◌, ◌≤◌, Some, length, sym, ap, subst, ◌∙◌}
+use Rattle.std.proofs.Common.{Some, sym, ap, subst, ◌∙◌}
 use Rattle.std.specs.Arc.{arc_value}
-use Rattle.fare_component.specs.Keys.{asked}
 use Rattle.residual_keys.specs.Gathered.{OffersOn}
 use Rattle.residual_keys.proofs.Offered.{offers_on}
 use Rattle.residual_keys.proofs.Offering.{path_some}

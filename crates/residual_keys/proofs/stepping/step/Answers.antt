@@ -1,5 +1,4 @@
-use Rattle.std.proofs.Common.{◌≡◌, ◌<◌, ◌≤◌, ℕ, List, length, slice_get, Some, None, IfNone, Option, sym, ap, subst, ◌∙◌, arith}
-use Rattle.fare_law.specs.declared.flights.Flight.{Flight}
+use Rattle.std.proofs.Common.{◌≡◌, sym, ap, subst, arith}
 use Rattle.flight_paths.specs.Positions.{IsPath}
 use Rattle.residual_keys.proofs.StepTaken.{slice_known}
 use Rattle.residual_keys.proofs.stepping.step.Goals as goal

@@ -1,5 +1,4 @@
-use Rattle.std.proofs.Common.{◌≡◌, ◌≤◌, List, length, sym, ap, subst, ◌∙◌}
-use Rattle.fare_law.specs.declared.flights.Flight.{Flight}
+use Rattle.std.proofs.Common.{◌≤◌, length, sym, subst}
 use Rattle.fare_law.specs.Parts.{Numbers}
 use Rattle.flight_paths.specs.Positions.{IsPath}
 use Rattle.residual_keys.specs.Steps.{KeyOn}

@@ -1,11 +1,11 @@
-use Rattle.std.proofs.Common.{rules, ◌≡◌, ◌<◌, IfNone, IfSome, sym, ap, subst, ◌∙◌, arith}
+use Rattle.std.proofs.Common.{rules, sym, ap, subst, ◌∙◌, arith}
 use Rattle.fare_law.specs.Lists.{Matched}
 use Rattle.fare_law.specs.Offers.{flights_of}
 use Rattle.residual_keys.specs.AskedKeys.{IsLeg}
 use Rattle.residual_keys.specs.declared.residual.Next.{Next}
 use Rattle.residual_keys.specs.Steps.{Leaves, StepsTo}
 use Rattle.residual_keys.proofs.StepFacts.{IsOver, key_directed, offered_lawful}
-use Rattle.residual_keys.proofs.StepTaken.{if_none, if_some, missed, move_offered, not_so, path_some, taken}
+use Rattle.residual_keys.proofs.StepTaken.{if_none, if_some, missed, move_offered, not_so, taken}
 use Rattle.residual_keys.proofs.stepping.step_with.Goals as goal
 
 pub is_offered-requires-clause-direction : goal.is_offered-requires-clause-direction
