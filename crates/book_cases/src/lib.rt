@@ -8,4 +8,6 @@ mod books;
 #[cfg(test)]
 mod filings;
 #[cfg(test)]
+mod journeys;
+#[cfg(test)]
 mod tickets;
