@@ -1,0 +1,10 @@
+pub mod Splits
+pub mod FirstCut
+pub mod FlownCuts
+pub mod PartLookups
+pub mod LabelTurns
+pub mod ComponentFacts
+pub mod ComponentParts
+pub mod UnitEnds
+pub mod UnitHolds
+pub mod WholeTickets
