@@ -27,7 +27,7 @@ pub record StandsAs (b : Book) (q : Request) (c : Component) (part : Part) : Typ
   pub is : IsPart b q c part
   pub lawful : ComponentLawful b q.party part.flights part.piece
 
-none_or_some : {X : Type 0} (o : Option X) → (o ≡ None) ⊎ ((x : X) × (o ≡ Some x))
+pub none_or_some : {X : Type 0} (o : Option X) → (o ≡ None) ⊎ ((x : X) × (o ≡ Some x))
 none_or_some None = inl refl
 none_or_some (Some x) = inr (x, refl)
 

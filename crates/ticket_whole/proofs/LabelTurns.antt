@@ -19,19 +19,19 @@ greatest_more : (ls : List ℕ) (l : ℕ) → greatest (ls ++ l ∷ []) ≡ max 
 greatest_more [] l = omega arith
 greatest_more (x ∷ ls) l = omega (arith, greatest_more ls l)
 
-or_split : (a b : Bool) → a || b ≡ true → (a ≡ true) ⊎ (b ≡ true)
+pub or_split : (a b : Bool) → a || b ≡ true → (a ≡ true) ⊎ (b ≡ true)
 or_split true b h = inl refl
 or_split false b h = inr h
 
-or_left : (a b : Bool) → a ≡ true → a || b ≡ true
+pub or_left : (a b : Bool) → a ≡ true → a || b ≡ true
 or_left true b h = refl
 or_left false b h = absurd (cc)
 
-or_right : (a b : Bool) → b ≡ true → a || b ≡ true
+pub or_right : (a b : Bool) → b ≡ true → a || b ≡ true
 or_right true b h = refl
 or_right false b h = h
 
-comes_more : (u l : ℕ) (ls : List ℕ) → comes_in u (ls ++ l ∷ []) ≡ true ↔ ((comes_in u ls ≡ true) ⊎ (u ≡ l))
+pub comes_more : (u l : ℕ) (ls : List ℕ) → comes_in u (ls ++ l ∷ []) ≡ true ↔ ((comes_in u ls ≡ true) ⊎ (u ≡ l))
 comes_more u l [] = (
   λ h. elim (or_split (u == l) false h) [ inl e ↦ inr ((Decides-eqb u l).0 e) | inr f ↦ absurd (cc) ],
   λ h. elim h [ inl e ↦ absurd (cc) | inr e ↦ or_left (u == l) false ((Decides-eqb u l).1 e) ],
