@@ -1,14 +1,14 @@
 -- Labels among others: whether they come, which is the greatest, and how many stand on both sides of a boundary.
-use Rattle.std.proofs.Common.{◌≡◌, ◌≢◌, ◌⊎◌, ◌↔◌, ◌<◌, ◌≤◌, ◌+◌, ◌==◌, ◌++◌, ◌∙◌, ℕ, zero, suc, max, true, false, List, [], ◌∷◌, length, take, drop, get_or, refl, ap, sym, subst, inl, inr, arith}
+use Rattle.std.proofs.Common.{◌≡◌, ◌≢◌, ◌⊎◌, ◌↔◌, ◌<◌, ◌≤◌, ◌+◌, ◌==◌, ◌++◌, ◌∙◌, ℕ, zero, suc, true, false, List, [], ◌∷◌, length, map, take, get_or, refl, ap, sym, subst, inl, inr, arith}
 use Rattle.std.specs.List.{Any, slice_index_or}
 use Rattle.std.proofs.lemmas.Bool.{cases_order}
 use Rattle.std.proofs.lemmas.Bool.Decides.{Decides-eqb}
-use Rattle.std.proofs.lemmas.List.{drop_all, take_all}
+use Rattle.std.proofs.lemmas.List.{take_all}
+use Rattle.fare_law.specs.declared.tickets.Component.{Component}
 use Rattle.fare_law.specs.Lawful.{comes_in, StandsOnBothSides}
 use Rattle.fare_law.specs.Lists.{Each, AllDifferent}
-use Rattle.ticket_demands.specs.Breaches.{greatest}
 use Rattle.ticket_whole.specs.Boundaries.{AtMostTwo}
-use Rattle.ticket_whole.proofs.Gathering.{here, front_at, each_more}
+use Rattle.ticket_whole.proofs.Gathering.{front_at, each_more}
 use Rattle.ticket_whole.proofs.LabelTurns.{or_split, or_left, or_right, comes_more}
 
 come_at : (u : ℕ) (ls : List ℕ) (k x : ℕ) → k < length ls → slice_index_or ls k x ≡ x → u ≡ x → comes_in u ls ≡ true
@@ -27,14 +27,21 @@ any_come u (l ∷ ls) h = elim (or_split (u == l) (comes_in u ls) h) [
 pub comes_told : (u : ℕ) (ls : List ℕ) → Any (λ l. u ≡ l) ls ↔ (comes_in u ls ≡ true)
 comes_told u ls = (λ h. come_at u ls h.0 h.1 h.2 h.3 h.4, any_come u ls)
 
-greatest_next : (top : ℕ) (ls : List ℕ) (i all : ℕ) → i < length ls → max top (greatest (drop i ls)) ≡ all → max (max top (get_or ls i 0)) (greatest (drop (i + 1) ls)) ≡ all
-greatest_next top ls i all lt h = let e = ap greatest (here ls i 0 lt) in omega (arith, e, h)
+label_at : (u : ℕ) (cs : List Component) (k : ℕ) (x : Component) → k < length cs → slice_index_or cs k x ≡ x → x.unit ≡ u → comes_in u (map (λ c. c.unit) cs) ≡ true
+label_at u [] k x lt e is = absurd (omega (arith, lt))
+label_at u (c ∷ cs) zero x lt e is = or_left (u == c.unit) (comes_in u (map (λ (y : Component). y.unit) cs)) ((Decides-eqb u c.unit).1 (sym (ap (λ (y : Component). y.unit) e ∙ is)))
+label_at u (c ∷ cs) (suc k) x lt e is = or_right (u == c.unit) (comes_in u (map (λ (y : Component). y.unit) cs)) (label_at u cs k x (omega (arith, lt)) e is)
 
-pub greatest_up : (top : ℕ) (ls : List ℕ) (i all next : ℕ) → i < length ls → next ≡ max top (get_or ls i 0) → max top (greatest (drop i ls)) ≡ all → max next (greatest (drop (i + 1) ls)) ≡ all
-greatest_up top ls i all next lt e h = subst (λ n. max n (greatest (drop (i + 1) ls)) ≡ all) (sym e) (greatest_next top ls i all lt h)
+some_label : (u : ℕ) (cs : List Component) → comes_in u (map (λ c. c.unit) cs) ≡ true → Any (λ c. c.unit ≡ u) cs
+some_label u [] h = absurd (cc)
+some_label u (c ∷ cs) h = elim (or_split (u == c.unit) (comes_in u (map (λ (y : Component). y.unit) cs)) h) [
+  | inl e ↦ (0, c, omega arith, refl, sym ((Decides-eqb u c.unit).0 e))
+  | inr f ↦ let k = some_label u cs f in (suc k.0, k.1, omega (arith, k.2), k.3, k.4)
+]
 
-pub greatest_end : (top : ℕ) (ls : List ℕ) (i all : ℕ) → length ls ≤ i → max top (greatest (drop i ls)) ≡ all → top ≡ all
-greatest_end top ls i all le h = let e = ap greatest (drop_all i ls le) in omega (arith, e, h)
+-- a label comes exactly where a component has it
+pub label_told : (u : ℕ) (cs : List Component) → Any (λ c. c.unit ≡ u) cs ↔ (comes_in u (map (λ c. c.unit) cs) ≡ true)
+label_told u cs = (λ h. label_at u cs h.0 h.1 h.2 h.3 h.4, some_label u cs)
 
 -- What is found of the labels on both sides, among the first i of those before the boundary.
 pub record Found (before after found : List ℕ) (i : ℕ) : Type 0 where

@@ -5,6 +5,7 @@ use Rattle.fare_law.specs.declared.rules.EndOnEnd.TheVariants.{Free, SameCarrier
 use Rattle.fare_law.specs.Lawful.{Part}
 use Rattle.ticket_whole.specs.declared.fares_on.FareOn.{FareOn}
 
+-- the fare of a part, with its label and what its rule asks
 abbrev pub fare_on : Part → FareOn
 fare_on part = record {
   carrier = part.piece.fare.key.carrier;
@@ -18,5 +19,6 @@ AreAsAsked fares fare Free = Unit {0}
 AreAsAsked fares fare SameCarrier = All (λ other. other.carrier ≡ fare.carrier) fares
 AreAsAsked fares fare Never = All (λ other. other.unit ≡ 1) fares
 
+-- what this fare asks of the ticket, if it asks anything, holds of all fares on it
 abbrev pub Combines : List FareOn → FareOn → Type 0
 Combines fares fare = IfSome fare.asks (AreAsAsked fares fare)

@@ -19,27 +19,27 @@ pub fn labels_of(components: &[Component]) -> ArrayVec<u8, 18>
     labels
 }
 
-/// Whether the label is one of those before it, or one more than the greatest of them.
-pub fn label_stands(before: &[u8], label: u8) -> bool
-    ensures { IsTrue result ↔ LabelStands before.now label }
+/// Whether a label is one of those of the components before it, or one more than the greatest of them.
+pub fn label_stands(before: &[Component], label: u8) -> bool
+    ensures { IsTrue result ↔ LabelStands (map (λ c. c.unit) before.now) label }
 {
-    is_among(label, before) || u16::from(label) == u16::from(greatest(before)) + 1
+    has_label(before, label) || u16::from(label) == u16::from(greatest(before)) + 1
 }
 
-/// Whether a label is one of these.
-fn is_among(label: u8, labels: &[u8]) -> bool
-    ensures { IsTrue result ↔ (comes_in label labels.now ≡ true) }
+/// Whether a component is of this label.
+fn has_label(components: &[Component], label: u8) -> bool
+    ensures { IsTrue result ↔ (comes_in label (map (λ c. c.unit) components.now) ≡ true) }
 {
-    labels.iter().any(|other| label == *other)
+    components.iter().any(|component| component.unit == label)
 }
 
-/// The greatest of these labels, 0 where there is none.
-fn greatest(labels: &[u8]) -> u8
-    ensures { result ≡ Breaches.greatest labels.now }
+/// The greatest label of these components, 0 where there is none.
+fn greatest(components: &[Component]) -> u8
+    ensures { result ≡ Breaches.greatest (map (λ c. c.unit) components.now) }
 {
     let mut top = 0;
-    for label in labels {
-        top = top.max(*label);
+    for component in components {
+        top = top.max(component.unit);
     }
     top
 }
@@ -72,4 +72,11 @@ fn few_between(before: &[u8], after: &[u8]) -> bool
         found.push(*label);
     }
     true
+}
+
+/// Whether a label is one of these.
+fn is_among(label: u8, labels: &[u8]) -> bool
+    ensures { IsTrue result ↔ (comes_in label labels.now ≡ true) }
+{
+    labels.iter().any(|other| label == *other)
 }

@@ -76,15 +76,14 @@ fn standing_meets(
     book: &Book,
     request: &Request,
 ) -> bool
-    requires few { length before.now ≤ 18 }
-    requires request { IsRequest request.now }
+    requires { IsRequest request.now }
     ensures { IsTrue result ↔ StandingMeets book.now request.now ticket.now demand before.now component.now }
 {
     match demand {
         Demand::HasComponent => true,
         Demand::OfComponent(demand) => component_meets(demand, component, book, request.party),
         Demand::OfJourney(_) => true,
-        Demand::Labels => label_stands(labels_of(before).as_slice(), component.unit),
+        Demand::Labels => label_stands(before, component.unit),
         Demand::OfUnit(demand) => part_meets(
             demand,
             component,
