@@ -1,5 +1,5 @@
 -- Lists split at a place, and labels at each boundary.
-use Rattle.std.proofs.Common.{◌≡◌, ◌<◌, ◌∙◌, ℕ, List, [], ◌∷◌, ◌++◌, length, take, drop, get_or, refl, ap, sym, subst, arith}
+use Rattle.std.proofs.Common.{◌≡◌, ◌<◌, ◌∙◌, ℕ, List, [], ◌∷◌, ◌++◌, length, take, drop, refl, ap, sym, subst, arith}
 use Rattle.fare_law.specs.Lawful.{AtMostTwoStraddle}
 use Rattle.ticket_whole.specs.Boundaries.{AtMostTwo}
 
@@ -10,10 +10,6 @@ front_is (x ∷ before) after = ap (λ xs. x ∷ xs) (front_is before after)
 pub back_is : {X : Type 0} (before after : List X) → drop (length before) (before ++ after) ≡ after
 back_is [] after = refl
 back_is (x ∷ before) after = back_is before after
-
-pub got_there : {X : Type 0} (before : List X) (x : X) (after : List X) (d : X) → get_or (before ++ x ∷ after) (length before) d ≡ x
-got_there [] x after d = refl
-got_there (y ∷ before) x after d = got_there before x after d
 
 length_split : {X : Type 0} (before : List X) (x : X) (after : List X) → length before < length (before ++ x ∷ after)
 length_split [] x after = omega arith

@@ -32,9 +32,6 @@ pub join_more : {X Y : Type 0} (f : X → List Y) (found all : List Y) (xs : Lis
 join_more f found all xs i d l h =
     append_assoc found (f (get_or xs i d)) (flat_map f (drop (i + 1) xs)) ∙ ap (λ zs. found ++ flat_map f zs) (sym (here xs i d l)) ∙ h
 
-pub join_all : {X Y : Type 0} (f : X → List Y) (found all : List Y) (xs : List X) (i : ℕ) → length xs ≤ i → found ++ flat_map f (drop i xs) ≡ all → found ≡ all
-join_all f found all xs i l h = sym (append-nil found) ∙ ap (λ zs. found ++ flat_map f zs) (sym (drop_all i xs l)) ∙ h
-
 -- one more that has P
 pub each_more : {A : Type 0} (P : A → Type 0) (front : List A) (a : A) → Each P front → P a → Each P (front ++ a ∷ [])
 each_more P [] a h p = (p, tt)
@@ -64,6 +61,3 @@ map_gathered g f (x ∷ xs) = map_one g (f x) (filter_map f xs) (filter_map (λ 
 map_end : {X Y : Type 0} (f : X → Y) (xs : List X) (x : X) → map f (xs ++ x ∷ []) ≡ map f xs ++ f x ∷ []
 map_end f [] x = refl
 map_end f (y ∷ xs) x = ap (λ ys. f y ∷ ys) (map_end f xs x)
-
-pub map_more : {X Y : Type 0} (f : X → Y) (found : List Y) (xs : List X) (i : ℕ) (d : X) → i < length xs → found ≡ map f (take i xs) → found ++ f (get_or xs i d) ∷ [] ≡ map f (take (i + 1) xs)
-map_more f found xs i d l h = ap (λ ys. ys ++ f (get_or xs i d) ∷ []) h ∙ sym (map_end f (take i xs) (get_or xs i d)) ∙ ap (map f) (sym (front_at xs i d l))

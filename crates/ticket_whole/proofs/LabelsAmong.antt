@@ -50,9 +50,6 @@ pub record Found (before after found : List ℕ) (i : ℕ) : Type 0 where
   pub both : Each (StandsOnBothSides before after) found
   pub all : (u : ℕ) → comes_in u (take i before) ≡ true → comes_in u after ≡ true → comes_in u found ≡ true
 
-pub none_found : (before after : List ℕ) → Found before after [] 0
-none_found before after = record { few = omega arith; apart = tt; both = tt; all = λ u h k. absurd (cc) }
-
 last_or_before : (before : List ℕ) (i u : ℕ) → i < length before → comes_in u (take (i + 1) before) ≡ true → (comes_in u (take i before) ≡ true) ⊎ (u ≡ get_or before i 0)
 last_or_before before i u lt h = (comes_more u (get_or before i 0) (take i before)).0 (subst (λ ls. comes_in u ls ≡ true) (front_at before i 0 lt) h)
 

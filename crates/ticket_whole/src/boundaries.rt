@@ -1,5 +1,5 @@
 //! Labels of units along a ticket.
-ghost use Rattle.std.specs.Prelude.{◌≡◌, ◌↔◌, ◌≤◌, ◌⊎◌, ◌++◌, suc, length, map, true, IsTrue};
+ghost use Rattle.std.specs.Prelude.{◌≡◌, ◌↔◌, ◌≤◌, length, map, true, IsTrue};
 ghost use Rattle.fare_law.specs.Lawful.{AtMostTwoStraddle, comes_in};
 ghost use Rattle.ticket_demands.specs.Breaches as Breaches;
 ghost use Rattle.ticket_demands.specs.Breaches.{LabelStands};

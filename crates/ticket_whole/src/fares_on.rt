@@ -1,9 +1,9 @@
 //! What the fares on a ticket ask of each other.
-ghost use Rattle.std.specs.Prelude.{◌≡◌, ◌↔◌, ◌≤◌, ℤ, length, map, option_map, All, IfSome, IsTrue, Some, None, MatchOption};
+ghost use Rattle.std.specs.Prelude.{◌≡◌, ◌↔◌, ◌≤◌, ℤ, length, map, option_map, All, IsTrue};
 ghost use Rattle.fare_law.specs.Lawful.{EndOnEndHolds};
 ghost use Rattle.fare_law.specs.Lists.{Each};
 ghost use Rattle.ticket_demands.specs.Known.{part_of, parts_of};
-ghost use Rattle.ticket_whole.specs.FaresOn.{AreAsAsked, Combines, fare_on};
+ghost use Rattle.ticket_whole.specs.FaresOn.{Combines, fare_on};
 
 use crate::known::{has_known_flight, row_of};
 use fare_book::Book;

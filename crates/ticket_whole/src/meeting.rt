@@ -1,6 +1,5 @@
 //! Whether a ticket meets a demand, as a whole and with each component.
 ghost use Rattle.std.specs.Prelude.{◌↔◌, ◌≤◌, length, IsTrue, MatchOption, None};
-ghost use Rattle.fare_law.specs.Days.{IsCalendarDay};
 ghost use Rattle.fare_law.specs.Limits.{IsRequest, IsSlice};
 ghost use Rattle.fare_law.specs.Lists.{Each};
 ghost use Rattle.ticket_demands.specs.Breaches.{FirstBroken, Met, StandingMeets, TicketMeets};
