@@ -1,0 +1,17 @@
+pub mod Splits
+pub mod Gathering
+pub mod FirstCut
+pub mod FlownCuts
+pub mod PartLookups
+pub mod LabelTurns
+pub mod LabelsAmong
+pub mod BoundarySplits
+pub mod ComponentFacts
+pub mod ComponentParts
+pub mod KnownFlights
+pub mod FaresCombine
+pub mod UnitEnds
+pub mod UnitHolds
+pub mod WholeTickets
+pub mod FirstBreaks
+pub mod DemandNumbers

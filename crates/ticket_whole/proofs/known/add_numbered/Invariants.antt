@@ -1,0 +1,12 @@
+use Rattle.std.proofs.Common.{◌≡◌, ◌≤◌, ◌+◌, ◌++◌, length, drop, slice_get}
+use Rattle.std.specs.List.{filter_map}
+use Rattle.fare_law.specs.Limits.{IsFlight}
+use Rattle.fare_law.specs.Lists.{Each}
+use Rattle.ticket_whole.proofs.known.add_numbered.Given as goal
+
+abbrev pub invariant-loop-number : goal.invariant-loop-number
+invariant-loop-number l = record {
+  flights : l.found ++ filter_map (slice_get l.flights) (drop l.number-index l.numbers) ≡ l.initial.found ++ filter_map (slice_get l.flights) l.numbers;
+  limits : Each IsFlight l.found;
+  few : length l.found ≤ length l.initial.found + l.number-index;
+}

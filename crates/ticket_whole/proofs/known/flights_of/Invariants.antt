@@ -1,0 +1,12 @@
+use Rattle.std.proofs.Common.{◌≡◌, ◌≤◌, ◌*◌, ◌++◌, length, drop}
+use Rattle.fare_law.specs.Limits.{IsFlight}
+use Rattle.fare_law.specs.Lists.{Each}
+use Rattle.ticket_demands.specs.Breaches.{flights_of}
+use Rattle.ticket_whole.proofs.known.flights_of.Given as goal
+
+abbrev pub invariant-loop-component : goal.invariant-loop-component
+invariant-loop-component l = record {
+  flights : l.found ++ flights_of l.book (drop l.component-index l.components) ≡ flights_of l.book l.components;
+  limits : Each IsFlight l.found;
+  few : length l.found ≤ 4 * l.component-index;
+}

@@ -1,0 +1,2 @@
+pub mod FaresOn
+pub mod Boundaries
