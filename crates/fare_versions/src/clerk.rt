@@ -68,8 +68,8 @@ impl Clerk {
         self.writer.published().receipt()
     }
 
-    /// Files, and publishes the book with this filing more. A filing with a fault is refused whole, and after
-    /// either fault all is as it was.
+    /// Files, and publishes the book with this filing more; the receipt is for it. A filing with a fault is
+    /// refused whole. After either fault what is published is as it was.
     pub fn file<R: Wait>(
         &mut self,
         alloc: Global,
@@ -130,9 +130,9 @@ fn next_edition(
     ensures same { OnErr result (log.new ≡ log.old) }
     ensures refused { IfErr result (HasCause now.now.book (arc_value filing)) }
 {
+    let _number = now.number();
     let added = Arc::try_clone(&filing)?;
     let next = now.book().with(alloc, filing)?;
-    let _number = now.number();
     let book = Arc::new(alloc, next)?;
     if !log.add(&added) {
         return Err(FileFault::Mem);

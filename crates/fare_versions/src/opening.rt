@@ -45,8 +45,8 @@ pub fn begin<R: Wait>(
     }
 }
 
-/// A writer who has published this edition. It did so once in vain, so that there is room for what a clerk
-/// publishes, and no filing fails for want of it.
+/// The writer of a store that shows this edition. It was published twice, so that the store has room for what
+/// a clerk publishes, and no filing fails for want of it.
 fn writer_of<R: Wait>(alloc: Global, rt: &R, edition: Edition) -> Result<EditionWriter, Mem>
     ensures shown { IfOk result (λ w. shown w ≡ edition) }
     ensures pending { IfOk result (λ w. pending w ≡ []) }
