@@ -85,9 +85,9 @@ fn put(alloc: Global) -> Result<Arc<Filing>, Mem>
 /// What a clerk and a watch answered.
 #[derive(Clone, Copy, PartialEq, Debug)]
 struct Answers {
-    /// The versions that the watch sees: at first, after a filing, and once it has learnt the receipt.
+    /// The versions that the watch sees: at first, after a filing, and once it has learnt a receipt.
     seen: [u32; 3],
-    /// The version of the receipt.
+    /// The version of the receipt of that filing.
     filed: u32,
     refused: Option<FileFault>,
     /// The clerk's version at the end.
@@ -106,7 +106,7 @@ fn ask_all<R: Wait>(
     let first = watch.look()?.number();
     let receipt = clerk.file(alloc, rt, put(alloc)?)?;
     let second = watch.look()?.number();
-    watch.learn(&receipt);
+    watch.learn(&clerk.tell());
     let third = watch.look()?.number();
     let drop = filing(alloc, Action::DropFare(key(b'B')))?;
     let refused = clerk.file(alloc, rt, drop).err();

@@ -52,7 +52,8 @@ impl Watch {
     }
 
     /// The book that is published now: a version of the history that has all that this watch saw and was told
-    /// of. It holds up no one, neither here nor while the book is in use.
+    /// of. It holds up no one, neither here nor while the book is in use. Once the clerk has ended it answers
+    /// `Mem`.
     pub fn look(&mut self) -> Result<Arc<Book>, Mem>
         ensures seen { Grows (seen_by self.old) (seen_by self.new) }
         ensures told { self.new.told ≡ self.old.told }
