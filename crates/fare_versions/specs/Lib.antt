@@ -1,0 +1,5 @@
+pub mod Filed
+pub mod Growing
+pub mod Published
+pub mod Seen
+pub mod Writing

@@ -1,0 +1,118 @@
+//! Watches, which look.
+ghost use Rattle.std.specs.Prelude.{◌≡◌, Some, length, max, IfOk};
+ghost use Rattle.std.specs.Arc.{arc_value};
+ghost use Rattle.left_right.specs.Sides.{view};
+ghost use Rattle.fare_law.specs.Lists.{IsPrefix};
+ghost use Rattle.fare_versions.specs.Published.{Grows};
+ghost use Rattle.fare_versions.specs.Seen.{HasSeen, seen_by};
+
+use crate::edition::Edition;
+use crate::receipt::Receipt;
+use crate::store::{EditionReader, Sees};
+use core::mem::replace_with;
+use fare_book::Book;
+use fare_law::Mem;
+use filing_log::Front;
+use std::marker::Model;
+use std::sync::Arc;
+
+/// One who looks at what is published. It may go to another thread, and may be dropped at any time.
+#[derive(Drop)]
+pub struct Watch {
+    reader: EditionReader,
+    /// The number of the version that it saw last.
+    number: u32,
+    /// The longest history that it was told of.
+    told: Front,
+}
+
+impl Model for Watch {
+    ghost use Rattle.std.specs.Prelude.{◌≡◌, ◌≤◌, length, Some};
+    ghost use Rattle.left_right.specs.Sides.{view as known};
+    ghost use Rattle.fare_versions.specs.Seen.{Sight, seen_of, sight_of};
+
+    ghost Value = { Sight };
+
+    ghost view = { λ w. sight_of (known w.reader.place) w.told };
+
+    ghost invariant = { λ w. (known w.reader.place ≡ Some (seen_of (known w.reader.place))) × (w.told.house ≡ (seen_of (known w.reader.place)).house) × (w.number ≡ length (seen_of (known w.reader.place)).book.entries) × (length w.told.entries ≤ 1000000) };
+}
+
+impl Watch {
+    pub(crate) fn new(reader: EditionReader, edition: &Edition) -> Watch
+        requires { view reader.place ≡ Some edition.now }
+        ensures { HasSeen edition.now result }
+    {
+        let number = edition.number();
+        Watch {
+            reader,
+            number,
+            told: edition.front(),
+        }
+    }
+
+    /// The book that is published now: a version of the history that has all that this watch saw and was told
+    /// of. It holds up no one, neither here nor while the book is in use. Once the clerk has ended it answers
+    /// `Mem`.
+    pub fn look(&mut self) -> Result<Arc<Book>, Mem>
+        ensures seen { Grows (seen_by self.old) (seen_by self.new) }
+        ensures told { self.new.told ≡ self.old.told }
+        ensures book { IfOk result (λ b. arc_value b ≡ self.new.book) }
+        ensures learnt { IfOk result (λ b. IsPrefix self.old.told (arc_value b).entries) }
+    {
+        replace_with(self, (), |watch: Watch, _: ()| watch.looked())
+    }
+
+    /// The watch after it looked, and the answer.
+    fn looked(self) -> (Watch, Result<Arc<Book>, Mem>)
+        ensures seen { Grows (seen_by self) (seen_by result.0) }
+        ensures told { result.0.told ≡ self.told }
+        ensures book { IfOk result.1 (λ b. arc_value b ≡ result.0.book) }
+        ensures learnt { IfOk result.1 (λ b. IsPrefix self.told (arc_value b).entries) }
+    {
+        let Watch {
+            reader,
+            number,
+            told,
+        } = self;
+        match reader.enter_as::<Sees>() {
+            Ok(reading) => {
+                let edition = reading.get();
+                let number = edition.number();
+                let book = edition.book_after(&told);
+                let reader = reading.leave();
+                let watch = Watch {
+                    reader,
+                    number,
+                    told,
+                };
+                (watch, book)
+            }
+            Err(reader) => {
+                let watch = Watch {
+                    reader,
+                    number,
+                    told,
+                };
+                (watch, Err(Mem))
+            }
+        }
+    }
+
+    /// From now on it sees no less than was filed up to the receipt.
+    pub fn learn(&mut self, receipt: &Receipt)
+        requires { receipt.now.house ≡ self.old.house }
+        ensures seen { seen_by self.new ≡ seen_by self.old }
+        ensures told { IsPrefix self.old.told self.new.told }
+        ensures learnt { IsPrefix receipt.now.entries self.new.told }
+    {
+        self.told = self.told.longer(receipt.front());
+    }
+
+    /// The number of the version that it last saw or was told of, whichever is greater.
+    pub fn seen(&self) -> u32
+        ensures { result ≡ max (length self.now.book.entries) (length self.now.told) }
+    {
+        self.number.max(self.told.count() as u32)
+    }
+}
