@@ -1,20 +1,22 @@
-//! What small tickets cost, and what a ticket of one flight and one fare meets.
+//! What small tickets cost, what a ticket of one flight and one fare meets, and the first breach of tickets like it.
 ghost use Rattle.fare_law.specs.Days.{IsCalendarDay};
-ghost use Rattle.fare_law.specs.Limits.{IsSlice};
+ghost use Rattle.fare_law.specs.Limits.{IsRequest, IsSlice};
 
 use crate::filings::{LON, NYC, QX, fare, key, one};
 use fare_book::{Book, Timetable};
 use fare_law::{
-    Action, ArrayVec, Component, FareKind, FlightRow, List, PlaceRow, SeatRow, Slice, Ticket,
+    Action, ArrayVec, Component, FareKind, FlightRow, List, PlaceRow, Request, SeatRow, Slice,
+    Ticket,
 };
 use schedule_book::Schedule;
 use std::alloc::Global;
 use std::sync::Arc;
 use std::test::Fail;
 use ticket_demands::{
-    ComponentDemand, Demand, JourneyDemand, UnitDemand, component_meets, cuts_meet, part_meets,
-    price,
+    Breach, ComponentDemand, Demand, JourneyDemand, UnitDemand, component_meets, cuts_meet,
+    part_meets, price,
 };
+use ticket_whole::lawful;
 
 const PLACES: [PlaceRow; 2] = [
     PlaceRow {
@@ -54,8 +56,8 @@ const NINE: [u8; 32] = [
 /// No seat in any class.
 const NONE: [u8; 32] = [0; 32];
 
-/// The book of the flight with these seats and the fare.
-fn book(alloc: Global, seats: [u8; 32]) -> Result<Book, Fail> {
+/// The book of the flight with these seats, and no fare.
+fn unfiled(alloc: Global, seats: [u8; 32]) -> Result<Book, Fail> {
     let schedule = Schedule::build(alloc, &PLACES, &[ROW])?;
     let mut rows = List::new(alloc);
     rows.push(SeatRow {
@@ -67,7 +69,12 @@ fn book(alloc: Global, seats: [u8; 32]) -> Result<Book, Fail> {
         seats,
     })?;
     let timetable = Arc::new(alloc, Timetable::of(alloc, schedule, rows)?)?;
-    let opening = Book::empty(alloc, timetable)?;
+    Ok(Book::empty(alloc, timetable)?)
+}
+
+/// The book of the flight with these seats and the fare.
+fn book(alloc: Global, seats: [u8; 32]) -> Result<Book, Fail> {
+    let opening = unfiled(alloc, seats)?;
     let filing = one(alloc, Action::PutFare(fare(FareKind::O, 20000, 0)))?;
     Ok(opening.with(alloc, filing)?)
 }
@@ -179,6 +186,59 @@ fn meets_what_is_demanded_of_a_journey(rt: HostRuntime) -> Result<(), Fail> {
         assert!(rt; cuts_meet(demand, &[slice(22341)], flights, &book));
     }
     assert!(rt; !cuts_meet(JourneyDemand::Window, &[slice(22340)], flights, &book));
+    Ok(())
+}
+
+/// From London to New York for nine passengers, on this day.
+fn request(day: i32) -> Request
+    requires { IsCalendarDay day }
+    ensures { IsRequest result }
+{
+    let mut slices = ArrayVec::new();
+    slices.push(Slice {
+        from: LON,
+        to: NYC,
+        first: day,
+        days: 1,
+    });
+    Request {
+        sale: 22311,
+        party: 9,
+        best: 1,
+        slices,
+    }
+}
+
+#[test]
+fn names_the_first_breach(rt: HostRuntime) -> Result<(), Fail> {
+    let seated = book(rt.alloc(), NINE)?;
+    let sold_out = book(rt.alloc(), NONE)?;
+    let unfiled = unfiled(rt.alloc(), NINE)?;
+    let right = ticket(component(Some(0)));
+    let on_day = request(22341);
+    assert_eq!(rt; lawful(&right, &seated, &on_day), Ok(()));
+    let cases = [
+        ("no component", &Ticket::default(), &seated, 1, 0),
+        (
+            "an unknown flight",
+            &ticket(component(Some(1))),
+            &seated,
+            2,
+            1,
+        ),
+        ("no flight", &ticket(component(None)), &seated, 3, 1),
+        ("a fare that isn't live", &right, &unfiled, 11, 1),
+        ("no seats", &right, &sold_out, 14, 1),
+    ];
+    for (name, ticket, book, rule, component) in cases {
+        let breach = Breach { rule, component };
+        assert_eq!(rt; lawful(ticket, book, &on_day), Err(breach), "{name}");
+    }
+    let early = Breach {
+        rule: 10,
+        component: 0,
+    };
+    assert_eq!(rt; lawful(&right, &seated, &request(22340)), Err(early));
     Ok(())
 }
 
