@@ -1,6 +1,7 @@
-//! Residuals of a search, which keep what the rest of a ticket depends on, and in `specs/` their moves and
-//! runs. The layers above make residuals of given parts, and call the laws: runs from the root are the
-//! lawful tickets, the least runs are the best tickets, runs are short, residuals are ordered.
+//! Residuals of a search, which keep what the rest of a ticket depends on: where a search begins, what a
+//! move leaves, and all moves of a residual. The layers above make residuals of given parts, and call
+//! the laws: runs from the root are the lawful tickets, the least runs are the best tickets, runs are
+//! short, residuals are ordered.
 #![tactic(auto)]
 
 mod beginning;

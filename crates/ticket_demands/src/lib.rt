@@ -1,7 +1,7 @@
 //! What the law demands of a ticket, demand by demand, and what a ticket costs, lawful or not. What a
 //! component meets by itself and in its unit, and what the flights of all components meet, is told by
 //! a call each; the demands on labels and on the ticket as a whole, and its first breach, are stated in
-//! `specs/` alone. No call takes memory.
+//! `specs/` for the layer above. No call takes memory.
 #![tactic(auto)]
 
 mod breach;
