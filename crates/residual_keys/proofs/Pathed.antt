@@ -1,5 +1,5 @@
 -- The moves on a path: those filed forward and those in reverse, and no others.
-use Rattle.std.proofs.Common.{◌≡◌, ◌⊎◌, ℕ, Bool, true, false, List, [], slice_get, Option, Some, refl, sym, ap, subst, ◌∙◌, inl, inr}
+use Rattle.std.proofs.Common.{◌≡◌, ◌⊎◌, ℕ, Bool, true, false, List, [], slice_get, Option, Some, refl, ap, subst, ◌∙◌, inl, inr}
 use Rattle.fare_law.specs.declared.flights.Flight.{Flight}
 use Rattle.fare_law.specs.declared.moves.Role.{Role}
 use Rattle.fare_law.specs.declared.moves.Role.TheVariants.{Alone, Opens, GoesOn, Closes}
@@ -12,7 +12,6 @@ use Rattle.residual_keys.specs.declared.residual.Chosen.{Chosen}
 use Rattle.residual_keys.specs.Gathered.{Adds, IsChosenFiled, IsChosenOn, IsPathOf}
 use Rattle.residual_keys.specs.Residuals.{State, UnitStep, closes}
 use Rattle.residual_keys.proofs.Adding.{adds_like, adds_then}
-use Rattle.residual_keys.proofs.OneNext.{numbers_one}
 use Rattle.residual_keys.proofs.Runs.{flies_numbers}
 
 clash : {b : Bool} → b ≡ true → b ≡ false → ⊥
@@ -52,10 +51,3 @@ module _ (b : Book) (q : Request) (r : State) (ns : List ℕ) where
 
 pub path_numbers : (b : Book) (q : Request) (r : State) (path : Path) (fs : List Flight) → IsPathOf b q r path fs → Numbers b path.flights fs
 path_numbers b q r path fs h = flies_numbers b q.slices (Some r.at) path.after path.flights fs h.flies
-
--- the flights of a path are one, and those that are found by its numbers
-pub path_one : (b : Book) (q : Request) (r : State) (path : Path) (fs gs : List Flight) → IsPathOf b q r path fs → IsPathOf b q r path gs → fs ≡ gs
-path_one b q r path fs gs h k = numbers_one b path.flights fs gs (path_numbers b q r path fs h) (path_numbers b q r path gs k)
-
-pub path_found : (b : Book) (q : Request) (r : State) (path : Path) (fs : List Flight) (ns : List ℕ) (found given : List Flight) → IsPathOf b q r path fs → ns ≡ path.flights → ((gs : List Flight) → Numbers b ns gs → found ≡ gs) → given ≡ found → given ≡ fs
-path_found b q r path fs ns found given h e told is = is ∙ told fs (subst (λ xs. Numbers b xs fs) (sym e) (path_numbers b q r path fs h))

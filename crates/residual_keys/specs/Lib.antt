@@ -7,6 +7,7 @@ pub mod Short
 pub mod Kept
 pub mod Steps
 pub mod Gathered
+pub mod WaysOf
 pub mod AskedKeys
 pub mod ResidualText
 pub mod ResidualReading

@@ -20,6 +20,7 @@ mod stepping;
 #[cfg(test)]
 mod tests;
 mod text;
+mod way;
 mod words;
 
 pub use beginning::root;

@@ -12,18 +12,17 @@ take-requires g c =
     let b = c.args.book.now in
     let q = c.args.request.now in
     let r = c.args.residual.now in
-    let path = c.args.path.now in
-    let fs = c.args.flights.now in
+    let path = c.args.way.now.path in
+    let fs = c.args.way.now.flights in
     let sheet = arc_value c.args.sheet.now in
     let laws = c.order_laws.ensures in
-    key_within (record { legs = c.copied.result; sheet = c.in_ok-try_clone.field-0 }) c.args.legs.now fs sheet c.copied.ensures c.in_ok-try_clone.ensures c.requires.legs.flights
-    (path_some b q r path fs c.requires.path (flies_numbers b q.slices (Some r.at) path.after path.flights fs c.requires.path.flies)) c.requires.path.shape.few c.requires.flights
+    key_within (record { legs = c.copied.result; sheet = c.in_ok-try_clone.field-0 }) c.args.way.now.legs fs sheet c.copied.ensures c.in_ok-try_clone.ensures c.requires.way.legs.flights
+    (path_some b q r path fs c.requires.way.path (flies_numbers b q.slices (Some r.at) path.after path.flights fs c.requires.way.path.flies)) c.requires.way.path.shape.few c.requires.way.limits
     (is_sheet laws.less_never laws.less_trans laws.less_total b c.limits.ensures sheet c.requires.sheet) (rows_within laws.less_never laws.less_trans laws.less_total b c.limits.ensures sheet c.requires.sheet)
 
 pub add_offers-requires-clause-offered : goal.add_offers-requires-clause-offered
 add_offers-requires-clause-offered g c =
     let sheet = arc_value c.args.sheet.now in
     let rows = arc_value c.in_ok-offered.offered in
-    let on = offers_on (record { legs = c.copied.result; sheet = c.in_ok-try_clone.field-0 }) c.args.legs.now sheet rows c.copied.ensures c.in_ok-try_clone.ensures c.in_ok-offered.ensures.offers in
-    subst (OffersOn c.as_slice.result.now c.deref.result.now.rows) (sym (c.as_slice-2.ensures ∙ ap (λ x. x.rows) c.deref-2.ensures))
-    (subst (λ ls. OffersOn ls c.deref.result.now.rows rows.rows) (sym c.as_slice.ensures.items) (subst (λ s. OffersOn c.args.legs.now s.rows rows.rows) (sym c.deref.ensures) on))
+    let on = offers_on (record { legs = c.copied.result; sheet = c.in_ok-try_clone.field-0 }) c.args.way.now.legs sheet rows c.copied.ensures c.in_ok-try_clone.ensures c.in_ok-offered.ensures.offers in
+    subst (OffersOn c.args.way.now.legs c.deref-2.result.now.rows) (sym (c.as_slice-offered.ensures ∙ ap (λ x. x.rows) c.deref.ensures)) (subst (λ s. OffersOn c.args.way.now.legs s.rows rows.rows) (sym c.deref-2.ensures) on)
