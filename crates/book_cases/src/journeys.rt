@@ -189,9 +189,11 @@ fn is_closed(alloc: Global, book: &Book, request: &Request, round: &Chosen) -> R
     };
     let back = moves(alloc, book, request, open, &mut Plain)?;
     match back.as_slice() {
-        [half, whole] => Ok(takes(half, 1, b"R1", Role::Closes, 20000)
-            && takes(whole, 1, b"Y1", Role::Closes, 25000)
-            && half.next == Next::Done),
+        [half, whole] => Ok(
+            takes(half, 1, b"R1", Role::Closes, 20000)
+                && takes(whole, 1, b"Y1", Role::Closes, 25000)
+                && half.next == Next::Done,
+        ),
         _ => Ok(false),
     }
 }
@@ -212,14 +214,22 @@ fn begins_and_closes_a_round_trip(rt: HostRuntime) -> Result<(), Fail> {
     assert!(rt; takes(alone, 0, b"Y1", Role::Alone, 25000));
     assert!(rt; takes(opens, 0, b"Y1", Role::Opens, 25000));
     assert!(rt; round.next == opens.next);
-    assert!(rt; matches!(step(&book, &request, &start, &round.mv), Some(next) if next == round.next));
+    assert!(rt;
+        matches!(step(&book, &request, &start, &round.mv), Some(next) if next == round.next)
+    );
     let elsewhere = Move {
         slot: 1,
         ..round.mv.copied()
     };
     assert!(rt; step(&book, &request, &start, &elsewhere).is_none());
     assert!(rt; leaves(alloc, alone, b"1 0 NYC - 1 2 - 1:0:QX")?);
-    assert!(rt; leaves(alloc, round, b"1 0 NYC - 1 2 LON>NYC:1:22341:-:-:-:14:0:QX:0 1:0:QX")?);
+    assert!(rt;
+        leaves(
+            alloc,
+            round,
+            b"1 0 NYC - 1 2 LON>NYC:1:22341:-:-:-:14:0:QX:0 1:0:QX"
+        )?
+    );
     assert!(rt; is_closed(alloc, &book, &request, round)?);
     Ok(())
 }

@@ -1,7 +1,7 @@
 //! Paths of a search of six flights, two of them a connection each way.
 ghost use Rattle.std.specs.Prelude.{◌≡◌, length};
 
-use crate::{Path, Position, component_paths, root_position, slice_paths};
+use crate::{Path, Position, component_paths, path_of, root_position, slice_paths};
 use fare_law::{ArrayVec, Carrier, FlightRow, Place, PlaceRow, Request, Slice};
 use schedule_book::Schedule;
 use std::test::Fail;
@@ -162,6 +162,29 @@ fn at_dublin(slice: u8, lo: u32, hi: u32) -> Option<Position> {
         lo,
         hi,
     })
+}
+
+/// These numbers.
+fn numbers(first: u32, second: Option<u32>) -> ArrayVec<u32, 4> {
+    let mut numbers = ArrayVec::new();
+    numbers.push(first);
+    if let Some(second) = second {
+        numbers.push(second);
+    }
+    numbers
+}
+
+#[test]
+fn finds_the_path_of_given_flights(rt: HostRuntime) -> Result<(), Fail> {
+    let schedule = Schedule::build(rt.alloc(), &PLACES, &ROWS)?;
+    let request = request();
+    let root = root_position(&schedule, &request);
+    let by_dublin = path_of(&schedule, &request, &root, &numbers(0, Some(1)));
+    assert!(rt;
+        matches!(&by_dublin, Some(path) if matches!(path.after, Some(at) if at.slice == 1))
+    );
+    assert!(rt; path_of(&schedule, &request, &root, &numbers(1, None)).is_none());
+    Ok(())
 }
 
 /// Whether each path has these flights and leads there.
