@@ -87,11 +87,13 @@ fn put(alloc: Global) -> Result<Arc<Filing>, Mem>
 struct Answers {
     /// The versions that the watch sees: at first, after a filing, and once it has learnt a receipt.
     seen: [u32; 3],
+    /// The greatest version that the watch knows of by then.
+    known: u32,
     /// The version of the receipt of that filing.
     filed: u32,
     refused: Option<FileFault>,
-    /// The clerk's version at the end.
-    last: u32,
+    /// The clerk's version at the end, by its receipt and by its book.
+    last: [u32; 2],
 }
 
 /// A fare is put, and then another dropped that isn't there.
@@ -108,13 +110,15 @@ fn ask_all<R: Wait>(
     let second = watch.look()?.number();
     watch.learn(&clerk.tell());
     let third = watch.look()?.number();
+    let known = watch.seen();
     let drop = filing(alloc, Action::DropFare(key(b'B')))?;
     let refused = clerk.file(alloc, rt, drop).err();
     Ok(Answers {
         seen: [first, second, third],
+        known,
         filed: receipt.number(),
         refused,
-        last: clerk.tell().number(),
+        last: [clerk.tell().number(), clerk.book().number()],
     })
 }
 
@@ -136,9 +140,10 @@ fn publishes_what_is_filed(rt: HostRuntime) -> Result<(), Fail> {
     };
     let expected = Answers {
         seen: [0, 1, 1],
+        known: 1,
         filed: 1,
         refused: Some(FileFault::Refused(no_fare)),
-        last: 1,
+        last: [1, 1],
     };
     assert_eq!(rt; answers?, expected);
     assert_eq!(rt; count, 2);
