@@ -12,7 +12,7 @@ use Rattle.fare_law.specs.Parts.{Numbers}
 abbrev pub no_flight : Flight
 no_flight = record { carrier = record { 0 = [] }; number = 0; from = record { 0 = [] }; to = record { 0 = [] }; day = pos 0; minute = 0; dep = pos 0; arr = pos 0 }
 
-got_within : {X : Type 0} (xs : List X) (n : ℕ) (x : X) → slice_get xs n ≡ Some x → n < length xs
+pub got_within : {X : Type 0} (xs : List X) (n : ℕ) (x : X) → slice_get xs n ≡ Some x → n < length xs
 got_within [] n x h = cc
 got_within (y ∷ xs) zero x h = omega arith
 got_within (y ∷ xs) (suc n) x h = omega (arith, got_within xs n x h)

@@ -19,9 +19,9 @@ use Rattle.flight_paths.specs.declared.positions.Path.{Path}
 use Rattle.flight_paths.specs.Positions.{IsPath}
 use Rattle.residual_keys.specs.AskedKeys.{IsKey, IsLeg}
 use Rattle.residual_keys.specs.declared.residual.Chosen.{Chosen}
-use Rattle.residual_keys.specs.Gathered.{Adds, FiledOver, IsChosenFiled, IsPathOf, MarketOver}
+use Rattle.residual_keys.specs.Gathered.{Adds, FiledOver, IsChosenFiled, IsPathOf}
 use Rattle.residual_keys.specs.Residuals.{State}
-use Rattle.residual_keys.specs.Steps.{KeyOn}
+use Rattle.residual_keys.specs.Steps.{KeyOn, MarketOver}
 use Rattle.residual_keys.proofs.Adding.{adds_none}
 use Rattle.residual_keys.proofs.Offered.{filed_market}
 use Rattle.residual_keys.proofs.Sheeted.{sheet_one}

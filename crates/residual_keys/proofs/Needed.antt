@@ -9,7 +9,7 @@ use Rattle.residual_keys.specs.Searches.{AreNeeded, Reached}
 use Rattle.residual_keys.proofs.LeastOne.{k_least_one}
 use Rattle.residual_keys.proofs.Ordered.{states}
 
-each_from : {X : Type 0} (P : X → Type 0) (xs : List X) → ((x : X) → IsIn x xs → P x) → Each P xs
+pub each_from : {X : Type 0} (P : X → Type 0) (xs : List X) → ((x : X) → IsIn x xs → P x) → Each P xs
 each_from P [] f = tt
 each_from P (x ∷ xs) f = (f x (inl refl), each_from P xs (λ y i. f y (inr i)))
 

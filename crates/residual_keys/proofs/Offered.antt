@@ -1,5 +1,5 @@
 -- The moves with the fares of a sheet, offer by offer.
-use Rattle.std.proofs.Common.{◌≡◌, ◌⊎◌, ℕ, zero, suc, ◌+◌, ◌<◌, Bool, true, false, Option, List, [], ◌∷◌, ◌++◌, length, take, get_or, slice_get, MatchBool, Some, refl, sym, ap, subst, ◌∙◌, inl, inr, arith}
+use Rattle.std.proofs.Common.{◌≡◌, ◌⊎◌, ℕ, zero, suc, ◌+◌, ◌<◌, Bool, true, false, List, [], ◌∷◌, ◌++◌, length, take, get_or, slice_get, MatchBool, Some, refl, sym, ap, subst, ◌∙◌, inl, inr, arith}
 use Rattle.std.proofs.Math.Seq.{take-suc}
 use Rattle.fare_book.specs.Keeping.{Limited}
 use Rattle.fare_component.specs.declared.offer.Offer.{Offer}
@@ -22,15 +22,15 @@ use Rattle.fare_law.specs.Sheets.{IsLiveRow, RowBefore, Sheet, SheetOf}
 use Rattle.flight_paths.specs.declared.positions.Path.{Path}
 use Rattle.flight_paths.specs.Positions.{IsPath}
 use Rattle.residual_keys.specs.declared.residual.Chosen.{Chosen}
-use Rattle.residual_keys.specs.Gathered.{Adds, AreLegs, FiledOver, IsChosenFiled, IsChosenWith, IsOfferOn, IsOfferedOver, IsPathOf, MarketOver, OffersOn}
+use Rattle.residual_keys.specs.Gathered.{Adds, AreLegs, FiledOver, IsChosenFiled, IsChosenWith, IsOfferOn, IsOfferedOver, IsPathOf, OffersOn}
 use Rattle.residual_keys.specs.Residuals.{State}
-use Rattle.residual_keys.specs.Steps.{IsChosen, KeyOn}
+use Rattle.residual_keys.specs.Steps.{KeyOn, MarketOver}
 use Rattle.residual_keys.proofs.Adding.{adds_like, adds_none, adds_then, in_either, in_left, in_right}
-use Rattle.residual_keys.proofs.Components.{on_last_to}
-use Rattle.residual_keys.proofs.OneNext.{last_one}
+use Rattle.residual_keys.proofs.Components.{got_within, on_last_to}
+use Rattle.residual_keys.proofs.OneNext.{last_one, some_one}
 use Rattle.residual_keys.proofs.Sheeted.{got_in, place_of, places_apart}
 use Rattle.residual_keys.proofs.StepFacts.{moves_key}
-use Rattle.residual_keys.proofs.StepTaken.{flights_same, move_offered}
+use Rattle.residual_keys.proofs.StepTaken.{flights_same, move_offered, whole}
 
 -- a move with the fare of the row at an offer's place
 pub record IsAt (rows : List SheetRow) (o : Offer) (c : Chosen) : Type 0 where
@@ -45,14 +45,6 @@ pub record Upto (b : Book) (q : Request) (r : State) (ns : List ℕ) (reverse : 
   pub offer : Offer
   pub within : IsIn offer offers
   pub at : IsAt rows offer c
-
-some_one : {X : Type 0} (o : Option X) (x y : X) → o ≡ Some x → o ≡ Some y → x ≡ y
-some_one o x y h k = cc
-
-got_within : {X : Type 0} (xs : List X) (n : ℕ) (x : X) → slice_get xs n ≡ Some x → n < length xs
-got_within [] n x h = cc
-got_within (y ∷ xs) zero x h = omega arith
-got_within (y ∷ xs) (suc n) x h = omega (arith, got_within xs n x h)
 
 -- an element that is read from a list
 pub got_read : {X : Type 0} (xs : List X) (n : ℕ) (d : X) → n < length xs → slice_get xs n ≡ Some (get_or xs n d)
@@ -143,7 +135,7 @@ module _ (b : Book) (q : Request) (r : State) (path : Path) (fs : List Flight) (
       let live : IsLiveRow b sheet.from sheet.to row = record { filed_from = ends.0; filed_to = ends.1; fare = h.stands.fare; rule = h.stands.rule } in
       let place = place_of sheet.rows row ((s.live row).1 live) in
       let class = (limited.fares p.fare.key p.fare h.stands.fare).1.class in
-      let offered = move_offered b q r m fs path.after at_path row legs (record { key = key; fare = h.stands.fare; rule = h.stands.rule }) are.each are.flights (omega (arith, class)) c.next (c.price, whole c chosen) in
+      let offered = move_offered b q r m fs path.after at_path row legs (record { key = key; fare = h.stands.fare; rule = h.stands.rule }) are.each are.flights (omega (arith, class)) c.next (c.price, (whole b q r c).0 chosen) in
       let o : Offer = record { place = place.0; price = row_price (flights_of legs) row } in
       record {
         filed = ((chosen, ns), way);
@@ -151,9 +143,6 @@ module _ (b : Book) (q : Request) (r : State) (path : Path) (fs : List Flight) (
         within = (on.exact o).1 (record { row = row; stands = place.1; offered = offered; costs = refl });
         at = record { row = row; stands = place.1; carrier = h.carrier; basis = h.basis };
       }
-    where
-      whole : (c : Chosen) → IsChosen b q r c → IsChosen b q r (record { mv = c.mv; price = c.price; next = c.next })
-      whole c h = record { flights = h.flights; piece = h.piece; after = h.after; units = h.units; moves = h.moves; costs = h.costs; left = h.left }
 
   pub all_upto : (old new : List Chosen) → Adds (Upto b q r path.flights reverse sheet.rows offers) old new → Adds (IsChosenFiled b q r path.flights reverse) old new
   all_upto old new h = adds_like (Upto b q r path.flights reverse sheet.rows offers) (IsChosenFiled b q r path.flights reverse) old new h (λ c. (λ u. u.filed, λ k. offer_of c k))

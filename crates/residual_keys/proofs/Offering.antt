@@ -15,11 +15,11 @@ use Rattle.flight_paths.specs.Positions.{IsPath}
 use Rattle.residual_keys.specs.declared.residual.Chosen.{Chosen}
 use Rattle.residual_keys.specs.Gathered.{Adds, AreLegs, IsChoice, IsChoiceOf, IsChosenWith, IsOfferedOver, IsPathOf}
 use Rattle.residual_keys.specs.Residuals.{State, closes}
-use Rattle.residual_keys.specs.Steps.{IsChosen, IsLiveOn, Leaves}
+use Rattle.residual_keys.specs.Steps.{IsLiveOn, Leaves}
 use Rattle.residual_keys.proofs.Adding.{adds_like}
 use Rattle.residual_keys.proofs.OneNext.{direction}
 use Rattle.residual_keys.proofs.StepFacts.{IsOver, offered_lawful}
-use Rattle.residual_keys.proofs.StepTaken.{cost_is, missed, numbered_some, taken_at}
+use Rattle.residual_keys.proofs.StepTaken.{cost_is, missed, numbered_some, taken_at, whole}
 
 -- what the calls know of the component over a row
 pub record IsPieceOf (q : Request) (reverse : Bool) (fs : List Flight) (row : SheetRow) (p : Piece) : Type 0 where
@@ -70,24 +70,18 @@ module _ (b : Book) (q : Request) (r : State) (path : Path) (fs : List Flight) (
       let way : closes m.role ≡ reverse = ap closes role_is ∙ sym (direction role slot r.units h.leaves.units p h.leaves.step) ∙ k.reverse_is in
       let leaves : Leaves r path.after p m.role m.slot c.next = subst (λ x. Leaves r path.after p x m.slot c.next) (sym role_is) (subst (λ x. Leaves r path.after p role x c.next) (sym slot_is) h.leaves) in
       let t = taken_at b q r m fs path.after (path_of m ns) row p (live m way carrier basis) (over m way) lawful c.price (h.price_is ∙ price_same) c.next leaves in
-      (((whole c t, ns), way), carrier, basis)
-    where
-      whole : (c : Chosen) → IsChosen b q r (record { mv = c.mv; price = c.price; next = c.next }) → IsChosen b q r c
-      whole c h = record { flights = h.flights; piece = h.piece; after = h.after; units = h.units; moves = h.moves; costs = h.costs; left = h.left }
+      ((((whole b q r c).1 t, ns), way), carrier, basis)
 
   to_choice : (c : Chosen) → IsChosenWith b q r path.flights reverse row c → IsChoiceOf r path.flights path.after p price c
   to_choice c (((chosen, ns), way), carrier, basis) =
       let m = c.mv in
-      let s = missed b q r m fs path.after (path_of m ns) row p (live m way carrier basis) (over m way) c.next (c.price, whole c chosen) in
-      let costs = cost_is b q r m fs path.after (path_of m ns) row p (live m way carrier basis) (over m way) c.price c.next (whole c chosen) in
+      let s = missed b q r m fs path.after (path_of m ns) row p (live m way carrier basis) (over m way) c.next (c.price, (whole b q r c).0 chosen) in
+      let costs = cost_is b q r m fs path.after (path_of m ns) row p (live m way carrier basis) (over m way) c.price c.next ((whole b q r c).0 chosen) in
       let move : m ≡ record { flights = path.flights; carrier = p.fare.key.carrier; basis = p.fare.key.basis; role = m.role; slot = m.slot } =
       (let x = carrier ∙ sym (ap (λ f. f.key.carrier) k.fare) in
       let y = basis ∙ sym (ap (λ f. f.key.basis) k.fare) in
       λ i. record { flights = ns i; carrier = x i; basis = y i; role = m.role; slot = m.slot }) in
       (m.role, m.slot, record { move = move; price_is = costs ∙ sym price_same; leaves = s.1 })
-    where
-      whole : (c : Chosen) → IsChosen b q r c → IsChosen b q r (record { mv = c.mv; price = c.price; next = c.next })
-      whole c h = record { flights = h.flights; piece = h.piece; after = h.after; units = h.units; moves = h.moves; costs = h.costs; left = h.left }
 
   pub adds_chosen : (old new : List Chosen) → Adds (IsChoiceOf r path.flights path.after p price) old new → Adds (IsChosenWith b q r path.flights reverse row) old new
   adds_chosen old new h = adds_like (IsChoiceOf r path.flights path.after p price) (IsChosenWith b q r path.flights reverse row) old new h (λ c. (λ k. to_chosen c k.0 k.1 k.2, to_choice c))

@@ -16,7 +16,7 @@ use Rattle.residual_keys.specs.Gathered.{Adds, IsChosenOn, IsPathOf}
 use Rattle.residual_keys.specs.Residuals.{State}
 use Rattle.residual_keys.specs.Steps.{IsChosen}
 use Rattle.residual_keys.proofs.Adding.{adds_like, adds_none, adds_then, in_either, in_left, in_right}
-use Rattle.residual_keys.proofs.StepTaken.{slice_known}
+use Rattle.residual_keys.proofs.StepTaken.{slice_known, whole}
 
 -- a move on one of these paths
 pub record OnPaths (b : Book) (q : Request) (r : State) (paths : List Path) (c : Chosen) : Type 0 where
@@ -120,7 +120,7 @@ module _ (b : Book) (q : Request) (r : State) (paths : List Path) where
 
 -- a residual past the last slice has no move and no key
 pub no_slice : (b : Book) (q : Request) (r : State) (old : List Chosen) → length q.slices ≤ r.at.slice → Adds (IsChosen b q r) old old
-no_slice b q r old le = adds_none (IsChosen b q r) old (λ c h. absurd (let lt = slice_known b q r c.mv c.next (c.price, record { flights = h.flights; piece = h.piece; after = h.after; units = h.units; moves = h.moves; costs = h.costs; left = h.left }) in omega (arith, lt, le)))
+no_slice b q r old le = adds_none (IsChosen b q r) old (λ c h. absurd (let lt = slice_known b q r c.mv c.next (c.price, (whole b q r c).0 h) in omega (arith, lt, le)))
 
 -- each move has a carrier and a basis that are well formed
 pub all_coded : (b : Book) (q : Request) (r : State) → HasKeys b → (cs : List Chosen) → ((c : Chosen) → IsIn c cs → IsChosen b q r c) → Each (λ c. Coded c.mv) cs

@@ -17,10 +17,8 @@ use Rattle.fare_law.specs.Lists.{AllDifferent, Each, EachPair, IsIn, KLeast}
 use Rattle.fare_law.specs.Order.{Less}
 use Rattle.fare_law.specs.Sheets.{IsLiveRow, IsSheet, RowBefore, Sheet, SheetOf}
 use Rattle.residual_keys.proofs.LeastOne.{k_least_one}
-
-each_from : {X : Type 0} (P : X → Type 0) (xs : List X) → ((x : X) → IsIn x xs → P x) → Each P xs
-each_from P [] f = tt
-each_from P (x ∷ xs) f = (f x (inl refl), each_from P xs (λ y i. f y (inr i)))
+use Rattle.residual_keys.proofs.Needed.{each_from}
+use Rattle.residual_keys.proofs.OneNext.{some_one}
 
 pub got_in : {X : Type 0} (xs : List X) (n : ℕ) (x : X) → slice_get xs n ≡ Some x → IsIn x xs
 got_in [] n x e = cc
@@ -31,9 +29,6 @@ pub place_of : {X : Type 0} (xs : List X) (x : X) → IsIn x xs → (n : ℕ) ×
 place_of [] x i = absurd i
 place_of (y ∷ xs) x (inl e) = (0, ap Some (sym e))
 place_of (y ∷ xs) x (inr i) = let r = place_of xs x i in (suc r.0, r.1)
-
-some_one : {X : Type 0} (o : Option X) (x y : X) → o ≡ Some x → o ≡ Some y → x ≡ y
-some_one o x y h k = cc
 
 is_some : {X : Type 0} (o : Option X) (x : X) → o ≡ Some x → IsSome o
 is_some None x e = cc

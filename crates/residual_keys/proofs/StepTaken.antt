@@ -1,5 +1,5 @@
 -- A move over given flights is the step that the calls take.
-use Rattle.std.proofs.Common.{◌≡◌, ℕ, zero, suc, ◌≤◌, ◌<◌, Bool, true, false, List, [], ◌∷◌, length, slice_get, Option, Some, None, IfNone, IfSome, sym, refl, ap, ap₂, ◌∙◌, subst, arith}
+use Rattle.std.proofs.Common.{◌≡◌, ◌↔◌, ℕ, ◌≤◌, ◌<◌, Bool, true, false, List, [], ◌∷◌, length, Option, Some, None, IfNone, IfSome, sym, refl, ap, ap₂, ◌∙◌, subst, arith}
 use Rattle.fare_law.specs.declared.fares.FareKey.{FareKey}
 use Rattle.fare_law.specs.declared.flights.Flight.{Flight}
 use Rattle.fare_law.specs.declared.moves.Move.{Move}
@@ -14,10 +14,12 @@ use Rattle.fare_law.specs.Parts.{ComponentLawful, Numbers, StandsFor, price_of}
 use Rattle.flight_paths.specs.declared.positions.Position.{Position}
 use Rattle.flight_paths.specs.Positions.{Flies, IsPath}
 use Rattle.open_unit.specs.declared.units.OpenUnit.{OpenUnit}
+use Rattle.residual_keys.specs.declared.residual.Chosen.{Chosen}
 use Rattle.residual_keys.specs.declared.residual.Next.{Next}
 use Rattle.residual_keys.specs.Residuals.{Moves, PartAllows, State, UnitStep, begins, closes, part_with}
 use Rattle.residual_keys.specs.Steps.{IsChosen, IsLiveOn, KeyOn, Leaves, StepsTo, left_at}
 use Rattle.residual_keys.specs.AskedKeys.{IsLeg}
+use Rattle.residual_keys.proofs.Components.{got_within}
 use Rattle.residual_keys.proofs.OneNext.{direction, flies_one, numbers_one, piece_one, some_one}
 use Rattle.residual_keys.proofs.Runs.{flies_numbers}
 use Rattle.residual_keys.proofs.StepFacts.{IsOver, key_directed, keys_one, lawful_offered, moves_key, row_stands}
@@ -120,6 +122,13 @@ module _ (b : Book) (q : Request) (r : State) (m : Move) (fs : List Flight) (aft
         let e = piece_same c.flights c.piece c.after c.units c.moves in
         c.costs ∙ ap₂ price_of s.0 e
 
+-- a move is its parts put together
+pub whole : (b : Book) (q : Request) (r : State) (c : Chosen) → IsChosen b q r c ↔ IsChosen b q r (record { mv = c.mv; price = c.price; next = c.next })
+whole b q r c = (
+  λ h. record { flights = h.flights; piece = h.piece; after = h.after; units = h.units; moves = h.moves; costs = h.costs; left = h.left },
+  λ h. record { flights = h.flights; piece = h.piece; after = h.after; units = h.units; moves = h.moves; costs = h.costs; left = h.left },
+)
+
 -- a live fare of the key that a move names
 pub live_on : (b : Book) (m : Move) (fs : List Flight) (key : FareKey) (row : SheetRow) → KeyOn m fs key → live_fare b key ≡ Some row.fare → live_rule b key.carrier row.fare.rule ≡ Some row.rule → key ≡ row.fare.key → IsLiveOn b m fs row
 live_on b m fs key row on fare rule e = record { key = subst (KeyOn m fs) e on; fare = subst (λ k. live_fare b k ≡ Some row.fare) e fare; rule = subst (λ k. live_rule b k.carrier row.fare.rule ≡ Some row.rule) e rule }
@@ -128,11 +137,6 @@ live_on b m fs key row on fare rule e = record { key = subst (KeyOn m fs) e on; 
 pub path_known : (b : Book) (q : Request) (r : State) (ns : List ℕ) (fs : List Flight) (next : Option Position) → IsPath b q.slices r.at ns fs next → r.at.slice < length q.slices
 path_known b q r ns fs next h = go ns fs h.some h.flies
   where
-    got_within : {X : Type 0} (xs : List X) (n : ℕ) (x : X) → slice_get xs n ≡ Some x → n < length xs
-    got_within [] n x h = cc
-    got_within (y ∷ xs) zero x h = omega arith
-    got_within (y ∷ xs) (suc n) x h = omega (arith, got_within xs n x h)
-
     go : (ns : List ℕ) (fs : List Flight) → (ns ≡ [] → ⊥) → Flies b q.slices (Some r.at) ns fs next → r.at.slice < length q.slices
     go [] fs some h = absurd (some refl)
     go (n ∷ ns) [] some h = absurd h

@@ -1,17 +1,16 @@
 -- What calls add to a list of moves: those of one component, of one sheet, of one path.
-use Rattle.std.specs.Prelude.{◌≡◌, ◌↔◌, ℕ, Bool, List, ◌++◌, map, slice_get, MatchBool, Option, Some}
+use Rattle.std.specs.Prelude.{◌≡◌, ◌↔◌, ℕ, Bool, List, ◌++◌, map, slice_get, Option, Some}
 use Rattle.fare_component.specs.declared.offer.Offer.{Offer}
 use Rattle.fare_component.specs.Offers.{StandsBefore}
 use Rattle.fare_law.specs.declared.fares.FareKey.{FareKey}
 use Rattle.fare_law.specs.declared.flights.Flight.{Flight}
 use Rattle.fare_law.specs.declared.moves.Role.{Role}
-use Rattle.fare_law.specs.declared.names.Place.{Place}
 use Rattle.fare_law.specs.declared.requests.Request.{Request}
 use Rattle.fare_law.specs.declared.sheets.Leg.{Leg}
 use Rattle.fare_law.specs.declared.sheets.SheetRow.{SheetRow}
 use Rattle.fare_law.specs.declared.tickets.Piece.{Piece}
 use Rattle.fare_law.specs.Book.{Book, live_fare, live_rule}
-use Rattle.fare_law.specs.Lists.{AllDifferent, EachPair, IsIn, Matched, OnFirst, OnLast}
+use Rattle.fare_law.specs.Lists.{AllDifferent, EachPair, IsIn, Matched}
 use Rattle.fare_law.specs.Offers.{IsOffered, flights_of, row_price}
 use Rattle.flight_paths.specs.declared.positions.Path.{Path}
 use Rattle.flight_paths.specs.declared.positions.Position.{Position}
@@ -19,7 +18,7 @@ use Rattle.flight_paths.specs.Positions.{IsPath}
 use Rattle.residual_keys.specs.AskedKeys.{IsLeg}
 use Rattle.residual_keys.specs.declared.residual.Chosen.{Chosen}
 use Rattle.residual_keys.specs.Residuals.{State, closes}
-use Rattle.residual_keys.specs.Steps.{IsChosen, Leaves}
+use Rattle.residual_keys.specs.Steps.{IsChosen, Leaves, MarketOver}
 
 -- To a list were added exactly those that meet this, each move once.
 pub record Adds (P : Chosen → Type 0) (old new : List Chosen) : Type 0 where
@@ -52,11 +51,7 @@ IsChosenWith b q r ns reverse row c = IsChosenFiled b q r ns reverse c × (c.mv.
 
 -- the fare is filed from the beginning of these flights to their end, or in reverse
 abbrev pub FiledOver : Bool → List Flight → FareKey → Type 0
-FiledOver reverse fs key = OnFirst (λ f. OnLast (λ z. MatchBool reverse ((key.from ≡ z.to) × (key.to ≡ f.from)) ((key.from ≡ f.from) × (key.to ≡ z.to))) fs) fs
-
--- fares from the one place to the other are filed from the beginning of these flights to their end, or in reverse
-abbrev pub MarketOver : Bool → List Flight → Place → Place → Type 0
-MarketOver reverse fs from to = OnFirst (λ f. OnLast (λ z. MatchBool reverse ((from ≡ z.to) × (to ≡ f.from)) ((from ≡ f.from) × (to ≡ z.to))) fs) fs
+FiledOver reverse fs key = MarketOver reverse fs key.from key.to
 
 -- The flights as legs, with the classes that have seats for the party.
 pub record AreLegs (b : Book) (q : Request) (fs : List Flight) (legs : List Leg) : Type 0 where

@@ -1,9 +1,10 @@
 -- What a move leaves, and the moves of a state as a list.
-use Rattle.std.specs.Prelude.{◌≡◌, ◌↔◌, ℕ, List, [], Option, Some, None, IfNone, MatchBool}
+use Rattle.std.specs.Prelude.{◌≡◌, ◌↔◌, ℕ, Bool, List, [], Option, Some, None, IfNone, MatchBool}
 use Rattle.fare_law.specs.declared.fares.FareKey.{FareKey}
 use Rattle.fare_law.specs.declared.flights.Flight.{Flight}
 use Rattle.fare_law.specs.declared.moves.Move.{Move}
 use Rattle.fare_law.specs.declared.moves.Role.{Role}
+use Rattle.fare_law.specs.declared.names.Place.{Place}
 use Rattle.fare_law.specs.declared.requests.Request.{Request}
 use Rattle.fare_law.specs.declared.tickets.Piece.{Piece}
 use Rattle.fare_law.specs.declared.sheets.SheetRow.{SheetRow}
@@ -20,11 +21,15 @@ use Rattle.residual_keys.specs.declared.residual.Next.{Next}
 use Rattle.residual_keys.specs.declared.residual.Next.TheVariants.{At, Done}
 use Rattle.residual_keys.specs.Residuals.{State, Moves, PartAllows, UnitStep, begins, closes, part_with}
 
+-- the one place is the beginning of these flights and the other their end, or for fares in reverse the other way round
+abbrev pub MarketOver : Bool → List Flight → Place → Place → Type 0
+MarketOver reverse fs from to = OnFirst (λ f. OnLast (λ z. MatchBool reverse ((from ≡ z.to) × (to ≡ f.from)) ((from ≡ f.from) × (to ≡ z.to))) fs) fs
+
 -- The key of the fare that a move names on these flights: filed from their beginning to their end, or for the last of a unit from their end to their beginning.
 pub record KeyOn (m : Move) (fs : List Flight) (key : FareKey) : Type 0 where
   pub carrier : key.carrier ≡ m.carrier
   pub basis : key.basis ≡ m.basis
-  pub ends : OnFirst (λ f. OnLast (λ z. MatchBool (closes m.role) ((key.from ≡ z.to) × (key.to ≡ f.from)) ((key.from ≡ f.from) × (key.to ≡ z.to))) fs) fs
+  pub ends : MarketOver (closes m.role) fs key.from key.to
 
 -- The row is the live fare of the key that a move names on these flights, with its live rule.
 pub record IsLiveOn (b : Book) (m : Move) (fs : List Flight) (row : SheetRow) : Type 0 where

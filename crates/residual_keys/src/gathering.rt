@@ -8,7 +8,8 @@ ghost use Rattle.fare_law.specs.Limits.{IsFare, IsRequest};
 ghost use Rattle.fare_law.specs.RuleLimits.{IsRule};
 ghost use Rattle.fare_law.specs.Sheets.{SheetOf};
 ghost use Rattle.residual_keys.specs.AskedKeys.{IsKey, KeyOfFlights};
-ghost use Rattle.residual_keys.specs.Gathered.{Adds, IsChosenFiled, IsChosenOn, IsChosenWith, IsOfferedOver, IsPathOf, MarketOver, OffersOn};
+ghost use Rattle.residual_keys.specs.Gathered.{Adds, IsChosenFiled, IsChosenOn, IsChosenWith, IsOfferedOver, IsPathOf, OffersOn};
+ghost use Rattle.residual_keys.specs.Steps.{MarketOver};
 ghost use Rattle.residual_keys.specs.WaysOf.{IsWayOf};
 
 use crate::choices::add_choices;
