@@ -4,9 +4,11 @@ use Rattle.fare_law.specs.declared.moves.Move.{Move}
 use Rattle.fare_law.specs.declared.requests.Request.{Request}
 use Rattle.fare_law.specs.declared.tickets.Ticket.{Ticket}
 use Rattle.fare_law.specs.Book.{Book}
-use Rattle.fare_law.specs.Lists.{Each, IsPrefix, Matched}
-use Rattle.fare_law.specs.Moves.{moves_of, run_code}
-use Rattle.fare_law.specs.Order.{Before, Best, Cheaper, HasKeys, Less, code}
+use Rattle.fare_law.specs.Lists.{Each, IsPrefix, Matched, Less}
+use Rattle.fare_law.specs.Moves.{moves_of}
+use Rattle.fare_law.specs.Codes.{run_code, code}
+use Rattle.fare_law.specs.Best.{Before, Best, Cheaper}
+use Rattle.fare_law.specs.Limits.{HasKeys}
 use Rattle.fare_law.specs.Flights.{Ascending}
 use Rattle.residual_keys.specs.NothingLost.{OneTicket, RunsAreTickets, TicketsAreRuns}
 use Rattle.residual_keys.specs.OneNext.{MoveLeavesOne, RunGoesOn, RunHasKeys}

@@ -7,8 +7,8 @@ use Rattle.certificate.proofs.OneFirst.{neither_less}
 use Rattle.fare_law.specs.declared.requests.Request.{Request}
 use Rattle.fare_law.specs.declared.tickets.Ticket.{Ticket}
 use Rattle.fare_law.specs.Book.{Book}
-use Rattle.fare_law.specs.Moves.{run_code}
-use Rattle.fare_law.specs.Order.{Before, Cheaper, Costs, code}
+use Rattle.fare_law.specs.Codes.{run_code, code}
+use Rattle.fare_law.specs.Best.{Before, Cheaper, Costs}
 
 module _ (known : Known) (b : Book) (q : Request) where
   -- a ticket costs one price

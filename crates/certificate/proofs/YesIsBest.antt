@@ -20,8 +20,9 @@ use Rattle.fare_law.specs.declared.tickets.Ticket.{Ticket}
 use Rattle.fare_law.specs.Book.{Book}
 use Rattle.fare_law.specs.Lawful.{Lawful}
 use Rattle.fare_law.specs.Lists.{Each, EachPair, IsIn, Matched, OnLast}
-use Rattle.fare_law.specs.Moves.{moves_of, run_code}
-use Rattle.fare_law.specs.Order.{Before, Best, Cheaper, code}
+use Rattle.fare_law.specs.Moves.{moves_of}
+use Rattle.fare_law.specs.Codes.{run_code, code}
+use Rattle.fare_law.specs.Best.{Before, Best, Cheaper}
 use Rattle.fare_law.specs.Parts.{price_of}
 use Rattle.flight_paths.specs.declared.positions.Position.{Position}
 use Rattle.flight_paths.specs.Positions.{before_slice}

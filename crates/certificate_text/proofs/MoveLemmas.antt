@@ -20,8 +20,8 @@ use Rattle.fare_law.specs.declared.moves.Role.TheVariants.{Alone, Opens, GoesOn,
 use Rattle.fare_law.specs.declared.names.Basis.{Basis}
 use Rattle.fare_law.specs.declared.names.Carrier.{Carrier}
 use Rattle.fare_law.specs.Lists.{Each}
-use Rattle.fare_law.specs.Moves.{role_code}
-use Rattle.fare_law.specs.Order.{IsBasis, IsCarrier, IsCharacter}
+use Rattle.fare_law.specs.Codes.{role_code}
+use Rattle.fare_law.specs.Names.{IsBasis, IsCarrier, IsCharacter}
 use Rattle.name_text.specs.Names.{basis_of, carrier_of, is_character}
 use Rattle.residual_keys.specs.ResidualText.{Spells, residual_text}
 use Rattle.residual_keys.specs.Residuals.{State}

@@ -14,7 +14,7 @@ use Rattle.fare_law.specs.declared.names.Basis.{Basis}
 use Rattle.fare_law.specs.declared.names.Carrier.{Carrier}
 use Rattle.fare_law.specs.declared.names.Place.{Place}
 use Rattle.fare_law.specs.Book.{same_key}
-use Rattle.fare_law.specs.Order.{Less}
+use Rattle.fare_law.specs.Lists.{Less}
 use Rattle.fare_book.proofs.RowOrder.{words_told}
 use Rattle.fare_book.proofs.SameKeys.{same_fares_tell}
 

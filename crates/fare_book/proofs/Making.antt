@@ -20,8 +20,7 @@ use Rattle.fare_law.specs.declared.names.Place.{Place}
 use Rattle.fare_law.specs.declared.rules.Rule.{Rule}
 use Rattle.fare_law.specs.declared.sheets.SheetRow.{SheetRow}
 use Rattle.fare_law.specs.Book.{Book, live_fare, live_rule, same_key}
-use Rattle.fare_law.specs.Lists.{AllDifferent, Each, EachPair, IsIn, Matched}
-use Rattle.fare_law.specs.Order.{Less}
+use Rattle.fare_law.specs.Lists.{AllDifferent, Each, EachPair, IsIn, Matched, Less}
 use Rattle.fare_law.specs.Sheets.{IsLiveRow, IsSheet, RowBefore, Sheet, SheetOf}
 use Rattle.fare_book.specs.Keeping.{IsLive, Rules}
 use Rattle.fare_book.specs.Ready.{MakesSheet}

@@ -12,9 +12,8 @@ use Rattle.fare_law.specs.declared.filings.SeatKey.{SeatKey}
 use Rattle.fare_law.specs.Book.{Book, live_fare, live_rule, live_seats}
 use Rattle.fare_law.specs.Faults.{Legal}
 use Rattle.fare_law.specs.FilingLimits.{IsFiling}
-use Rattle.fare_law.specs.Limits.{IsFare}
+use Rattle.fare_law.specs.Limits.{IsFare, HasKeys}
 use Rattle.fare_law.specs.Lists.{Each}
-use Rattle.fare_law.specs.Order.{HasKeys}
 use Rattle.fare_law.specs.RuleLimits.{IsRule}
 use Rattle.fare_law.specs.Sheets.{Sheet, SheetOf}
 use Rattle.fare_book.specs.Counts.{AtMost, Exactly}

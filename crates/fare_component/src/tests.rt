@@ -3,7 +3,7 @@
 ghost use Rattle.std.specs.Prelude.{◌≡◌, ◌<◌, ◌≤◌, [], ◌∷◌, IfOk};
 ghost use Rattle.fare_law.specs.Days.{IsCalendarDay};
 ghost use Rattle.fare_law.specs.Limits.{IsPlace};
-ghost use Rattle.fare_law.specs.Order.{IsCarrier};
+ghost use Rattle.fare_law.specs.Names.{IsCarrier};
 ghost use Rattle.fare_law.specs.RuleLimits.{IsListOf, IsRule};
 ghost use Rattle.fare_component.specs.Keys.{IsKey, IsLeg, IsRow};
 

@@ -13,10 +13,12 @@ use Rattle.fare_law.specs.declared.tickets.Piece.{Piece}
 use Rattle.fare_law.specs.declared.requests.Request.{Request}
 use Rattle.fare_law.specs.declared.tickets.Ticket.{Ticket}
 use Rattle.fare_law.specs.Book.{Book, actions, same_key, names_fare, last_that, fare_put, live_fare}
-use Rattle.fare_law.specs.Lawful.{Part, IsPart, comes_in, PartsLawful, Lawful}
+use Rattle.fare_law.specs.Lawful.{comes_in, PartsLawful, Lawful}
+use Rattle.fare_law.specs.Parts.{Part, IsPart, Numbers, StandsFor, ComponentLawful, price_of}
 use Rattle.fare_law.specs.Lists.{Each, Matched}
-use Rattle.fare_law.specs.Order.{Costs, code_after, role_number, slot_number, carrier_number, basis_number, open_below}
-use Rattle.fare_law.specs.Parts.{Numbers, StandsFor, ComponentLawful, price_of}
+use Rattle.fare_law.specs.Best.{Costs}
+use Rattle.fare_law.specs.Moves.{slot_number, open_below, role_of, move_of, moves_after, moves_of}
+use Rattle.fare_law.specs.Codes.{carrier_number, basis_number, role_code, run_code}
 use Rattle.fare_law.specs.declared.moves.Move.{Move}
 use Rattle.flight_paths.specs.declared.positions.Position.{Position}
 use Rattle.fare_law.specs.declared.moves.Role.{Role}
@@ -24,7 +26,6 @@ use Rattle.fare_law.specs.declared.moves.Role.TheVariants.{Alone, Opens, GoesOn,
 use Rattle.open_unit.specs.OpenUnits.{unit_steps}
 use Rattle.flight_paths.specs.Positions.{Flies, before_slice}
 use Rattle.residual_keys.specs.Residuals.{State, begins, no_part, Run, RunFromRoot}
-use Rattle.fare_law.specs.Moves.{role_of, role_code, move_of, moves_after, moves_of, run_code}
 use Rattle.residual_keys.proofs.Marks.{same_carrier_is}
 use Rattle.fare_law.specs.Flights.{Ascending}
 use Rattle.residual_keys.proofs.Ranges.{same_place_is}

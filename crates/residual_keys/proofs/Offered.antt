@@ -13,10 +13,9 @@ use Rattle.fare_law.specs.declared.requests.Request.{Request}
 use Rattle.fare_law.specs.declared.sheets.Leg.{Leg}
 use Rattle.fare_law.specs.declared.sheets.SheetRow.{SheetRow}
 use Rattle.fare_law.specs.Book.{Book}
-use Rattle.fare_law.specs.Lists.{EachPair, IsIn}
+use Rattle.fare_law.specs.Lists.{EachPair, IsIn, Less}
 use Rattle.fare_law.specs.Limits.{IsFare}
 use Rattle.fare_law.specs.Offers.{IsOffered, flights_of, row_price}
-use Rattle.fare_law.specs.Order.{Less}
 use Rattle.fare_law.specs.RuleLimits.{IsRule}
 use Rattle.fare_law.specs.Sheets.{IsLiveRow, RowBefore, Sheet, SheetOf}
 use Rattle.flight_paths.specs.declared.positions.Path.{Path}

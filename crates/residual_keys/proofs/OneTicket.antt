@@ -7,9 +7,9 @@ use Rattle.fare_law.specs.declared.tickets.Piece.{Piece}
 use Rattle.fare_law.specs.declared.requests.Request.{Request}
 use Rattle.fare_law.specs.declared.tickets.Ticket.{Ticket}
 use Rattle.fare_law.specs.Book.{Book}
-use Rattle.fare_law.specs.Lawful.{Part, IsPart, Lawful}
+use Rattle.fare_law.specs.Lawful.{Lawful}
+use Rattle.fare_law.specs.Parts.{Part, IsPart, Numbers, StandsFor}
 use Rattle.fare_law.specs.Lists.{Matched}
-use Rattle.fare_law.specs.Parts.{Numbers, StandsFor}
 use Rattle.open_unit.specs.declared.units.OpenUnit.{OpenUnit}
 use Rattle.open_unit.specs.OpenUnits.{opened, gone_on, unit_steps}
 use Rattle.fare_law.specs.Moves.{move_of, moves_after, moves_of}

@@ -5,9 +5,10 @@ use Rattle.fare_law.specs.declared.tickets.Ticket.{Ticket}
 use Rattle.fare_law.specs.Book.{Book}
 use Rattle.fare_law.specs.Lawful.{Lawful}
 use Rattle.fare_law.specs.Lists.{Each, EachPair, Matched, IsIn}
-use Rattle.fare_law.specs.Order.{Before, Cheaper, Best, code}
+use Rattle.fare_law.specs.Best.{Before, Cheaper, Best}
+use Rattle.fare_law.specs.Codes.{code, run_code}
 use Rattle.fare_law.specs.Flights.{Ascending}
-use Rattle.fare_law.specs.Moves.{moves_of, run_code}
+use Rattle.fare_law.specs.Moves.{moves_of}
 use Rattle.residual_keys.specs.Searches.{Drawn, IsDrawn, DrawnBefore, BestRuns, TicketOf}
 use Rattle.residual_keys.proofs.Known.{Known}
 use Rattle.residual_keys.proofs.NothingLost.{run_ticket, ticket_run, codes}

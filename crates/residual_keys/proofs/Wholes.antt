@@ -8,9 +8,9 @@ use Rattle.fare_law.specs.declared.flights.Flight.{Flight}
 use Rattle.fare_law.specs.declared.tickets.Piece.{Piece}
 use Rattle.fare_law.specs.declared.requests.Request.{Request}
 use Rattle.fare_law.specs.Book.{Book}
-use Rattle.fare_law.specs.Lawful.{Part, comes_in, Numbered, unit_of, EndOnEndOf, EndOnEndHolds, PartsLawful}
+use Rattle.fare_law.specs.Lawful.{comes_in, Numbered, unit_of, EndOnEndOf, EndOnEndHolds, PartsLawful}
+use Rattle.fare_law.specs.Parts.{Part, Numbers, ComponentLawful}
 use Rattle.fare_law.specs.Lists.{Each}
-use Rattle.fare_law.specs.Parts.{Numbers, ComponentLawful}
 use Rattle.fare_law.specs.Units.{UnitLawful}
 use Rattle.unit_labels.specs.Labels.{LawfulLabels}
 use Rattle.unit_labels.specs.UnitRuns.{pick, Accepted, EachAccepted}

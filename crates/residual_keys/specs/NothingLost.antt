@@ -5,8 +5,9 @@ use Rattle.fare_law.specs.declared.requests.Request.{Request}
 use Rattle.fare_law.specs.declared.tickets.Ticket.{Ticket}
 use Rattle.fare_law.specs.Book.{Book}
 use Rattle.fare_law.specs.Lawful.{Lawful}
-use Rattle.fare_law.specs.Moves.{moves_of, run_code}
-use Rattle.fare_law.specs.Order.{Costs, code}
+use Rattle.fare_law.specs.Moves.{moves_of}
+use Rattle.fare_law.specs.Codes.{run_code, code}
+use Rattle.fare_law.specs.Best.{Costs}
 use Rattle.residual_keys.specs.Residuals.{State, RunFromRoot, RootLeadsTo}
 
 -- A run from the root is the moves of a lawful ticket, which costs what the run does.

@@ -5,11 +5,12 @@ use Rattle.fare_law.specs.declared.tickets.Ticket.{Ticket}
 use Rattle.fare_law.specs.Book.{Book}
 use Rattle.fare_law.specs.Lists.{EachPair, IsIn, KLeast}
 use Rattle.fare_law.specs.Lawful.{Lawful}
-use Rattle.fare_law.specs.Order.{Before, Costs}
+use Rattle.fare_law.specs.Best.{Before, Costs}
 use Rattle.fare_law.specs.declared.moves.Move.{Move}
 use Rattle.residual_keys.specs.ResidualOrder.{StateBefore}
 use Rattle.residual_keys.specs.Residuals.{State, Run, RunFromRoot, RootLeadsTo}
-use Rattle.fare_law.specs.Moves.{moves_of, run_code}
+use Rattle.fare_law.specs.Moves.{moves_of}
+use Rattle.fare_law.specs.Codes.{run_code}
 
 abbrev pub Reached : Book → Request → State → Type 0
 Reached b q x = (ms : List Move) × RootLeadsTo b q ms x

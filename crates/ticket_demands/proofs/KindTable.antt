@@ -5,7 +5,7 @@ use Rattle.fare_law.specs.declared.rules.UnitKind.{UnitKind}
 use Rattle.fare_law.specs.declared.rules.UnitKind.TheVariants.{OneWay, RoundTrip, OpenJaw, Circle}
 use Rattle.fare_law.specs.declared.tickets.Piece.{Piece}
 use Rattle.fare_law.specs.Book.{same_place}
-use Rattle.fare_law.specs.Lawful.{Part}
+use Rattle.fare_law.specs.Parts.{Part}
 use Rattle.std.proofs.lemmas.Bool.Decides.{Decides-and, Decides-like}
 use Rattle.fare_law.specs.Lists.{OnFirst, OnLast}
 use Rattle.fare_law.specs.Units.{IsUnit}

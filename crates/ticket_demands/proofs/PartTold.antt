@@ -12,7 +12,8 @@ use Rattle.fare_law.specs.declared.sheets.SheetRow.{SheetRow}
 use Rattle.fare_law.specs.declared.tickets.Component.{Component}
 use Rattle.fare_law.specs.declared.tickets.Piece.{Piece}
 use Rattle.fare_law.specs.Book.{Book}
-use Rattle.fare_law.specs.Lawful.{Part, unit_of}
+use Rattle.fare_law.specs.Lawful.{unit_of}
+use Rattle.fare_law.specs.Parts.{Part}
 use Rattle.fare_law.specs.Lists.{Each, OnFirst, OnLast}
 use Rattle.fare_law.specs.Units.{SameAs, MayStand, SeasonHolds, AdvanceHolds, TravelHolds, EndsBy, MinStayHolds, MaxStayHolds, KindHolds, PartnersHold}
 use Rattle.ticket_demands.specs.declared.demand.UnitDemand.{UnitDemand}

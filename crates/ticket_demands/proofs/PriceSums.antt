@@ -10,10 +10,9 @@ use Rattle.fare_law.specs.declared.rules.Rule.{Rule}
 use Rattle.fare_law.specs.declared.tickets.Component.{Component}
 use Rattle.fare_law.specs.declared.tickets.Ticket.{Ticket}
 use Rattle.fare_law.specs.Book.{Book, flight_at, live_rule}
-use Rattle.fare_law.specs.Lawful.{Part, IsPart}
+use Rattle.fare_law.specs.Parts.{Part, IsPart, Numbers, price_of, share, stopover_charge, surcharges}
 use Rattle.fare_law.specs.Lists.{Matched, OnFirst}
-use Rattle.fare_law.specs.Order.{Costs}
-use Rattle.fare_law.specs.Parts.{Numbers, price_of, share, stopover_charge, surcharges}
+use Rattle.fare_law.specs.Best.{Costs}
 use Rattle.ticket_demands.specs.Known.{IsUnknown, known_flights}
 use Rattle.ticket_demands.specs.Prices.{ComponentCosts, HasNoPrice, TicketCosts}
 use Rattle.ticket_demands.proofs.Gathering.{is_none_or_some, matched_more, some_is}

@@ -1,6 +1,6 @@
 //! What a ticket costs.
 ghost use Rattle.std.specs.Prelude.{◌≡◌, ◌≤◌, ℕ, Any, Some, IfSome, MatchOption};
-ghost use Rattle.fare_law.specs.Order.{Costs};
+ghost use Rattle.fare_law.specs.Best.{Costs};
 ghost use Rattle.fare_law.specs.Parts as Parts;
 ghost use Rattle.fare_law.specs.declared.requests.Request.{Request};
 ghost use Rattle.ticket_demands.specs.Prices.{ComponentCosts, HasNoPrice, TicketCosts};

@@ -4,11 +4,11 @@ use Rattle.std.proofs.lemmas.Bool.{le-leb, lt-leb, cases_eq, cases_order}
 use Rattle.fare_law.specs.declared.names.Basis.{Basis}
 use Rattle.fare_law.specs.declared.names.Carrier.{Carrier}
 use Rattle.fare_law.specs.Lists.{Each, IsPrefix}
-use Rattle.fare_law.specs.Order.{character_value, in_places, carrier_number, basis_number, IsCharacter, IsCarrier, IsBasis}
+use Rattle.fare_law.specs.Codes.{character_value, in_places, carrier_number, basis_number, role_code, move_code, run_code}
+use Rattle.fare_law.specs.Names.{IsCharacter, IsCarrier, IsBasis}
 use Rattle.fare_law.specs.declared.moves.Move.{Move}
 use Rattle.fare_law.specs.declared.moves.Role.{Role}
 use Rattle.fare_law.specs.declared.moves.Role.TheVariants.{Alone, Opens, GoesOn, Closes}
-use Rattle.fare_law.specs.Moves.{role_code, move_code, run_code}
 use Rattle.ticket_order.specs.Coding.{Apart}
 pub use Rattle.ticket_order.specs.Coding.{Coded}
 pub use Rattle.ticket_order.proofs.Words.{less_cut, less_total}

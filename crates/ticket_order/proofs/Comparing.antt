@@ -5,7 +5,8 @@ use Rattle.std.specs.declared.cmp.Ordering.TheVariants.{Less as Lower, Equal, Gr
 use Rattle.std.specs.Ordering.{MatchOrdering, nat_cmp, ordering_then}
 use Rattle.std.specs.Cmp.Lexicographic.{slice_cmp}
 use Rattle.std.proofs.lemmas.Cmp.{ranked}
-use Rattle.fare_law.specs.Order.{Less, Before}
+use Rattle.fare_law.specs.Lists.{Less}
+use Rattle.fare_law.specs.Best.{Before}
 use Rattle.ticket_order.proofs.Words.{before_never, before_trans}
 
 -- the answer names how the two stand

@@ -9,8 +9,7 @@ use Rattle.std.proofs.lemmas.Bool.Decides.{nat_tests}
 use Rattle.fare_law.specs.declared.moves.Move.{Move}
 use Rattle.fare_law.specs.declared.tickets.Component.{Component}
 use Rattle.fare_law.specs.Lawful.{comes_in}
-use Rattle.fare_law.specs.Moves.{move_of, moves_after}
-use Rattle.fare_law.specs.Order.{upto, labels_below, slot_number}
+use Rattle.fare_law.specs.Moves.{move_of, moves_after, upto, labels_below, slot_number}
 use Rattle.ticket_order.specs.Tickets.{labels}
 
 pub one_more : (i : ℕ) → suc i ≡ i + 1

@@ -2,7 +2,7 @@
 use Rattle.std.specs.Prelude.{ℕ, List}
 use Rattle.fare_law.specs.declared.moves.Move.{Move}
 use Rattle.fare_law.specs.Lists.{IsPrefix}
-use Rattle.fare_law.specs.Order.{IsCarrier, IsBasis}
+use Rattle.fare_law.specs.Names.{IsCarrier, IsBasis}
 
 -- the carrier and the basis of the move have their characters
 abbrev pub Coded : Move → Type 0

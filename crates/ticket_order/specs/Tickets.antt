@@ -9,8 +9,7 @@ use Rattle.fare_law.specs.declared.tickets.Component.{Component}
 use Rattle.fare_law.specs.declared.tickets.Ticket.{Ticket}
 use Rattle.fare_law.specs.Lawful.{Numbered}
 use Rattle.fare_law.specs.Lists.{Matched, OnFirst, OnLast}
-use Rattle.fare_law.specs.Moves.{moves_of, role_of}
-use Rattle.fare_law.specs.Order.{slot_number}
+use Rattle.fare_law.specs.Moves.{moves_of, role_of, slot_number}
 
 -- the labels of the components' units
 abbrev pub labels : List Component → List ℕ

@@ -3,9 +3,9 @@ ghost use Rattle.std.specs.Cmp.Lexicographic.{slice_cmp};
 ghost use Rattle.std.specs.Ordering.{MatchOrdering, nat_cmp};
 ghost use Rattle.std.specs.Prelude.{◌≡◌, ◌⊎◌, ◌↔◌, ℕ, ◌+◌, ◌≤◌, List, ◌++◌};
 ghost use Rattle.fare_law.specs.declared.moves.Move.{Move};
-ghost use Rattle.fare_law.specs.Lists.{Each, IsPrefix};
-ghost use Rattle.fare_law.specs.Moves.{move_code, run_code};
-ghost use Rattle.fare_law.specs.Order.{Before, Less};
+ghost use Rattle.fare_law.specs.Lists.{Each, IsPrefix, Less};
+ghost use Rattle.fare_law.specs.Codes.{move_code, run_code};
+ghost use Rattle.fare_law.specs.Best.{Before};
 ghost use Rattle.ticket_order.specs.Coding.{Apart, Coded};
 
 /// A code tells its moves, where carriers and bases have their characters: the codes of two moves

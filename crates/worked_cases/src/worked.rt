@@ -8,7 +8,8 @@ ghost use Rattle.fare_law.specs.declared.rules.UnitKind.TheVariants.{Circle, Ope
 ghost use Rattle.fare_law.specs.Book.{Book, free_rule};
 ghost use Rattle.fare_law.specs.Days.{first_sunday_after, weekday};
 ghost use Rattle.fare_law.specs.Lawful.{AtMostTwoStraddle, Lawful, Numbered};
-ghost use Rattle.fare_law.specs.Order.{Before, Costs, basis_number, carrier_number, code};
+ghost use Rattle.fare_law.specs.Best.{Before, Costs};
+ghost use Rattle.fare_law.specs.Codes.{basis_number, carrier_number, code};
 ghost use Rattle.fare_law.specs.Parts.{price_of, stopovers};
 ghost use Rattle.fare_law.specs.Units.{IsUnit, MinStayHolds};
 ghost use Rattle.worked_cases.specs.Cases.{after_minutes, backward, charged, first_flight, forward, r1, with_sunday, y1, circle_book, circle_legs, circle_request, one_way_book, one_way_legs, one_way_request, round_book, round_legs, round_request};

@@ -1,7 +1,6 @@
 use Rattle.std.proofs.Common.{◌≡◌, length, sym, ap, subst, ◌∙◌, arith}
-use Rattle.fare_law.specs.Lists.{Each, EachPair, IsIn}
-use Rattle.fare_law.specs.Moves.{move_code}
-use Rattle.fare_law.specs.Order.{Less}
+use Rattle.fare_law.specs.Lists.{Each, EachPair, IsIn, Less}
+use Rattle.fare_law.specs.Codes.{move_code}
 use Rattle.ticket_order.specs.Coding.{Coded}
 use Rattle.residual_keys.proofs.InOrder.{same_length, same_moves, written}
 use Rattle.residual_keys.proofs.PathByPath.{all_coded}
