@@ -1,4 +1,4 @@
--- Requests that no reason refuses, and requests within their limits.
+-- Requests that no reason refuses, and requests within their limits. Given on to the crates above.
 use Rattle.std.proofs.Common.{◌≡◌, ℕ, ℤ, pos, ◌≤ℤ◌, Bool, true, false, not, ◌&&◌, nat_le, int_le, List, [], ◌∷◌, length, refl, ap, sym, ◌∙◌, subst, Option, None, inl, inr, arith}
 use Rattle.std.specs.Int.{IsInRange}
 use Rattle.std.specs.List.{list_all}
