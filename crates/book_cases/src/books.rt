@@ -76,12 +76,13 @@ fn gives_a_fare_its_rule(rt: HostRuntime) -> Result<(), Fail> {
     let opening = opening(rt.alloc())?;
     let put = two(
         rt.alloc(),
-        Action::PutRule(QX, 1, advance(14)),
+        Action::PutRule(QX, 1, advance(rt.alloc(), 14)?),
         Action::PutFare(fare(FareKind::O, 20000, 1)),
     )?;
     let book = opening.with(rt.alloc(), put)?;
     assert!(rt; matches!(book.fare(&key()), Some(row) if row.rule.cat5 == Some(14)));
-    let anew = one(rt.alloc(), Action::PutRule(QX, 1, advance(21)))?;
+    let rule = advance(rt.alloc(), 21)?;
+    let anew = one(rt.alloc(), Action::PutRule(QX, 1, rule))?;
     let next = book.with(rt.alloc(), anew)?;
     assert!(rt; matches!(next.fare(&key()), Some(row) if row.rule.cat5 == Some(21)));
     assert!(rt; matches!(book.fare(&key()), Some(row) if row.rule.cat5 == Some(14)));

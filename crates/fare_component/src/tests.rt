@@ -10,8 +10,8 @@ ghost use Rattle.fare_component.specs.Keys.{IsKey, IsLeg, IsRow};
 use crate::*;
 use fare_law::{
     ArrayVec, Basis, Carrier, Class, DayTime, Fare, FareKey, FareKind, Flight, FlightRange,
-    FlightRule, Leg, List, MarketSheet, Mem, OfferKey, Place, Rule, SheetRow, StopRule, Surcharge,
-    TransferRule,
+    FlightRule, Leg, List, MarketSheet, Mem, OfferKey, Place, Rule, Shared, SheetRow,
+    StopRule, Surcharge, TransferRule,
 };
 use std::alloc::Global;
 use std::sync::Arc;
@@ -42,20 +42,20 @@ const OPEN: u32 = 1 << 24;
 const CLOSED: u32 = !OPEN;
 
 /// A row of the market LON to NYC.
-fn row(basis: u8, class: Class, kind: FareKind, amount: u32, rule: Rule) -> SheetRow
+fn row(alloc: Global, basis: u8, class: Class, kind: FareKind, amount: u32, rule: Rule) -> Result<SheetRow, Mem>
     requires basis { (65 ≤ basis) × (basis ≤ 90) }
     requires class { class ≤ 25 }
     requires amount { amount ≤ 1000000000 }
     requires rule { IsRule rule }
-    ensures within { IsRow result }
-    ensures carrier { result.fare.key.carrier.0 ≡ 81 ∷ 88 ∷ [] }
-    ensures from { result.fare.key.from.0 ≡ 76 ∷ 79 ∷ 78 ∷ [] }
-    ensures to { result.fare.key.to.0 ≡ 78 ∷ 89 ∷ 67 ∷ [] }
-    ensures basis { result.fare.key.basis.0 ≡ basis ∷ [] }
+    ensures within { IfOk result IsRow }
+    ensures carrier { IfOk result (λ row. row.fare.key.carrier.0 ≡ 81 ∷ 88 ∷ []) }
+    ensures from { IfOk result (λ row. row.fare.key.from.0 ≡ 76 ∷ 79 ∷ 78 ∷ []) }
+    ensures to { IfOk result (λ row. row.fare.key.to.0 ≡ 78 ∷ 89 ∷ 67 ∷ []) }
+    ensures basis { IfOk result (λ row. row.fare.key.basis.0 ≡ basis ∷ []) }
 {
     let mut letters = ArrayVec::new();
     letters.push(basis);
-    SheetRow {
+    Ok(SheetRow {
         fare: Fare {
             key: FareKey {
                 carrier: OURS,
@@ -68,8 +68,8 @@ fn row(basis: u8, class: Class, kind: FareKind, amount: u32, rule: Rule) -> Shee
             amount: u64::from(amount),
             rule: 1,
         },
-        rule,
-    }
+        rule: Shared::new(alloc, rule)?,
+    })
 }
 
 /// A leg that departs so many minutes after Monday began.
@@ -164,22 +164,22 @@ fn price(alloc: Global, legs: ArrayVec<Leg, 4>, row: SheetRow) -> Result<Option<
 }
 
 /// A fare of kind O, 20000, on that rule.
-fn ruled(rule: Rule) -> SheetRow
+fn ruled(alloc: Global, rule: Rule) -> Result<SheetRow, Mem>
     requires { IsRule rule }
-    ensures within { IsRow result }
-    ensures from { result.fare.key.from.0 ≡ 76 ∷ 79 ∷ 78 ∷ [] }
-    ensures to { result.fare.key.to.0 ≡ 78 ∷ 89 ∷ 67 ∷ [] }
+    ensures within { IfOk result IsRow }
+    ensures from { IfOk result (λ row. row.fare.key.from.0 ≡ 76 ∷ 79 ∷ 78 ∷ []) }
+    ensures to { IfOk result (λ row. row.fare.key.to.0 ≡ 78 ∷ 89 ∷ 67 ∷ []) }
 {
-    row(b'A', Y, FareKind::O, 20000, rule)
+    row(alloc, b'A', Y, FareKind::O, 20000, rule)
 }
 
 /// A fare of kind O, 20000, on the rule that restricts nothing.
-fn plain() -> SheetRow
-    ensures within { IsRow result }
-    ensures from { result.fare.key.from.0 ≡ 76 ∷ 79 ∷ 78 ∷ [] }
-    ensures to { result.fare.key.to.0 ≡ 78 ∷ 89 ∷ 67 ∷ [] }
+fn plain(alloc: Global) -> Result<SheetRow, Mem>
+    ensures within { IfOk result IsRow }
+    ensures from { IfOk result (λ row. row.fare.key.from.0 ≡ 76 ∷ 79 ∷ 78 ∷ []) }
+    ensures to { IfOk result (λ row. row.fare.key.to.0 ≡ 78 ∷ 89 ∷ 67 ∷ []) }
 {
-    ruled(Rule::default())
+    ruled(alloc, Rule::default())
 }
 
 #[test]
@@ -190,28 +190,28 @@ fn asks_of_legs(rt: HostRuntime) -> Result<(), Fail> {
     let other = one_leg(leg(OTHER, LON, NYC, TEN, OPEN));
     let full = one_leg(leg(OURS, LON, NYC, TEN, CLOSED));
     let cases = [
-        ("straight", price(alloc, straight(), plain()), Some(20000)),
-        ("the way back", price(alloc, back, plain()), Some(20000)),
-        ("another end", price(alloc, elsewhere, plain()), None),
+        ("straight", price(alloc, straight(), plain(alloc)?), Some(20000)),
+        ("the way back", price(alloc, back, plain(alloc)?), Some(20000)),
+        ("another end", price(alloc, elsewhere, plain(alloc)?), None),
         (
             "first of another carrier",
-            price(alloc, other, plain()),
+            price(alloc, other, plain(alloc)?),
             None,
         ),
-        ("no seats", price(alloc, full, plain()), None),
+        ("no seats", price(alloc, full, plain(alloc)?), None),
         (
             "by DUB",
-            price(alloc, by_dub(60, OURS, OPEN), plain()),
+            price(alloc, by_dub(60, OURS, OPEN), plain(alloc)?),
             Some(20000),
         ),
         (
             "no seats on the second leg",
-            price(alloc, by_dub(60, OURS, CLOSED), plain()),
+            price(alloc, by_dub(60, OURS, CLOSED), plain(alloc)?),
             None,
         ),
         (
             "second of another carrier",
-            price(alloc, by_dub(60, OTHER, OPEN), plain()),
+            price(alloc, by_dub(60, OTHER, OPEN), plain(alloc)?),
             Some(20000),
         ),
     ];
@@ -222,30 +222,30 @@ fn asks_of_legs(rt: HostRuntime) -> Result<(), Fail> {
 }
 
 /// Category 2: on that weekday, from one minute to another.
-fn timed(weekday: u8, from: u16, to: u16) -> SheetRow
+fn timed(alloc: Global, weekday: u8, from: u16, to: u16) -> Result<SheetRow, Mem>
     requires weekday { (1 ≤ weekday) × (weekday ≤ 7) }
     requires from { from ≤ to }
     requires to { to < 1440 }
-    ensures within { IsRow result }
-    ensures from { result.fare.key.from.0 ≡ 76 ∷ 79 ∷ 78 ∷ [] }
-    ensures to { result.fare.key.to.0 ≡ 78 ∷ 89 ∷ 67 ∷ [] }
+    ensures within { IfOk result IsRow }
+    ensures from { IfOk result (λ row. row.fare.key.from.0 ≡ 76 ∷ 79 ∷ 78 ∷ []) }
+    ensures to { IfOk result (λ row. row.fare.key.to.0 ≡ 78 ∷ 89 ∷ 67 ∷ []) }
 {
     let mut days = ArrayVec::new();
     days.push(weekday);
-    ruled(Rule {
+    ruled(alloc, Rule {
         cat2: Some(DayTime { days, from, to }),
         ..Rule::default()
     })
 }
 
 /// Category 4: none of these flights.
-fn excluding(low: u16, high: u16) -> SheetRow
+fn excluding(alloc: Global, low: u16, high: u16) -> Result<SheetRow, Mem>
     requires low { 1 ≤ low }
     requires in_turn { low ≤ high }
     requires high { high ≤ 9999 }
-    ensures within { IsRow result }
-    ensures from { result.fare.key.from.0 ≡ 76 ∷ 79 ∷ 78 ∷ [] }
-    ensures to { result.fare.key.to.0 ≡ 78 ∷ 89 ∷ 67 ∷ [] }
+    ensures within { IfOk result IsRow }
+    ensures from { IfOk result (λ row. row.fare.key.from.0 ≡ 76 ∷ 79 ∷ 78 ∷ []) }
+    ensures to { IfOk result (λ row. row.fare.key.to.0 ≡ 78 ∷ 89 ∷ 67 ∷ []) }
 {
     let mut flights = ArrayVec::new();
     flights.push(FlightRange {
@@ -253,7 +253,7 @@ fn excluding(low: u16, high: u16) -> SheetRow
         low,
         high,
     });
-    ruled(Rule {
+    ruled(alloc, Rule {
         cat4: Some(FlightRule {
             allow: false,
             flights,
@@ -263,13 +263,14 @@ fn excluding(low: u16, high: u16) -> SheetRow
 }
 
 /// Category 8: so many stopovers, at 3000 each.
-fn stopping(max: u8) -> SheetRow
+fn stopping(alloc: Global, max: u8) -> Result<SheetRow, Mem>
     requires { max ≤ 3 }
-    ensures within { IsRow result }
-    ensures from { result.fare.key.from.0 ≡ 76 ∷ 79 ∷ 78 ∷ [] }
-    ensures to { result.fare.key.to.0 ≡ 78 ∷ 89 ∷ 67 ∷ [] }
+    ensures within { IfOk result IsRow }
+    ensures from { IfOk result (λ row. row.fare.key.from.0 ≡ 76 ∷ 79 ∷ 78 ∷ []) }
+    ensures to { IfOk result (λ row. row.fare.key.to.0 ≡ 78 ∷ 89 ∷ 67 ∷ []) }
 {
     row(
+        alloc,
         b'A',
         Y,
         FareKind::S,
@@ -286,25 +287,25 @@ fn stopping(max: u8) -> SheetRow
 }
 
 /// Category 9: so many transfers, on the fare's carrier alone.
-fn online(max: u8) -> SheetRow
+fn online(alloc: Global, max: u8) -> Result<SheetRow, Mem>
     requires { max ≤ 3 }
-    ensures within { IsRow result }
-    ensures from { result.fare.key.from.0 ≡ 76 ∷ 79 ∷ 78 ∷ [] }
-    ensures to { result.fare.key.to.0 ≡ 78 ∷ 89 ∷ 67 ∷ [] }
+    ensures within { IfOk result IsRow }
+    ensures from { IfOk result (λ row. row.fare.key.from.0 ≡ 76 ∷ 79 ∷ 78 ∷ []) }
+    ensures to { IfOk result (λ row. row.fare.key.to.0 ≡ 78 ∷ 89 ∷ 67 ∷ []) }
 {
-    ruled(Rule {
+    ruled(alloc, Rule {
         cat9: Some(TransferRule { max, online: true }),
         ..Rule::default()
     })
 }
 
 /// Category 12: 1500 for flight 101 on that day.
-fn surcharged(kind: FareKind, amount: u32, day: i32) -> SheetRow
+fn surcharged(alloc: Global, kind: FareKind, amount: u32, day: i32) -> Result<SheetRow, Mem>
     requires amount { amount ≤ 1000000000 }
     requires day { IsCalendarDay day }
-    ensures within { IsRow result }
-    ensures from { result.fare.key.from.0 ≡ 76 ∷ 79 ∷ 78 ∷ [] }
-    ensures to { result.fare.key.to.0 ≡ 78 ∷ 89 ∷ 67 ∷ [] }
+    ensures within { IfOk result IsRow }
+    ensures from { IfOk result (λ row. row.fare.key.from.0 ≡ 76 ∷ 79 ∷ 78 ∷ []) }
+    ensures to { IfOk result (λ row. row.fare.key.to.0 ≡ 78 ∷ 89 ∷ 67 ∷ []) }
 {
     let mut entries = ArrayVec::new();
     entries.push(Surcharge {
@@ -316,6 +317,7 @@ fn surcharged(kind: FareKind, amount: u32, day: i32) -> SheetRow
         amount: 1500,
     });
     row(
+        alloc,
         b'A',
         Y,
         kind,
@@ -334,62 +336,62 @@ fn asks_of_rules(rt: HostRuntime) -> Result<(), Fail> {
     let cases = [
         (
             "at the one minute",
-            price(alloc, straight(), timed(1, 600, 600)),
+            price(alloc, straight(), timed(alloc, 1, 600, 600)?),
             Some(20000),
         ),
         (
             "a minute too early",
-            price(alloc, straight(), timed(1, 601, 1380)),
+            price(alloc, straight(), timed(alloc, 1, 601, 1380)?),
             None,
         ),
         (
             "a minute too late",
-            price(alloc, straight(), timed(1, 0, 599)),
+            price(alloc, straight(), timed(alloc, 1, 0, 599)?),
             None,
         ),
         (
             "another weekday",
-            price(alloc, straight(), timed(2, 0, 1439)),
+            price(alloc, straight(), timed(alloc, 2, 0, 1439)?),
             None,
         ),
         (
             "an excluded flight",
-            price(alloc, straight(), excluding(100, 101)),
+            price(alloc, straight(), excluding(alloc, 100, 101)?),
             None,
         ),
         (
             "others excluded",
-            price(alloc, straight(), excluding(102, 200)),
+            price(alloc, straight(), excluding(alloc, 102, 200)?),
             Some(20000),
         ),
         (
             "a transfer of a day",
-            price(alloc, by_dub(1440, OURS, OPEN), stopping(1)),
+            price(alloc, by_dub(1440, OURS, OPEN), stopping(alloc, 1)?),
             Some(30000),
         ),
         (
             "a stopover",
-            price(alloc, by_dub(1441, OURS, OPEN), stopping(1)),
+            price(alloc, by_dub(1441, OURS, OPEN), stopping(alloc, 1)?),
             Some(33000),
         ),
         (
             "no stopovers",
-            price(alloc, by_dub(1441, OURS, OPEN), stopping(0)),
+            price(alloc, by_dub(1441, OURS, OPEN), stopping(alloc, 0)?),
             None,
         ),
         (
             "a transfer",
-            price(alloc, by_dub(60, OURS, OPEN), online(1)),
+            price(alloc, by_dub(60, OURS, OPEN), online(alloc, 1)?),
             Some(20000),
         ),
         (
             "no transfers",
-            price(alloc, by_dub(60, OURS, OPEN), online(0)),
+            price(alloc, by_dub(60, OURS, OPEN), online(alloc, 0)?),
             None,
         ),
         (
             "online on two carriers",
-            price(alloc, other, online(1)),
+            price(alloc, other, online(alloc, 1)?),
             None,
         ),
     ];
@@ -402,11 +404,11 @@ fn asks_of_rules(rt: HostRuntime) -> Result<(), Fail> {
 #[test]
 fn sums_prices(rt: HostRuntime) -> Result<(), Fail> {
     let alloc = rt.alloc();
-    let halved = row(b'A', Y, FareKind::R, 40000, Rule::default());
-    let once = surcharged(FareKind::O, 20000, MONDAY);
-    let twice = surcharged(FareKind::O, 20000, MONDAY);
-    let next_day = surcharged(FareKind::O, 20000, MONDAY + 1);
-    let halved_alone = surcharged(FareKind::R, 40000, MONDAY);
+    let halved = row(alloc, b'A', Y, FareKind::R, 40000, Rule::default())?;
+    let once = surcharged(alloc, FareKind::O, 20000, MONDAY)?;
+    let twice = surcharged(alloc, FareKind::O, 20000, MONDAY)?;
+    let next_day = surcharged(alloc, FareKind::O, 20000, MONDAY + 1)?;
+    let halved_alone = surcharged(alloc, FareKind::R, 40000, MONDAY)?;
     let cases = [
         (
             "half of kind R",
@@ -441,10 +443,10 @@ fn four_rows(alloc: Global) -> Result<OfferKey, Mem>
     ensures { IfOk result IsKey }
 {
     let mut rows = List::new(alloc);
-    rows.push(row(b'A', Y, FareKind::O, 20000, Rule::default()))?;
-    rows.push(row(b'B', 12, FareKind::O, 10000, Rule::default()))?;
-    rows.push(row(b'C', Y, FareKind::R, 30000, Rule::default()))?;
-    rows.push(row(b'D', Y, FareKind::S, 7000, Rule::default()))?;
+    rows.push(row(alloc, b'A', Y, FareKind::O, 20000, Rule::default())?)?;
+    rows.push(row(alloc, b'B', 12, FareKind::O, 10000, Rule::default())?)?;
+    rows.push(row(alloc, b'C', Y, FareKind::R, 30000, Rule::default())?)?;
+    rows.push(row(alloc, b'D', Y, FareKind::S, 7000, Rule::default())?)?;
     let sheet = MarketSheet::of(alloc, LON, NYC, rows)?;
     Ok(OfferKey {
         legs: straight(),

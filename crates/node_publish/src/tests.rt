@@ -5,7 +5,7 @@ ghost use Rattle.fare_component.specs.Keys.{IsKey};
 use crate::*;
 use fare_law::{
     ArrayVec, Basis, Carrier, Fare, FareKey, FareKind, Flight, Leg, List, MarketSheet, Mem,
-    OfferKey, Place, Rule, SheetRow,
+    OfferKey, Place, Rule, Shared, SheetRow,
 };
 use std::alloc::Global;
 use std::sync::Arc;
@@ -52,7 +52,7 @@ fn key(alloc: Global, amount: u32) -> Result<OfferKey, Mem>
             amount: u64::from(amount),
             rule: 0,
         },
-        rule: Rule::default(),
+        rule: Shared::new(alloc, Rule::default())?,
     })?;
     let sheet = MarketSheet::of(alloc, LON, NYC, rows)?;
     Ok(OfferKey {

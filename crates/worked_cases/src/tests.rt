@@ -1,10 +1,11 @@
 //! The calls of the base records, each once with memory at hand.
-ghost use Rattle.std.specs.Prelude.{◌≡◌};
+ghost use Rattle.std.specs.Prelude.{◌≡◌, IfOk};
 
 use fare_law::{
-    ArrayVec, Basis, Carrier, DayTime, Fare, FareKey, FareKind, List, MarketSheet, Place, Rule,
-    SheetRow,
+    ArrayVec, Basis, Carrier, DayTime, Fare, FareKey, FareKind, List, MarketSheet, Mem, Place, Rule,
+    Shared, SheetRow,
 };
+use std::alloc::Global;
 use std::test::Fail;
 
 const LONDON: Place = Place(*b"LON");
@@ -19,16 +20,20 @@ fn basis() -> Basis {
 }
 
 // A fare from London to New York that may depart from 10:00 to 22:00.
-fn row() -> SheetRow
-    ensures from { result.fare.key.from ≡ LONDON }
-    ensures to { result.fare.key.to ≡ NEW_YORK }
+fn row(alloc: Global) -> Result<SheetRow, Mem>
+    ensures from { IfOk result (λ row. row.fare.key.from ≡ LONDON) }
+    ensures to { IfOk result (λ row. row.fare.key.to ≡ NEW_YORK) }
 {
     let times = DayTime {
         days: ArrayVec::new(),
         from: 600,
         to: 1320,
     };
-    SheetRow {
+    let rule = Rule {
+        cat2: Some(times),
+        ..Rule::default()
+    };
+    Ok(SheetRow {
         fare: Fare {
             key: FareKey {
                 carrier: Carrier(*b"QX"),
@@ -41,17 +46,14 @@ fn row() -> SheetRow
             amount: 20000,
             rule: 1,
         },
-        rule: Rule {
-            cat2: Some(times),
-            ..Rule::default()
-        },
-    }
+        rule: Shared::new(alloc, rule)?,
+    })
 }
 
 #[test]
 fn makes_a_sheet(rt: HostRuntime) -> Result<(), Fail> {
     let mut rows = List::new(rt.alloc());
-    rows.push(row())?;
+    rows.push(row(rt.alloc())?)?;
     let sheet = MarketSheet::of(rt.alloc(), LONDON, NEW_YORK, rows)?;
     assert_eq!(rt; sheet.opens.as_slice(), [600].as_slice());
     assert_eq!(rt; sheet.closes.as_slice(), [1320].as_slice());
