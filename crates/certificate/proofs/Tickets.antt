@@ -16,7 +16,7 @@ module _ (known : Known) (b : Book) (q : Request) where
   costs_one t m n h k = neither_less m n (λ l. known.never b q t (m, n, h, k, inl l)) (λ l. known.never b q t (n, m, k, h, inl l))
 
   pub answer_code : (a : CertAnswer) (t : Ticket) → AnswerIs b q a t → code t ≡ run_code a.moves
-  answer_code a t h = known.codes t ∙ ap run_code h.1
+  answer_code a t h = ap run_code h.1
 
   pub cheaper : (a c : CertAnswer) (t u : Ticket) → AnswerIs b q a t → AnswerIs b q c u → AnswerBelow a c → Cheaper b q t u
   cheaper a c t u h k w =

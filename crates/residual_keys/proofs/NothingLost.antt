@@ -402,21 +402,3 @@ unfolding cost
 ticket_run known b q t (ps, m, law, some) =
     let s = ticket_sides known b q t ps m law some in
     (total (items ps), (s.at, s.root, sides_run b q (record { at = s.at; units = []; part = no_part }) (moves_of t) (items ps) (root_fits b q s.at s.root) s.sides), (ps, m, items_cost ps))
-
--- Its code is that of its moves.
-role_codes : (before : List ℕ) (l : ℕ) (after : List ℕ) → role_number before l after ≡ role_code (role_of before l after)
-role_codes before l after = go (comes_in l before) (comes_in l after)
-  where
-    go : (x y : Bool) → cond x (cond y 2 3) (cond y 1 0) ≡ role_code (cond x (cond y GoesOn Closes) (cond y Opens Alone))
-    go true true = refl
-    go true false = refl
-    go false true = refl
-    go false false = refl
-
-pub codes : (before : List ℕ) (cs : List Component) → code_after before cs ≡ run_code (moves_after before cs)
-codes before [] = refl
-codes before (c ∷ cs) =
-    let after = map (λ d. d.unit) cs in
-    ap₂ (λ x y. x ++ y)
-    (ap (λ r. length c.flights ∷ [] ++ c.flights ++ carrier_number c.fare.carrier ∷ basis_number c.fare.basis ∷ r ∷ slot_number before c.unit after ∷ []) (role_codes before c.unit after))
-    (codes (before ++ c.unit ∷ []) cs)

@@ -6,8 +6,6 @@ ghost use Rattle.fare_law.specs.declared.tickets.Ticket.{Ticket};
 ghost use Rattle.fare_law.specs.Book.{Book};
 ghost use Rattle.fare_law.specs.Lawful.{Lawful};
 ghost use Rattle.fare_law.specs.Lists.{Matched};
-ghost use Rattle.fare_law.specs.Moves.{moves_of};
-ghost use Rattle.fare_law.specs.Codes.{run_code, code};
 ghost use Rattle.fare_law.specs.Best.{Best, Cheaper};
 ghost use Rattle.fare_law.specs.Limits.{HasKeys};
 ghost use Rattle.fare_law.specs.Flights.{Ascending};
@@ -37,12 +35,11 @@ impl UnitSteps<Piece, OpenUnit> for FareUnits {
 
 /// Nothing is lost: where the timetable's flights stand in the order of their departures, a list of
 /// moves is a run from the root exactly where it is the moves of a lawful ticket, and then of one,
-/// with the run's price; the code of its moves is the ticket's code. Where two lists of moves lead
-/// to one residual, what completes the one completes the other.
+/// with the run's price. Where two lists of moves lead to one residual, what completes the one
+/// completes the other.
 pub fn nothing_lost()
     ensures runs { (b : Book) (q : Request) → Ascending b.timetable.flights → RunsAreTickets b q }
     ensures tickets { (b : Book) (q : Request) → TicketsAreRuns b q }
-    ensures codes { (t : Ticket) → code t ≡ run_code (moves_of t) }
     ensures one { (b : Book) (q : Request) → OneTicket b q }
     ensures same { (b : Book) (q : Request) → Ascending b.timetable.flights → SameCompletions b q }
 {

@@ -1,6 +1,5 @@
 -- The theorems of their own files.
-use Rattle.std.specs.Prelude.{[]}
-use Rattle.residual_keys.proofs.NothingLost.{run_ticket, ticket_run, codes as code_is}
+use Rattle.residual_keys.proofs.NothingLost.{run_ticket, ticket_run}
 use Rattle.residual_keys.proofs.OneNext.{same_completions}
 use Rattle.residual_keys.proofs.OneTicket.{ticket_one}
 use Rattle.residual_keys.proofs.laws.nothing_lost.Goals as goal
@@ -10,9 +9,6 @@ returns-clause-runs c = run_ticket (record { labels = c.label_laws.ensures; unit
 
 pub returns-clause-tickets : goal.returns-clause-tickets
 returns-clause-tickets c = ticket_run (record { labels = c.label_laws.ensures; units = c.unit_laws.ensures })
-
-pub returns-clause-codes : goal.returns-clause-codes
-returns-clause-codes c = λ t. code_is [] t.components
 
 pub returns-clause-one : goal.returns-clause-one
 returns-clause-one c = ticket_one (record { labels = c.label_laws.ensures; units = c.unit_laws.ensures })
