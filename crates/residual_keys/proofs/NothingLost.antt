@@ -18,7 +18,6 @@ use Rattle.fare_law.specs.Parts.{Part, IsPart, Numbers, StandsFor, ComponentLawf
 use Rattle.fare_law.specs.Lists.{Each, Matched}
 use Rattle.fare_law.specs.Best.{Costs}
 use Rattle.fare_law.specs.Moves.{slot_number, open_below, role_of, move_of, moves_after, moves_of}
-use Rattle.fare_law.specs.Codes.{carrier_number, basis_number, role_code, run_code}
 use Rattle.fare_law.specs.declared.moves.Move.{Move}
 use Rattle.flight_paths.specs.declared.positions.Position.{Position}
 use Rattle.fare_law.specs.declared.moves.Role.{Role}
