@@ -10,8 +10,8 @@ ghost use Rattle.fare_component.specs.Keys.{IsKey, IsLeg, IsRow};
 use crate::*;
 use fare_law::{
     ArrayVec, Basis, Carrier, Class, DayTime, Fare, FareKey, FareKind, Flight, FlightRange,
-    FlightRule, Leg, List, MarketSheet, Mem, OfferKey, Place, Rule, Shared, SheetRow,
-    StopRule, Surcharge, TransferRule,
+    FlightRule, Leg, List, MarketSheet, Mem, OfferKey, Place, Rule, Shared, SheetRow, StopRule,
+    Surcharge, TransferRule,
 };
 use std::alloc::Global;
 use std::sync::Arc;
@@ -42,7 +42,14 @@ const OPEN: u32 = 1 << 24;
 const CLOSED: u32 = !OPEN;
 
 /// A row of the market LON to NYC.
-fn row(alloc: Global, basis: u8, class: Class, kind: FareKind, amount: u32, rule: Rule) -> Result<SheetRow, Mem>
+fn row(
+    alloc: Global,
+    basis: u8,
+    class: Class,
+    kind: FareKind,
+    amount: u32,
+    rule: Rule,
+) -> Result<SheetRow, Mem>
     requires basis { (65 ≤ basis) × (basis ≤ 90) }
     requires class { class ≤ 25 }
     requires amount { amount ≤ 1000000000 }
@@ -190,8 +197,16 @@ fn asks_of_legs(rt: HostRuntime) -> Result<(), Fail> {
     let other = one_leg(leg(OTHER, LON, NYC, TEN, OPEN));
     let full = one_leg(leg(OURS, LON, NYC, TEN, CLOSED));
     let cases = [
-        ("straight", price(alloc, straight(), plain(alloc)?), Some(20000)),
-        ("the way back", price(alloc, back, plain(alloc)?), Some(20000)),
+        (
+            "straight",
+            price(alloc, straight(), plain(alloc)?),
+            Some(20000),
+        ),
+        (
+            "the way back",
+            price(alloc, back, plain(alloc)?),
+            Some(20000),
+        ),
         ("another end", price(alloc, elsewhere, plain(alloc)?), None),
         (
             "first of another carrier",
@@ -232,10 +247,13 @@ fn timed(alloc: Global, weekday: u8, from: u16, to: u16) -> Result<SheetRow, Mem
 {
     let mut days = ArrayVec::new();
     days.push(weekday);
-    ruled(alloc, Rule {
-        cat2: Some(DayTime { days, from, to }),
-        ..Rule::default()
-    })
+    ruled(
+        alloc,
+        Rule {
+            cat2: Some(DayTime { days, from, to }),
+            ..Rule::default()
+        },
+    )
 }
 
 /// Category 4: none of these flights.
@@ -253,13 +271,16 @@ fn excluding(alloc: Global, low: u16, high: u16) -> Result<SheetRow, Mem>
         low,
         high,
     });
-    ruled(alloc, Rule {
-        cat4: Some(FlightRule {
-            allow: false,
-            flights,
-        }),
-        ..Rule::default()
-    })
+    ruled(
+        alloc,
+        Rule {
+            cat4: Some(FlightRule {
+                allow: false,
+                flights,
+            }),
+            ..Rule::default()
+        },
+    )
 }
 
 /// Category 8: so many stopovers, at 3000 each.
@@ -293,10 +314,13 @@ fn online(alloc: Global, max: u8) -> Result<SheetRow, Mem>
     ensures from { IfOk result (λ row. row.fare.key.from.0 ≡ 76 ∷ 79 ∷ 78 ∷ []) }
     ensures to { IfOk result (λ row. row.fare.key.to.0 ≡ 78 ∷ 89 ∷ 67 ∷ []) }
 {
-    ruled(alloc, Rule {
-        cat9: Some(TransferRule { max, online: true }),
-        ..Rule::default()
-    })
+    ruled(
+        alloc,
+        Rule {
+            cat9: Some(TransferRule { max, online: true }),
+            ..Rule::default()
+        },
+    )
 }
 
 /// Category 12: 1500 for flight 101 on that day.

@@ -1,12 +1,9 @@
 -- A request within its limits that was written is read again as itself.
-use Rattle.std.proofs.Common.{◌≡◌, ◌≤◌, ℕ, max, pos, nat_le, eq-eqb, Bool, true, false, ◌||◌, List, [], ◌∷◌, length, map, Some, Ok, refl, arith, sym, subst, ap, ◌∙◌}
+use Rattle.std.proofs.Common.{◌≡◌, ◌≤◌, ℕ, max, pos, nat_le, eq-eqb, true, false, ◌||◌, List, [], ◌∷◌, length, map, Some, Ok, refl, arith, sym, subst, ap, ◌∙◌}
 use Rattle.std.specs.Char.{is_ascii_uppercase}
-use Rattle.std.specs.Int.{IsInRange}
-use Rattle.std.specs.List.{list_all, list_any}
+use Rattle.std.specs.List.{list_all}
 use Rattle.std.specs.Str.{IsUtf8}
 use Rattle.std.proofs.lemmas.Bool.Decides.{nat_tests}
-use Rattle.std.proofs.lemmas.List.{length-map}
-use Rattle.std.proofs.lemmas.Slice.Eq.{bytes_eq-Decides}
 use Rattle.std.proofs.lemmas.Str.{is_utf8-from_IsUtf8}
 use Rattle.serde_json.specs.Data.{Data, Items, no_items, item, depth, items_depth}
 use Rattle.serde_json.specs.Read.{read, max_depth}
@@ -25,7 +22,7 @@ use Rattle.request_text.specs.Form.{asked, slice_form}
 use Rattle.fare_law.specs.Requests.{judged_alone}
 use Rattle.fare_law.proofs.Judged.{within_judged}
 use Rattle.request_text.specs.Limits.{allowed, or_refused, request_asked, slice_asked}
-use Rattle.fare_law.specs.Limits.{IsSlice, EndsDiffer, IsRequest}
+use Rattle.fare_law.specs.Limits.{IsSlice, IsRequest}
 use Rattle.request_text.specs.Reading.{request_of, request_spelled}
 use Rattle.request_text.specs.Text.{WritesSlice, WritesSlices, WritesRequest}
 

@@ -2,8 +2,8 @@
 ghost use Rattle.std.specs.Prelude.{◌≡◌, IfOk};
 
 use fare_law::{
-    ArrayVec, Basis, Carrier, DayTime, Fare, FareKey, FareKind, List, MarketSheet, Mem, Place, Rule,
-    Shared, SheetRow,
+    ArrayVec, Basis, Carrier, DayTime, Fare, FareKey, FareKind, List, MarketSheet, Mem, Place,
+    Rule, Shared, SheetRow,
 };
 use std::alloc::Global;
 use std::test::Fail;
