@@ -2,8 +2,6 @@ pub mod Known
 pub mod FareFacts
 pub mod Marks
 pub mod OneUnit
-pub mod Ranges
-pub mod Journeys
 pub mod TicketParts
 pub mod Wholes
 pub mod Fitting
