@@ -33,3 +33,6 @@ pub mod WordFacts
 pub mod WordsAgain
 pub mod ResidualAgain
 pub mod ResidualRead
+pub mod NamesKept
+pub mod CodesOfRuns
+pub mod Sizes
