@@ -13,7 +13,8 @@ use Rattle.fare_law.specs.Lists.{Matched}
 use Rattle.open_unit.specs.declared.units.OpenUnit.{OpenUnit}
 use Rattle.open_unit.specs.OpenUnits.{opened, gone_on, unit_steps}
 use Rattle.fare_law.specs.Moves.{move_of, moves_after, moves_of}
-use Rattle.residual_keys.proofs.NothingLost.{live_key, ticket_sides}
+use Rattle.residual_keys.proofs.NothingLost.{ticket_sides}
+use Rattle.ticket_order.proofs.LiveKeys.{live_key}
 use Rattle.residual_keys.proofs.OneNext.{numbers_one, filed_ends, first_one, last_one}
 use Rattle.residual_keys.proofs.Runs.{mark_of}
 use Rattle.residual_keys.proofs.Wholes.{pieces}

@@ -17,7 +17,7 @@ use Rattle.unit_labels.specs.UnitRuns.{pick, Accepted, EachAccepted}
 use Rattle.open_unit.specs.OpenUnits.{unit_steps}
 use Rattle.flight_paths.specs.Positions.{Flies, before_slice}
 use Rattle.residual_keys.specs.Residuals.{no_part}
-use Rattle.residual_keys.proofs.Journeys.{flies_itinerary, itinerary_flies}
+use Rattle.flight_paths.proofs.Itineraries.{flies_itinerary, itinerary_flies}
 use Rattle.residual_keys.proofs.Marks.{OfCarrier}
 use Rattle.residual_keys.proofs.OneUnit.{accepted_lawful, lawful_accepted}
 use Rattle.fare_law.specs.Flights.{Ascending}

@@ -42,7 +42,7 @@ pub record Reads (before after : List ℕ) (ms : List Move) (count : ℕ) (opene
   pub tells : (u : ℕ) → u < 19 → get_or opened u false ≡ (comes_in u before && comes_in u after)
   pub right : AreLabels before after ms
 
-same_is : (n : ℕ) → eqb n n ≡ true
+pub same_is : (n : ℕ) → eqb n n ≡ true
 same_is n = grind (arith, nat_tests)
 
 and_true : (a b : Bool) → a ≡ true → a && b ≡ b

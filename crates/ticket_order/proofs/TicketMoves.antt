@@ -45,7 +45,7 @@ move_added cs i c m moves whole lt e em h =
     append_assoc moves (m ∷ []) (moves_after (take (i + 1) (labels cs)) (drop (i + 1) cs))
     ∙ ap (λ z. moves ++ z) (ap (λ z. z ∷ moves_after (take (i + 1) (labels cs)) (drop (i + 1) cs)) em ∙ sym (moves_next cs i c lt e)) ∙ h
 
-same_test : (u l : ℕ) → eqb l u ≡ eqb u l
+pub same_test : (u l : ℕ) → eqb l u ≡ eqb u l
 same_test u l = elim (cases_eq l u) [
   | inl e ↦ ap₂ eqb e (sym e)
   | inr ne ↦ grind (arith, nat_tests)
