@@ -106,13 +106,13 @@ fn ask_all<R: Wait>(
     requires { watch.old.house ≡ clerk.old.house }
 {
     let first = watch.look()?.number();
-    let receipt = clerk.file(alloc, rt, put(alloc)?)?;
+    let receipt = clerk.file(rt, alloc, put(alloc)?)?;
     let second = watch.look()?.number();
     watch.learn(&clerk.tell());
     let third = watch.look()?.number();
     let known = watch.seen();
     let drop = filing(alloc, Action::DropFare(key(b'B')))?;
-    let refused = clerk.file(alloc, rt, drop).err();
+    let refused = clerk.file(rt, alloc, drop).err();
     Ok(Answers {
         seen: [first, second, third],
         known,
@@ -126,7 +126,7 @@ fn ask_all<R: Wait>(
 fn publishes_what_is_filed(rt: HostRuntime) -> Result<(), Fail> {
     let alloc = rt.alloc();
     let book = opening(alloc)?;
-    let (mut clerk, watches) = begin(alloc, &rt, book, 2)?;
+    let (mut clerk, watches) = begin(&rt, alloc, book, 2)?;
     let count = watches.len();
     let mut watches = watches.into_vec();
     let answers = match watches.pop() {
