@@ -10,3 +10,4 @@ pub mod Building
 pub mod Lower
 pub mod DepartureOrder
 pub mod Limited
+pub mod OneFault
