@@ -11,3 +11,4 @@ pub mod Lower
 pub mod DepartureOrder
 pub mod Limited
 pub mod OneFault
+pub mod OneList

@@ -3,7 +3,7 @@ ghost use Rattle.std.specs.Prelude.{◌≡◌, List};
 ghost use Rattle.fare_law.specs.declared.flights.Flight.{Flight};
 ghost use Rattle.fare_law.specs.declared.rows.FlightRow.{FlightRow};
 ghost use Rattle.fare_law.specs.declared.rows.PlaceRow.{PlaceRow};
-ghost use Rattle.fare_law.specs.Flights.{Ascending, Earlier};
+ghost use Rattle.fare_law.specs.Flights.{AreFlights, Ascending, Earlier};
 ghost use Rattle.fare_law.specs.Lists.{EachPair};
 ghost use Rattle.schedule_book.specs.Faults.{Fault, PlacesDiffer, RowsRight};
 ghost use Rattle.schedule_book.specs.declared.faults.SchedFault.{SchedFault};
@@ -11,6 +11,11 @@ ghost use Rattle.schedule_book.specs.declared.faults.SchedFault.{SchedFault};
 /// Flights in their order depart one after another.
 pub fn ordered_flights_ascend()
     ensures { (fs : List Flight) → EachPair Earlier fs → Ascending fs }
+{}
+
+/// The flights of rows are one list.
+pub fn one_list_of_flights()
+    ensures { (rows : List FlightRow) (fs gs : List Flight) → AreFlights rows fs → AreFlights rows gs → fs ≡ gs }
 {}
 
 /// The rows of a timetable have one fault at most, and none where they are right.
