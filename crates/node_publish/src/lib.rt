@@ -7,8 +7,6 @@ mod cells;
 mod keys;
 mod node;
 mod store;
-#[cfg(test)]
-mod tests;
 
 pub use keys::asks_same;
 pub use node::Node;

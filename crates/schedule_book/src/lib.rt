@@ -17,5 +17,3 @@ pub use faults::SchedFault;
 pub use laws::ordered_flights_ascend;
 pub use schedule::Schedule;
 
-#[cfg(test)]
-mod tests;

@@ -16,5 +16,3 @@ pub use numbers::{code, move_code};
 pub use roles::moves_of;
 pub use tickets::ticket_of;
 
-#[cfg(test)]
-mod tests;
