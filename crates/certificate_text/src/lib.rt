@@ -10,8 +10,6 @@ mod lists;
 mod reading;
 mod request;
 mod spelled;
-#[cfg(test)]
-mod tests;
 mod words;
 mod writing;
 

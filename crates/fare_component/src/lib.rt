@@ -8,8 +8,6 @@ mod laws;
 mod list;
 mod offer;
 mod source;
-#[cfg(test)]
-mod tests;
 
 pub use component::is_offered;
 pub use laws::{no_offers, one_list, prices_are_low, same_offers};

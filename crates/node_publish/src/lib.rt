@@ -8,8 +8,6 @@ mod keys;
 mod node;
 mod source;
 mod store;
-#[cfg(test)]
-mod tests;
 
 pub use keys::{asks_same, home_of};
 pub use node::Node;

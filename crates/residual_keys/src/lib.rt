@@ -18,8 +18,6 @@ mod parts;
 mod reading;
 mod residual;
 mod stepping;
-#[cfg(test)]
-mod tests;
 mod text;
 mod way;
 mod words;

@@ -18,5 +18,3 @@ pub use numbers::{code, move_code};
 pub use roles::moves_of;
 pub use tickets::ticket_of;
 
-#[cfg(test)]
-mod tests;
