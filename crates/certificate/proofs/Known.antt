@@ -5,7 +5,6 @@ use Rattle.fare_law.specs.declared.requests.Request.{Request}
 use Rattle.fare_law.specs.declared.tickets.Ticket.{Ticket}
 use Rattle.fare_law.specs.Book.{Book}
 use Rattle.fare_law.specs.Lists.{Each, IsPrefix, Matched, Less}
-use Rattle.fare_law.specs.Moves.{moves_of}
 use Rattle.fare_law.specs.Codes.{run_code}
 use Rattle.fare_law.specs.Best.{Before, Best, Cheaper}
 use Rattle.fare_law.specs.Limits.{HasKeys}

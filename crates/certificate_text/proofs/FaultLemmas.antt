@@ -1,6 +1,6 @@
 -- Lines that are passed, and the first that is wrong.
 use Rattle.std.proofs.lemmas.Bool.Decides.{nat_tests}
-use Rattle.std.proofs.Common.{◌↔◌, ◌==◌, Bool, true, false, is_some, ◌≡◌, ◌≢◌, ◌≤◌, ◌<◌, ◌+◌, ◌⊎◌, inl, inr, ℕ, zero, suc, List, [], ◌∷◌, ◌++◌, length, Option, Some, None, refl, ap, sym, ◌∙◌, subst, arith, append_assoc, append-nil, length-append}
+use Rattle.std.proofs.Common.{◌↔◌, ◌==◌, Bool, true, false, is_some, ◌≡◌, ◌≢◌, ◌≤◌, ◌+◌, inl, inr, ℕ, List, [], ◌∷◌, ◌++◌, length, Option, Some, None, refl, ap, sym, ◌∙◌, subst, arith, append_assoc, append-nil, length-append}
 use Rattle.std.specs.Prelude.{codes}
 use Rattle.std.proofs.lemmas.Option.{same_Some}
 use Rattle.certificate.specs.declared.parts.CertAnswer.{CertAnswer}
@@ -9,7 +9,7 @@ use Rattle.certificate_text.specs.CertText.{answer_lines, head_lines, request_li
 use Rattle.certificate_text.specs.Lines.{number_line}
 use Rattle.certificate_text.specs.declared.faults.CertFault.{CertFault}
 use Rattle.certificate_text.specs.declared.faults.CertFault.TheVariants.{Syntax, Count, Mem}
-use Rattle.certificate_text.specs.Faults.{Due, Head, Version, Asked, AnswerCount, Answer, RowCount, Row, End, Nothing, IsOf, Leads, Passed, FirstLine, IsListed, Miscounts, CountWrong, SyntaxWrong, FirstWrong, FaultFrom}
+use Rattle.certificate_text.specs.Faults.{Due, End, Nothing, IsOf, Leads, Passed, FirstLine, IsListed, Miscounts, CountWrong, SyntaxWrong, FirstWrong, FaultFrom}
 use Rattle.fare_law.specs.Lists.{Each}
 use Rattle.word_text.specs.Laws.{CutTells}
 use Rattle.word_text.specs.Words.{IsFreeOf, cut_at}

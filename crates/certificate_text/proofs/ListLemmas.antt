@@ -1,8 +1,8 @@
 -- Lines of a list that were passed one after another.
-use Rattle.std.proofs.Common.{◌≡◌, ◌≤◌, ◌<◌, ◌+◌, ◌-◌, ◌^◌, ℕ, suc, List, [], ◌∷◌, ◌++◌, length, map, refl, ap, ap₂, sym, ◌∙◌, subst, arith, length-append}
+use Rattle.std.proofs.Common.{◌≡◌, ◌≤◌, ◌<◌, ◌+◌, ◌-◌, ℕ, suc, List, [], ◌∷◌, ◌++◌, length, map, refl, ap, sym, ◌∙◌, subst, arith, length-append}
 use Rattle.certificate_text.specs.declared.faults.CertFault.{CertFault}
 use Rattle.certificate_text.specs.Faults.{Due, Passed, FaultFrom}
-use Rattle.certificate_text.proofs.FaultLemmas.{passed_more, fault_more, passed_none, room}
+use Rattle.certificate_text.proofs.FaultLemmas.{passed_more, fault_more}
 use Rattle.fare_law.specs.Lists.{Each}
 
 pub each_more : {X : Type 0} (P : X → Type 0) (xs : List X) (x : X) → Each P xs → P x → Each P (xs ++ x ∷ [])

@@ -61,6 +61,22 @@ fn makes_a_sheet(rt: HostRuntime) -> Result<(), Fail> {
 }
 
 #[test]
+fn shares_a_rule(rt: HostRuntime) -> Result<(), Fail> {
+    let rule = Rule {
+        cat5: Some(14),
+        ..Rule::default()
+    };
+    let one = Shared::new(rt.alloc(), rule)?;
+    let other = one.share()?;
+    assert_eq!(rt; one, other);
+    drop(one);
+    assert_eq!(rt; other.cat5, Some(14));
+    let free = Shared::new(rt.alloc(), Rule::default())?;
+    assert_eq!(rt; other == free, false);
+    Ok(())
+}
+
+#[test]
 fn keeps_lists(rt: HostRuntime) -> Result<(), Fail> {
     let mut numbers = List::new(rt.alloc());
     numbers.push(3)?;

@@ -5,4 +5,4 @@
 
 mod worked;
 
-pub use worked::{circle, days, labels, one_way, order, prices, round_trip, units};
+pub use worked::{circle, days, labels, one_way, order, prices, requests, round_trip, units};

@@ -1,6 +1,6 @@
-use Rattle.std.proofs.Common.{◌≡◌, ◌≤◌, ◌<◌, ◌+◌, ◌-◌, ◌^◌, ℕ, List, [], ◌∷◌, ◌++◌, length, refl, ap, rules, sym, ◌∙◌, arith}
+use Rattle.std.proofs.Common.{◌+◌, [], ◌∷◌, ◌++◌, rules, ◌∙◌, arith}
 use Rattle.std.specs.Prelude.{codes}
-use Rattle.certificate_text.specs.CertText.{CertText, IsCertificate, answer_lines, cert_lines, head_lines, request_line, row_lines, text_of}
+use Rattle.certificate_text.specs.CertText.{answer_lines, request_line, row_lines}
 use Rattle.certificate_text.specs.Faults.{Head, Version, Asked, AnswerCount, RowCount, End, Nothing}
 use Rattle.certificate_text.specs.Lines.{number_line}
 use Rattle.certificate_text.proofs.FaultLemmas.{fault_more, passed_more, room, whole_certificate}

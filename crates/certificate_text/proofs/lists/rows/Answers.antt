@@ -1,9 +1,7 @@
-use Rattle.std.proofs.Common.{◌≡◌, ◌≤◌, ◌<◌, ◌+◌, ℕ, List, [], ◌∷◌, ◌++◌, length, refl, ap, sym, subst, arith, length-append}
+use Rattle.std.proofs.Common.{◌<◌, [], ◌∷◌, length, refl, ap, sym, subst, arith, length-append}
 use Rattle.std.specs.Prelude.{codes}
-use Rattle.certificate.specs.declared.parts.CertAnswer.{CertAnswer}
-use Rattle.certificate.specs.declared.parts.CertRow.{CertRow}
-use Rattle.certificate_text.specs.Faults.{AnswerCount, Answer, RowCount, Row, answers_due, rows_due}
-use Rattle.certificate_text.specs.Lines.{IsAnswer, IsRow, answer_line, row_line, number_line}
+use Rattle.certificate_text.specs.Faults.{RowCount, Row, rows_due}
+use Rattle.certificate_text.specs.Lines.{IsRow, row_line, number_line}
 use Rattle.fare_law.specs.Lists.{Each}
 use Rattle.certificate_text.proofs.FaultLemmas.{room}
 use Rattle.certificate_text.proofs.ListLemmas.{DueAfter, each_more, item_fault, item_passed}

@@ -1,11 +1,9 @@
-use Rattle.std.proofs.Common.{◌≡◌, ◌+◌, ℕ, List, [], ◌∷◌, refl, rules, sym, subst, ◌∙◌, arith}
+use Rattle.std.proofs.Common.{◌≡◌, [], ◌∷◌, refl, rules, sym, ◌∙◌}
 use Rattle.std.specs.Prelude.{codes}
-use Rattle.certificate.specs.declared.parts.CertAnswer.{CertAnswer}
-use Rattle.certificate.specs.declared.parts.CertRow.{CertRow}
-use Rattle.certificate_text.specs.Faults.{Due, Head, Version, Asked, AnswerCount, Answer, RowCount, Row, End, Nothing, answers_due, rows_due, IsOf, Miscounts, Passed, FaultFrom}
+use Rattle.certificate_text.specs.Faults.{End, Nothing}
 use Rattle.certificate_text.specs.declared.faults.CertFault.TheVariants.{Syntax}
-use Rattle.certificate_text.specs.Lines.{SpellsNumber, SpellsAnswer, SpellsRow, number_line, answer_line, row_line}
-use Rattle.certificate_text.proofs.FaultLemmas.{passed_one, syntax_here, count_here, fault_more, none_spelled, some_spelled, is_spelled, not_spelled, nothing_follows, none_left, some_left, passed_end}
+use Rattle.certificate_text.specs.Lines.{SpellsRow}
+use Rattle.certificate_text.proofs.FaultLemmas.{passed_one, syntax_here, count_here, fault_more, is_spelled, not_spelled, nothing_follows, none_left, some_left, passed_end}
 use Rattle.certificate_text.proofs.reading.Lines.end.Goals as goal
 
 pub returns-then-is_some-clause-fault : goal.returns-then-is_some-clause-fault

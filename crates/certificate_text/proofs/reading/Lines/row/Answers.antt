@@ -1,10 +1,8 @@
-use Rattle.std.proofs.Common.{◌≡◌, ◌+◌, ℕ, List, [], ◌∷◌, refl, rules, sym, subst, ◌∙◌, arith}
+use Rattle.std.proofs.Common.{◌≡◌, ℕ, List, [], ◌∷◌, refl, rules, subst}
 use Rattle.std.specs.Prelude.{codes}
-use Rattle.certificate.specs.declared.parts.CertAnswer.{CertAnswer}
-use Rattle.certificate.specs.declared.parts.CertRow.{CertRow}
-use Rattle.certificate_text.specs.Faults.{Due, Head, Version, Asked, AnswerCount, Answer, RowCount, Row, End, Nothing, answers_due, rows_due, IsOf, Miscounts, Passed, FaultFrom}
-use Rattle.certificate_text.specs.Lines.{SpellsNumber, SpellsAnswer, SpellsRow, number_line, answer_line, row_line}
-use Rattle.certificate_text.proofs.FaultLemmas.{passed_one, syntax_here, count_here, fault_more, none_spelled, some_spelled, is_spelled, not_spelled}
+use Rattle.certificate_text.specs.Faults.{Row, rows_due, Passed}
+use Rattle.certificate_text.specs.Lines.{SpellsRow}
+use Rattle.certificate_text.proofs.FaultLemmas.{passed_one, syntax_here, count_here, none_spelled, some_spelled}
 use Rattle.certificate_text.proofs.reading.Lines.row.Goals as goal
 
 pub returns-then-eq-clause-fault : goal.returns-then-eq-clause-fault
