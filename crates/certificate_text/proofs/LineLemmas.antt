@@ -15,7 +15,7 @@ use Rattle.residual_keys.specs.Residuals.{State}
 use Rattle.word_text.specs.Laws.{LastCutTells}
 use Rattle.word_text.specs.Words.{cut_last_at, number_in}
 
-answer_again : Numbers → (a : CertAnswer) → IsAnswer a → answer_in (answer_line a) ≡ Some a
+pub answer_again : Numbers → (a : CertAnswer) → IsAnswer a → answer_in (answer_line a) ≡ Some a
 unfolding answer_in
 answer_again k a h =
     let rest = flat_map move_words a.moves in

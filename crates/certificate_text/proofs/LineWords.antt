@@ -29,19 +29,19 @@ pub record Numbers : Type 0 where
 
 -- ---- names
 
-pub free_each : (P : ℕ → Type 0) → ((b : ℕ) → P b → b ≢ 32) → (bs : List ℕ) → Each P bs → IsFreeOf 32 bs
-free_each P other [] h = tt
-free_each P other (b ∷ bs) h = (other b h.0, free_each P other bs h.1)
+pub free_each : (P : ℕ → Type 0) (c : ℕ) → ((b : ℕ) → P b → b ≢ c) → (bs : List ℕ) → Each P bs → IsFreeOf c bs
+free_each P c other [] h = tt
+free_each P c other (b ∷ bs) h = (other b h.0, free_each P c other bs h.1)
 
 pub digits_free : Numbers → (n : ℕ) → n < 2 ^ 64 → IsFreeOf 32 (decimal n)
-digits_free k n small = free_each (IsInRange 48 57) (λ b h e. omega (arith, h, e)) (decimal n) (k.digits n small)
+digits_free k n small = free_each (IsInRange 48 57) 32 (λ b h e. omega (arith, h, e)) (decimal n) (k.digits n small)
 
 pub no_space : (b : ℕ) → IsCharacter b → b ≢ 32
 no_space b (inl h) e = omega (arith, h, e)
 no_space b (inr h) e = omega (arith, h, e)
 
 pub names_free : (cs : List ℕ) → Each IsCharacter cs → IsFreeOf 32 cs
-names_free cs h = free_each IsCharacter no_space cs h
+names_free cs h = free_each IsCharacter 32 no_space cs h
 
 pub character_again : (c : ℕ) → IsCharacter c → is_character c ≡ true
 character_again c (inl h) = grind (arith, nat_tests)

@@ -35,7 +35,7 @@ one_written k q d e h g =
 one_text : OneDate → (q : Request) (t u : List ℕ) → Writes q t → Writes q u → t ≡ u
 one_text k q t u h g = h.compact ∙ ap compact_text (one_written k q h.json g.json h.request g.request) ∙ sym g.compact
 
-same_ok : {A E : Type 0} (x y : A) → ◌≡◌ {A = Result A E} (Ok x) (Ok y) → x ≡ y
+pub same_ok : {A E : Type 0} (x y : A) → ◌≡◌ {A = Result A E} (Ok x) (Ok y) → x ≡ y
 same_ok x y e = cc
 
 spelled_text : (line : List ℕ) (q : Request) (s : SpellsRequest line q) → after_label (codes "request ") line ≡ Some s.text

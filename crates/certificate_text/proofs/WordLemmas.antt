@@ -109,8 +109,6 @@ spaced_none text more i l e h =
 pub past_end : (text : List ℕ) → take (length text - length text) (drop (length text) text) ≡ []
 past_end text = let none : length text - length text ≡ 0 = omega arith in ap (λ n. take n (drop (length text) text)) none
 
-pub ruleset label_rules = (label_none, label_of)
-
 pub ruleset space_rules = (free_more, spaced_at, spaced_none)
 
 -- ---- flights
