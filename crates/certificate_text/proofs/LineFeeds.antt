@@ -10,8 +10,8 @@ use Rattle.certificate_text.specs.Lines.{spaced, number_line, move_words, answer
 use Rattle.certificate_text.proofs.LineWords.{both, free_each, role_small}
 use Rattle.fare_law.specs.declared.moves.Move.{Move}
 use Rattle.fare_law.specs.Lists.{Each}
-use Rattle.fare_law.specs.Moves.{role_code}
-use Rattle.fare_law.specs.Order.{IsCharacter}
+use Rattle.fare_law.specs.Codes.{role_code}
+use Rattle.fare_law.specs.Names.{IsCharacter}
 use Rattle.open_unit.specs.declared.units.OpenUnit.{OpenUnit}
 use Rattle.open_unit.specs.Ranges.{UnitInRanges}
 use Rattle.residual_keys.specs.declared.parts.TicketPart.{TicketPart}

@@ -11,7 +11,7 @@ use Rattle.fare_law.specs.declared.moves.Role.{Role}
 use Rattle.fare_law.specs.declared.names.Basis.{Basis}
 use Rattle.fare_law.specs.declared.names.Carrier.{Carrier}
 use Rattle.fare_law.specs.Lists.{Each}
-use Rattle.fare_law.specs.Moves.{role_code}
+use Rattle.fare_law.specs.Codes.{role_code}
 use Rattle.name_text.specs.Names.{basis_of, carrier_of}
 use Rattle.word_text.specs.Words.{number_in}
 
