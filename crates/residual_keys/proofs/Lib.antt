@@ -19,6 +19,7 @@ pub mod Offered
 pub mod Markets
 pub mod Pathed
 pub mod PathByPath
+pub mod SortedWords
 pub mod InOrder
 pub mod RunsBest
 pub mod Ordered

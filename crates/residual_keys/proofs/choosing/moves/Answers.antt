@@ -2,7 +2,7 @@ use Rattle.std.proofs.Common.{◌≡◌, length, sym, ap, subst, ◌∙◌, arit
 use Rattle.fare_law.specs.Lists.{Each, EachPair, IsIn, Less}
 use Rattle.fare_law.specs.Codes.{move_code}
 use Rattle.ticket_order.specs.Coding.{Coded}
-use Rattle.residual_keys.proofs.InOrder.{same_length, same_moves, written}
+use Rattle.residual_keys.proofs.SortedWords.{same_elements, same_length, written}
 use Rattle.residual_keys.proofs.Needed.{each_from}
 use Rattle.residual_keys.proofs.PathByPath.{all_coded}
 use Rattle.residual_keys.specs.Written.{IsWrittenNext}
@@ -27,7 +27,7 @@ returns-clause-moves g c =
     let result_is : c.from_vec.result ≡ new = c.from_vec.ensures ∙ written c.into_vec-found.result.len items new (omega (arith, c.into_vec-found.result.ok.0)) long in
     record {
       ascending = subst (EachPair (λ x y. Less (move_code x.mv) (move_code y.mv))) (sym result_is) c.put_in_order.ensures.order;
-      are = λ x. let p = same_moves x old new c.put_in_order.ensures.same in (
+      are = λ x. let p = same_elements x old new c.put_in_order.ensures.same in (
         λ i. (added.are x).0 (subst (IsIn x) old_is (p.1 (subst (IsIn x) result_is i))),
         λ h. subst (IsIn x) (sym result_is) (p.0 (subst (IsIn x) (sym old_is) ((added.are x).1 h))),
       );
