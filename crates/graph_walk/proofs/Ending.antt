@@ -1,7 +1,6 @@
 -- What a walk from the root has found, that it is more than the budget, and how large prices get.
 use Rattle.std.proofs.Common.{◌≡◌, ◌≢◌, ◌⊎◌, ◌∙◌, ℕ, suc, ◌+◌, ◌*◌, ◌≤◌, ◌<◌, get_or, List, [], ◌∷◌, ◌++◌, length, Option, Some, None, IfSome, refl, sym, subst, inl, inr, ⊎_elim, arith}
-use Rattle.fare_law.specs.Faults.{HasMany}
-use Rattle.fare_law.specs.Lists.{AllDifferent, Each, IsIn}
+use Rattle.fare_law.specs.Lists.{HasMany, AllDifferent, Each, IsIn}
 use Rattle.graph_walk.specs.Walks.{AreLeast, AreReached, Reached, Costs, IsShort, LeastBy, states}
 use Rattle.graph_walk.specs.Walks.Reached.{here, further}
 use Rattle.graph_walk.specs.Walks.Costs.{over, goes}

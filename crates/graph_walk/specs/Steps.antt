@@ -1,7 +1,6 @@
 -- Outcomes of a state, and what one step of the walk does to the rows.
 use Rattle.std.specs.Prelude.{◌≡◌, ◌↔◌, IsTrue, IfSome, option_map, ◌⊎◌, ℕ, suc, ◌+◌, ◌≤◌, Bool, nat_lt, if◌then◌else◌, List, [], ◌∷◌, Option, Some, None}
-use Rattle.fare_law.specs.Faults.{HasMany}
-use Rattle.fare_law.specs.Lists.{AllDifferent, Each, IsIn}
+use Rattle.fare_law.specs.Lists.{HasMany, AllDifferent, Each, IsIn}
 use Rattle.graph_walk.specs.declared.outcome.Outcome.{Outcome}
 use Rattle.graph_walk.specs.declared.faults.WalkFault.{WalkFault}
 use Rattle.graph_walk.specs.declared.faults.WalkFault.TheVariants.{TooLarge, Mem}
