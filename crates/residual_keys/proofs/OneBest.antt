@@ -1,4 +1,4 @@
--- The order of tickets by price and code is strict and total, and there is one list of the best.
+-- The order of tickets by price and code is strict and total, and there is one list of the best. Given on to the crates above.
 use Rattle.std.proofs.Common.{◌≡◌, ℕ, ◌⊎◌, ◌+◌, List, [], ◌∷◌, sym, refl, ap, ap₂, ◌∙◌, subst, inl, inr, sum_by}
 use Rattle.std.proofs.lemmas.List.Sums.{sum_by-cons}
 use Rattle.fare_law.specs.declared.moves.Move.{Move}

@@ -1,4 +1,4 @@
--- A move of a state leaves one state, so what completes a list of moves depends on the state alone.
+-- A move of a state leaves one state, so what completes a list of moves depends on the state alone. Given on to the crates above.
 use Rattle.std.proofs.Common.{◌≡◌, ℕ, ℤ, ◌+◌, Bool, true, false, cond, List, [], ◌∷◌, ◌++◌, set, slice_get, Option, Some, None, sym, refl, ap, ap₂, ◌∙◌, subst, inl, inr, MatchBool}
 use Rattle.fare_law.specs.declared.flights.Flight.{Flight}
 use Rattle.fare_law.specs.declared.tickets.Piece.{Piece}

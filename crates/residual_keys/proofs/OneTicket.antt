@@ -1,4 +1,4 @@
--- Moves are those of one lawful ticket.
+-- Moves are those of one lawful ticket. Given on to the crates above.
 use Rattle.std.proofs.Common.{◌≡◌, ℕ, ℤ, Bool, true, false, cond, List, [], ◌∷◌, ◌++◌, map, set, remove, sym, refl, ap, ap₂, ◌∙◌, subst}
 use Rattle.fare_law.specs.declared.tickets.Component.{Component}
 use Rattle.fare_law.specs.declared.fares.FareKey.{FareKey}

@@ -1,4 +1,4 @@
--- The k least runs from the root, as tickets, are the best tickets.
+-- The k least runs from the root, as tickets, are the best tickets. Given on to the crates above.
 use Rattle.std.proofs.Common.{◌≡◌, suc, ◌≤◌, List, [], ◌∷◌, length, sym, refl, ap, ◌∙◌, subst, inl, inr}
 use Rattle.fare_law.specs.declared.requests.Request.{Request}
 use Rattle.fare_law.specs.declared.tickets.Ticket.{Ticket}

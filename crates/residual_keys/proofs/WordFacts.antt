@@ -1,4 +1,4 @@
--- What is known of words, as the law functions of their crate give it, and the bytes of a residual's words.
+-- What is known of words, as the law functions of their crate give it, and the bytes of a residual's words. Given on to the crates above.
 use Rattle.std.proofs.Common.{◌≢◌, ◌<◌, ◌^◌, ℕ, ℤ, pos, negsuc, ◌≤ℤ◌, List, [], ◌∷◌, ◌++◌, map, Option, Some, None, arith, inl, inr}
 use Rattle.std.proofs.lemmas.Int.{ints}
 use Rattle.std.specs.Fmt.{decimal, signed_decimal}

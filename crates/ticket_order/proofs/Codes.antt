@@ -1,4 +1,4 @@
--- A code tells its moves, and no code is the front of another but that of a front of its moves.
+-- A code tells its moves, and no code is the front of another but that of a front of its moves. Given on to the crates above.
 use Rattle.std.proofs.Common.{◌≡◌, ℕ, zero, suc, ◌+◌, ◌-◌, ◌*◌, ◌^◌, ◌≤◌, ◌<◌, ◌⊎◌, cond, List, [], ◌∷◌, ◌++◌, length, sym, refl, ap, ap₂, ◌∙◌, subst, inl, inr, arith, append_assoc, append-nil, pow-suc, mul-le-mul_right, suc-mul, mul_comm}
 use Rattle.std.proofs.lemmas.Bool.{le-leb, lt-leb, cases_eq, cases_order}
 use Rattle.fare_law.specs.declared.names.Basis.{Basis}

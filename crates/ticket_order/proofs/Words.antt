@@ -1,4 +1,4 @@
--- The order of words, and of words with a price.
+-- The order of words, and of words with a price. Given on to the crates above.
 use Rattle.std.proofs.Common.{◌≡◌, ℕ, ◌+◌, ◌≤◌, ◌⊎◌, ◌↔◌, List, [], ◌∷◌, ◌++◌, refl, sym, ap₂, ◌∙◌, inl, inr, arith}
 use Rattle.std.proofs.lemmas.Bool.{cases_eq, cases_order}
 use Rattle.fare_law.specs.Lists.{IsPrefix, Less}
