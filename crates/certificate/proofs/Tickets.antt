@@ -3,7 +3,6 @@ use Rattle.std.proofs.Common.{◌≡◌, ℕ, sym, ap, subst, inl, [], ◌∙◌
 use Rattle.certificate.specs.declared.parts.CertAnswer.{CertAnswer}
 use Rattle.certificate.specs.AnswerCheck.{AnswerIs, AnswerBelow}
 use Rattle.certificate.proofs.Below.{never_cheaper}
-use Rattle.residual_keys.proofs.NothingLost.{codes as code_is}
 use Rattle.certificate.proofs.OneFirst.{neither_less}
 use Rattle.fare_law.specs.declared.requests.Request.{Request}
 use Rattle.fare_law.specs.declared.tickets.Ticket.{Ticket}
@@ -17,11 +16,7 @@ module _ (b : Book) (q : Request) where
   costs_one t m n h k = neither_less m n (λ l. never_cheaper b q t (m, n, h, k, inl l)) (λ l. never_cheaper b q t (n, m, k, h, inl l))
 
   pub answer_code : (a : CertAnswer) (t : Ticket) → AnswerIs b q a t → code t ≡ run_code a.moves
-<<<<<<< HEAD
   answer_code a t h = ap run_code h.1
-=======
-  answer_code a t h = code_is [] t.components ∙ ap run_code h.1
->>>>>>> certs/certs
 
   pub cheaper : (a c : CertAnswer) (t u : Ticket) → AnswerIs b q a t → AnswerIs b q c u → AnswerBelow a c → Cheaper b q t u
   cheaper a c t u h k w =

@@ -10,7 +10,7 @@ use Rattle.certificate.specs.DepartureCheck.{DeparturesHold, IsFront, LeadsFor}
 use Rattle.certificate.specs.RowCheck.{IsRoot, RootIsRow}
 use Rattle.certificate.proofs.Decided.{taken_decided}
 use Rattle.certificate.proofs.Below.{fare_units}
-use Rattle.residual_keys.proofs.NothingLost.{codes as code_is, ticket_run}
+use Rattle.residual_keys.proofs.NothingLost.{ticket_run}
 use Rattle.residual_keys.proofs.OneNext.{moves_one, run_leads}
 use Rattle.residual_keys.proofs.OneTicket.{ticket_one}
 use Rattle.ticket_order.proofs.Codes.{codes_joined}
@@ -166,11 +166,7 @@ module _ (b : Book) (q : Request) (rows : List CertRow) (answers : List CertAnsw
         let first = c.root in
         let d = departs (moves_of t) root root [] 0 run.0 t first.0 (run.1.0, run.1.1, refl) (inl refl) (refl, refl) run.1.2 first.1
         (root_same b q first.0.residual root first.2 (run.1.0, run.1.1, refl)) law refl out in
-<<<<<<< HEAD
         let w = subst (λ z. OnLast (λ a. Before a.price (run_code a.moves) z (code t)) answers) (zero_plus run.0) d.1 in (
-=======
-        let w = subst (λ z. OnLast (λ a. Before a.price (run_code a.moves) run.0 z) answers) (sym (code_is [] t.components)) (subst (λ z. OnLast (λ a. Before a.price (run_code a.moves) z (run_code (moves_of t))) answers) (zero_plus run.0) d.1) in (
->>>>>>> certs/certs
           matched_both (AnswerIs b q) (λ a. Before a.price (run_code a.moves) run.0 (code t)) (λ u. Cheaper b q u t)
               (λ a u h l. (a.price, run.0, h.2, run.2, subst (λ z. Before a.price z run.0 (code t)) (sym (answer_code b q a u h)) l))
               answers tickets c.right (after_each run.0 (code t) answers c.ascending w),

@@ -1,11 +1,6 @@
-<<<<<<< HEAD
--- The runs from the root are the moves of the lawful tickets, with their price and code.
-use Rattle.std.proofs.Common.{◌≡◌, ◌≢◌, ℕ, suc, ◌+◌, Bool, true, false, cond, nat_le, List, [], ◌∷◌, ◌++◌, length, map, flat_map, sum_by, slice_get, Option, Some, None, sym, refl, ap, ap₂, ◌∙◌, subst, arith}
-=======
 -- The runs from the root are the moves of the lawful tickets, with their price and code. Given on to the crates above.
 use Rattle.std.proofs.Common.{◌≡◌, ◌≢◌, ℕ, suc, ◌+◌, Bool, true, false, cond, nat_le, List, [], ◌∷◌, ◌++◌, length, map, flat_map, find, reverse, sum_by, slice_get, Option, Some, None, sym, refl, ap, ap₂, ◌∙◌, subst, inl, inr, arith, option_and_then}
 use Rattle.std.proofs.lemmas.Bool.{cases_Bool, and_parts}
->>>>>>> certs/certs
 use Rattle.std.proofs.lemmas.List.Sums.{sum_by-cons}
 use Rattle.fare_law.specs.declared.tickets.Component.{Component}
 use Rattle.fare_law.specs.declared.fares.FareKey.{FareKey}

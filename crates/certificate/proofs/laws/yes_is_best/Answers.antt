@@ -4,27 +4,4 @@ use Rattle.certificate.proofs.YesIsBest.{yes_is_best}
 use Rattle.certificate.proofs.laws.yes_is_best.Goals as goal
 
 pub returns : goal.returns
-<<<<<<< HEAD
-returns c =
-    let known : Known = record {
-      runs = c.nothing_lost.ensures.runs;
-      tickets = c.nothing_lost.ensures.tickets;
-      one_ticket = c.nothing_lost.ensures.one;
-      one_next = c.one_next.ensures.one;
-      goes_on = c.one_next.ensures.further;
-      keys = c.one_next.ensures.keys;
-      fits = c.runs_are_short.ensures.fits;
-      best_tickets = c.best_runs.ensures.tickets;
-      one_best = c.one_best.ensures.tickets;
-      need = c.residual_order.ensures.need;
-      never = c.one_best.ensures.never;
-      front = c.codes_tell.ensures.front;
-      joined = c.codes_tell.ensures.joined;
-      less_cut = c.order_laws.ensures.less_cut;
-      before_trans = c.order_laws.ensures.before_trans;
-      before_more = c.order_laws.ensures.before_more;
-    } in
-    record { best = yes_is_best known; same = same_answers known }
-=======
 returns c = record { best = yes_is_best; same = same_answers }
->>>>>>> certs/certs

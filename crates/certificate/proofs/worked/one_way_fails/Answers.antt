@@ -7,37 +7,6 @@ use Rattle.ticket_order.proofs.Words.{before_never}
 use Rattle.certificate.proofs.worked.one_way_fails.Goals as goal
 
 pub returns : goal.returns
-<<<<<<< HEAD
-returns c =
-    let known : Known = record {
-      runs = c.nothing_lost.ensures.runs;
-      tickets = c.nothing_lost.ensures.tickets;
-      one_ticket = c.nothing_lost.ensures.one;
-      one_next = c.one_next.ensures.one;
-      goes_on = c.one_next.ensures.further;
-      keys = c.one_next.ensures.keys;
-      fits = c.runs_are_short.ensures.fits;
-      best_tickets = c.best_runs.ensures.tickets;
-      one_best = c.one_best.ensures.tickets;
-      need = c.residual_order.ensures.need;
-      never = c.one_best.ensures.never;
-      front = c.codes_tell.ensures.front;
-      joined = c.codes_tell.ensures.joined;
-      less_cut = c.order_laws.ensures.less_cut;
-      before_trans = c.order_laws.ensures.before_trans;
-      before_more = c.order_laws.ensures.before_more;
-    } in
-    record {
-      no_row = no_row;
-      row_twice = row_twice (c.residual_order.ensures.order.never one_way_root);
-      bound = bound_fails;
-      price = wrong_price known;
-      answer_twice = answer_twice known c.order_laws.ensures.before_never;
-      no_answer = no_answer;
-      version = other_version known;
-      request = other_request known;
-    }
-=======
 returns c = record {
   no_row = no_row;
   row_twice = row_twice (states.never one_way_root);
@@ -48,4 +17,3 @@ returns c = record {
   version = other_version;
   request = other_request;
 }
->>>>>>> certs/certs
