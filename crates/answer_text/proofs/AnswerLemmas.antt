@@ -30,10 +30,9 @@ one_ticket c price flight costs stand amount flown = record {
     record {
       kind = OneWay;
       unit = (refl, refl);
-      flights = flight ∷ [];
-      each = (flown, tt);
-      written = ap (λ n. component_line 1 1 OneWay false c.fare.key n ++ flight) (sym amount)
-          ∙ ap (λ t. component_line 1 1 OneWay false c.fare.key (price_of (part_of c).flights (part_of c).piece) ++ t) (sym (append-nil flight));
+      flights = flight;
+      lines = record { lines = flight ∷ []; each = (flown, tt); written = sym (append-nil flight) };
+      written = ap (λ n. component_line 1 1 OneWay false c.fare.key n ++ flight) (sym amount);
     },
     tt,
   );

@@ -1,11 +1,13 @@
 -- The text of an answer: its tickets, of each its components, and of each its flights.
 use Rattle.std.specs.Prelude.{◌≡◌, ℕ, suc, List, [], ◌∷◌, ◌++◌, length}
 use Rattle.std.specs.List.{concat}
+use Rattle.fare_law.specs.declared.flights.Flight.{Flight}
 use Rattle.fare_law.specs.declared.requests.Request.{Request}
 use Rattle.fare_law.specs.declared.rules.UnitKind.{UnitKind}
+use Rattle.fare_law.specs.declared.tickets.Priced.{Priced}
 use Rattle.fare_law.specs.declared.tickets.Ticket.{Ticket}
 use Rattle.fare_law.specs.Book.{Book}
-use Rattle.fare_law.specs.Lawful.{unit_of}
+use Rattle.fare_law.specs.Lawful.{Lawful, unit_of}
 use Rattle.fare_law.specs.Parts.{Part, IsPart, price_of}
 use Rattle.fare_law.specs.Lists.{Matched}
 use Rattle.fare_law.specs.Best.{Costs}
@@ -19,13 +21,19 @@ MatchedFrom n R [] (y ∷ ys) = ⊥
 MatchedFrom n R (x ∷ xs) [] = ⊥
 MatchedFrom n R (x ∷ xs) (y ∷ ys) = R n x y × MatchedFrom (suc n) R xs ys
 
+-- The text is that of these flights: a line each.
+pub record FlightTexts (flights : List Flight) (text : List ℕ) : Type 0 where
+  pub lines : List (List ℕ)
+  pub each : Matched FlightLine flights lines
+  pub written : text ≡ concat lines
+
 -- The text is that of the component with this number among these: its line, then its flights' lines.
 pub record ComponentText (parts : List Part) (number : ℕ) (part : Part) (text : List ℕ) : Type 0 where
   pub kind : UnitKind
   pub unit : IsUnit kind (unit_of part.unit parts)
-  pub flights : List (List ℕ)
-  pub each : Matched FlightLine part.flights flights
-  pub written : text ≡ component_line number part.unit kind part.piece.reverse part.piece.fare.key (price_of part.flights part.piece) ++ concat flights
+  pub flights : List ℕ
+  pub lines : FlightTexts part.flights flights
+  pub written : text ≡ component_line number part.unit kind part.piece.reverse part.piece.fare.key (price_of part.flights part.piece) ++ flights
 
 -- The text is that of the ticket with this number: its line with its price, then its components' texts.
 pub record TicketText (b : Book) (q : Request) (number : ℕ) (ticket : Ticket) (text : List ℕ) : Type 0 where
@@ -36,6 +44,10 @@ pub record TicketText (b : Book) (q : Request) (number : ℕ) (ticket : Ticket) 
   pub components : List (List ℕ)
   pub each : MatchedFrom 1 (ComponentText parts) parts components
   pub written : text ≡ ticket_line number price ++ concat components
+
+-- the ticket is lawful, and this is its price
+abbrev pub IsRight : Book → Request → Priced → Type 0
+IsRight b q priced = Lawful priced.ticket b q × Costs priced.ticket b q priced.price
 
 -- The text is that of an answer of these tickets: the line with their count, then their texts.
 pub record AnswerText (b : Book) (q : Request) (tickets : List Ticket) (text : List ℕ) : Type 0 where

@@ -38,7 +38,7 @@ pub fn has_unknown_flight(component: &Component, book: &Book) -> bool
         .any(|number| flights.get(*number as usize).is_none())
 }
 
-/// The known flights of the component.
+/// The known flights of the component, in order.
 pub fn flights_of(component: &Component, book: &Book) -> ArrayVec<Flight, 4>
     ensures flights { result ≡ known_flights book.now component.now.flights }
     ensures limits { Each IsFlight result }

@@ -45,6 +45,15 @@ pub fn stretch_of(component: &Component, book: &Book) -> Option<Stretch>
     })
 }
 
+/// Whether a component goes against the direction of its fare's filing. None exactly where its fare
+/// isn't live or it has no known flight.
+pub fn is_reverse(component: &Component, book: &Book) -> Option<bool>
+    ensures { (sale : ℤ) → result ≡ option_map (λ part. part.piece.reverse) (part_of book.now sale component.now) }
+{
+    let stretch = stretch_of(component, book)?;
+    Some(stretch.reverse)
+}
+
 /// The stretches of at most 18 components.
 pub fn stretches_of(components: &[Component], book: &Book) -> ArrayVec<Stretch, 18>
     requires { length components.now ≤ 18 }

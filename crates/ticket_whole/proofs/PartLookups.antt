@@ -1,4 +1,4 @@
--- The part that a component is, by the law and as it is looked up.
+-- The part that a component is, by the law and as it is looked up. This file is given on to the crates above.
 use Rattle.std.proofs.Common.{◌≡◌, ◌≢◌, ◌&&◌, ◌∙◌, ℕ, ℤ, Bool, true, false, MatchBool, List, [], ◌∷◌, Some, option_map, option_and_then, map, refl, ap, sym, subst}
 use Rattle.std.specs.Bool.{Decides}
 use Rattle.std.specs.List.{cons_option}
@@ -14,9 +14,9 @@ use Rattle.fare_law.specs.declared.tickets.Component.{Component}
 use Rattle.fare_law.specs.declared.tickets.Piece.{Piece}
 use Rattle.fare_law.specs.Book.{Book, live_fare, live_rule, same_place}
 use Rattle.fare_law.specs.Journey.{calls}
-use Rattle.fare_law.specs.Parts.{Part, IsPart, Filed, Numbers}
-use Rattle.fare_law.specs.Lists.{Each, OnFirst, OnLast, AllDifferent}
-use Rattle.ticket_demands.specs.Known.{known_flights, live_row, last_of, ends_of, part_over, part_of}
+use Rattle.fare_law.specs.Parts.{Part, IsPart, ComponentLawful, Filed, Numbers}
+use Rattle.fare_law.specs.Lists.{Each, Matched, OnFirst, OnLast, AllDifferent}
+use Rattle.ticket_demands.specs.Known.{known_flights, live_row, last_of, ends_of, part_over, part_of, parts_of}
 
 pub places_told : (p q : Place) → Decides (same_place p q) (p ≡ q)
 places_told p q = Decides-like _ (λ h. ap {B = Place} (λ x. record { 0 = x }) h) (λ e. ap (λ p. p.0) e) (bytes_eq-Decides p.0 q.0)
@@ -92,3 +92,11 @@ part_is b q c part h apart = go part.flights refl apart h.stands.begins h.stands
         looked_up b q.sale c row f fs (row_live b c part.piece.fare part.piece.rule h.stands.fare h.stands.rule) known
         ∙ ap Some (part_same q.sale c.unit row part f fs e o.0 z.0 refl refl
         (direction part.piece f.from (last_of f fs).to o.0 z.0 (away_from f.from f fs a.0) part.piece.reverse refl h.stands.filed) o.1 z.1 h.stands.sale_is h.unit)
+
+-- the parts that the components of a ticket stand for, where these are lawful by themselves, are those that are looked up
+pub parts_are : (b : Book) (q : Request) (cs : List Component) (parts : List Part) → Matched (IsPart b q) cs parts → Each (λ part. ComponentLawful b q.party part.flights part.piece) parts → parts_of b q.sale cs ≡ parts
+parts_are b q [] [] m h = refl
+parts_are b q [] (part ∷ parts) m h = absurd m
+parts_are b q (c ∷ cs) [] m h = absurd m
+parts_are b q (c ∷ cs) (part ∷ parts) m h =
+    ap (λ o. cons_option o (parts_of b q.sale cs)) (part_is b q c part m.0 h.0.shape.apart) ∙ ap (λ ps. part ∷ ps) (parts_are b q cs parts m.1 h.1)

@@ -21,16 +21,9 @@ use Rattle.ticket_whole.proofs.ComponentFacts.{lawful_component}
 use Rattle.ticket_whole.proofs.ComponentParts.{StandsAs, stands_as}
 use Rattle.ticket_whole.proofs.FlownCuts.{flown_meets, meets_flown}
 use Rattle.ticket_whole.proofs.LabelTurns.{StandFrom, stand_numbered}
-use Rattle.ticket_whole.proofs.PartLookups.{numbers_known, part_is}
+use Rattle.ticket_whole.proofs.PartLookups.{numbers_known, part_is, parts_are}
 use Rattle.ticket_whole.proofs.Splits.{Mate, mate_of, each_in, in_each, each_split, each_gathered, if_some_all}
 use Rattle.ticket_whole.proofs.UnitHolds.{lawful_unit, unit_lawful}
-
-parts_are : (b : Book) (q : Request) (cs : List Component) (parts : List Part) → Matched (IsPart b q) cs parts → Each (λ part. ComponentLawful b q.party part.flights part.piece) parts → parts_of b q.sale cs ≡ parts
-parts_are b q [] [] m h = refl
-parts_are b q [] (part ∷ parts) m h = absurd m
-parts_are b q (c ∷ cs) [] m h = absurd m
-parts_are b q (c ∷ cs) (part ∷ parts) m h =
-    ap (λ o. cons_option o (parts_of b q.sale cs)) (part_is b q c part m.0 h.0.shape.apart) ∙ ap (λ ps. part ∷ ps) (parts_are b q cs parts m.1 h.1)
 
 flights_are : (b : Book) (q : Request) (cs : List Component) (parts : List Part) → Matched (IsPart b q) cs parts → flights_of b cs ≡ flat_map (λ part. part.flights) parts
 flights_are b q [] [] m = refl

@@ -15,6 +15,6 @@ pub use judgement::lawful;
 pub use laws::{lawful_where_met, one_first_breach};
 pub use ticket_demands::{
     Breach, CategoryDemand, ComponentDemand, Demand, JourneyDemand, UnitDemand, category_meets,
-    component_meets, component_price, cuts_meet, first_day_by_category, one_kind, part_meets,
-    price, stay_by_category, unit_kind,
+    component_meets, component_price, cuts_meet, first_day_by_category, flights_of, is_reverse,
+    one_kind, part_meets, price, stay_by_category, unit_kind,
 };
