@@ -1,4 +1,4 @@
-pub mod Known
+pub mod Below
 pub mod ListFacts
 pub mod OneFirst
 pub mod Decided

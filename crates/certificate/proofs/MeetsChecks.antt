@@ -6,16 +6,22 @@ use Rattle.certificate.specs.BoundCheck.{state_after}
 use Rattle.certificate.specs.CertOf.{CertOf, SearchMeetsChecks}
 use Rattle.certificate.specs.declared.parts.Certificate.{Certificate}
 use Rattle.certificate.specs.DepartureCheck.{CountsFor, DeparturesHold, LeadsFor}
-use Rattle.certificate.proofs.Known.{Known}
+use Rattle.certificate.proofs.Below.{fare_units}
+use Rattle.residual_keys.proofs.NothingLost.{run_ticket, ticket_run}
+use Rattle.residual_keys.proofs.OneNext.{run_has_keys}
+use Rattle.ticket_order.proofs.Codes.{code_front, codes_joined}
+use Rattle.ticket_order.proofs.Words.{less_cut}
 use Rattle.certificate.proofs.ListFacts.{each_in, each_from, each_front, each_last, is_in, length_middle, matched_back, matched_left, matched_length, matched_pairs, matched_right, matched_turn, pair_last}
 use Rattle.certificate.proofs.SearchRows.{bounds_hold, least, rows_hold, run_at, run_more}
 use Rattle.certificate.proofs.Tickets.{below}
 use Rattle.fare_law.specs.declared.moves.Move.{Move}
 use Rattle.fare_law.specs.declared.requests.Request.{Request}
 use Rattle.fare_law.specs.Book.{Book}
-use Rattle.fare_law.specs.Lists.{Each, EachPair, IsIn}
-use Rattle.fare_law.specs.Moves.{moves_of, run_code}
-use Rattle.fare_law.specs.Order.{Before, Cheaper, HasKeys, Less}
+use Rattle.fare_law.specs.Lists.{Each, EachPair, IsIn, Less}
+use Rattle.fare_law.specs.Moves.{moves_of}
+use Rattle.fare_law.specs.Codes.{run_code}
+use Rattle.fare_law.specs.Best.{Before, Cheaper}
+use Rattle.fare_law.specs.Limits.{HasKeys}
 use Rattle.fare_law.specs.Parts.{price_of}
 use Rattle.fare_law.specs.Flights.{Ascending}
 use Rattle.residual_keys.specs.Residuals.{State, Run, RunFromRoot, no_part}
@@ -32,9 +38,9 @@ leads_price b q r x (m ∷ front) ms price further (fs, p, at, us, rest, mv, h, 
     sums : price ≡ price_of fs p + rest → price_of fs p + (rest + further) ≡ price + further
     sums e = omega arith
 
-module _ (known : Known) (b : Book) (q : Request) (c : Certificate) (of : CertOf b q c) where
+module _ (b : Book) (q : Request) (c : Certificate) (of : CertOf b q c) where
   pub answers_ascend : EachPair AnswerBelow c.answers
-  answers_ascend = matched_pairs (λ t a. AnswerIs b q a t) (Cheaper b q) AnswerBelow (λ t u a d. below known b q a d t u) of.tickets c.answers (matched_turn (AnswerIs b q) c.answers of.tickets of.answers) of.best.ascending
+  answers_ascend = matched_pairs (λ t a. AnswerIs b q a t) (Cheaper b q) AnswerBelow (λ t u a d. below b q a d t u) of.tickets c.answers (matched_turn (AnswerIs b q) c.answers of.tickets of.answers) of.best.ascending
 
   pub answers_few : length c.answers ≤ q.best
   answers_few = omega (arith, of.best.few, matched_length (AnswerIs b q) c.answers of.tickets of.answers)
@@ -53,24 +59,24 @@ module _ (known : Known) (b : Book) (q : Request) (c : Certificate) (of : CertOf
     pub comes_after : (ms : List Move) (price : ℕ) → RunFromRoot b q ms price → ((a : CertAnswer) → IsIn a c.answers → a.moves ≡ ms → ⊥)
         → Each (λ a. Before a.price (run_code a.moves) price (run_code ms)) c.answers × (length c.answers ≡ q.best)
     comes_after ms price run none =
-        let t = known.runs b q asc ms price run in
+        let t = run_ticket fare_units b q asc ms price run in
         let e : CertAnswer = record { price = price; moves = ms } in
         let k = of.best.rest t.0 t.1 (λ i. let a = matched_left (AnswerIs b q) c.answers of.tickets of.answers t.0 i in none a.0 a.1 (sym a.2.1 ∙ t.2)) in (
-          matched_back (AnswerIs b q) (λ a. AnswerBelow a e) (λ u. Cheaper b q u t.0) (λ a u h w. below known b q a e u t.0 h (t.1, t.2, t.3) w) c.answers of.tickets of.answers k.0,
+          matched_back (AnswerIs b q) (λ a. AnswerBelow a e) (λ u. Cheaper b q u t.0) (λ a u h w. below b q a e u t.0 h (t.1, t.2, t.3) w) c.answers of.tickets of.answers k.0,
           sym (matched_length (AnswerIs b q) c.answers of.tickets of.answers) ∙ k.1,
         )
 
     counts_run : (x : State) (m : Move) (last : ℕ) → CountsFor b q c.rows x m last → (rest : List Move) × Run b q x (m ∷ rest) last
     counts_run x m last (inl (fs, p, mv, e)) = ([], (fs, p, mv, e))
     counts_run x m last (inr (fs, p, at, us, row, bound, mv, i, s, k, e)) =
-        let r = run_at b q row.residual row.bound bound (least known b q c.rows of.rows row i) k in
+        let r = run_at b q row.residual row.bound bound (least b q c.rows of.rows row i) k in
         (r.0, subst (λ n. Run b q x (m ∷ r.0) n) (sym e) (run_more b q x m r.0 fs p at us bound mv (subst (λ z. Run b q z r.0 bound) s r.1)))
 
     answer_coded : HasKeys b → (a : CertAnswer) → IsIn a c.answers → Each Coded a.moves
     answer_coded keys a i =
         let t = matched_right (AnswerIs b q) c.answers of.tickets of.answers a i in
-        let run = known.tickets b q t.0 t.2.0 in
-        subst (Each Coded) t.2.1 (known.keys b q keys _ (moves_of t.0) run.0 run.1.2)
+        let run = ticket_run fare_units b q t.0 t.2.0 in
+        subst (Each Coded) t.2.1 (run_has_keys b q keys _ (moves_of t.0) run.0 run.1.2)
 
     departures_hold : HasKeys b → 1 ≤ q.best → DeparturesHold b q c.rows c.answers
     departures_hold keys one front m price d =
@@ -82,28 +88,28 @@ module _ (known : Known) (b : Book) (q : Request) (c : Certificate) (of : CertOf
           k.1,
           each_last (λ a. Before a.price (run_code a.moves) price (run_code (front ++ m ∷ []))) c.answers (omega (arith, k.1, one))
               (each_from (λ a. Before a.price (run_code a.moves) price (run_code (front ++ m ∷ []))) c.answers
-              (λ a i. cut a i r.0 (known.keys b q keys root (front ++ m ∷ r.0) price run.2) (each_in (λ y. Before y.price (run_code y.moves) price (run_code (front ++ m ∷ r.0))) c.answers k.0 a i))),
+              (λ a i. cut a i r.0 (run_has_keys b q keys root (front ++ m ∷ r.0) price run.2) (each_in (λ y. Before y.price (run_code y.moves) price (run_code (front ++ m ∷ r.0))) c.answers k.0 a i))),
         )
       where
         codes_split : (rest : List Move) → run_code (front ++ m ∷ rest) ≡ run_code (front ++ m ∷ []) ++ run_code rest
-        codes_split rest = ap run_code (sym (append_assoc front (m ∷ []) rest)) ∙ known.joined (front ++ m ∷ []) rest
+        codes_split rest = ap run_code (sym (append_assoc front (m ∷ []) rest)) ∙ codes_joined (front ++ m ∷ []) rest
 
         cut : (a : CertAnswer) → IsIn a c.answers → (rest : List Move) → Each Coded (front ++ m ∷ rest) → Before a.price (run_code a.moves) price (run_code (front ++ m ∷ rest)) → Before a.price (run_code a.moves) price (run_code (front ++ m ∷ []))
         cut a i rest coded (inl lt) = inl lt
-        cut a i rest coded (inr (e, l)) = elim (known.less_cut (run_code a.moves) (run_code (front ++ m ∷ [])) (run_code rest) (subst (λ z. Less (run_code a.moves) z) (codes_split rest) l)) [
+        cut a i rest coded (inr (e, l)) = elim (less_cut (run_code a.moves) (run_code (front ++ m ∷ [])) (run_code rest) (subst (λ z. Less (run_code a.moves) z) (codes_split rest) l)) [
           | inl less ↦ inr (e, less)
           | inr p ↦
-              let f = known.front (front ++ m ∷ []) a.moves p.0
+              let f = code_front (front ++ m ∷ []) a.moves p.0
               (each_front Coded (front ++ m ∷ []) rest (subst (Each Coded) (sym (append_assoc front (m ∷ []) rest)) coded))
               (answer_coded keys a i) p.1 in
               absurd (d.none_takes a f.0 i (f.1 ∙ append_assoc front (m ∷ []) f.0))
         ]
 
-pub search_meets_checks : Known → (c : Certificate) (b : Book) (q : Request) → SearchMeetsChecks c b q
-search_meets_checks known c b q asc keys one first e of = record {
-  rows = rows_hold known b q c.rows of.rows first e;
-  bounds = bounds_hold known b q c.rows of.rows;
-  answers = answers_hold known b q c of;
-  departures = departures_hold known b q c of asc keys one;
+pub search_meets_checks : (c : Certificate) (b : Book) (q : Request) → SearchMeetsChecks c b q
+search_meets_checks c b q asc keys one first e of = record {
+  rows = rows_hold b q c.rows of.rows first e;
+  bounds = bounds_hold b q c.rows of.rows;
+  answers = answers_hold b q c of;
+  departures = departures_hold b q c of asc keys one;
   request = of.of;
 }

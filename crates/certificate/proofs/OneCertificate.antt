@@ -4,7 +4,8 @@ use Rattle.certificate.specs.declared.parts.CertAnswer.{CertAnswer}
 use Rattle.certificate.specs.declared.parts.CertRow.{CertRow}
 use Rattle.certificate.specs.AnswerCheck.{AnswerIs}
 use Rattle.certificate.specs.CertOf.{OneCertificate, SameAnswers}
-use Rattle.certificate.proofs.Known.{Known}
+use Rattle.certificate.proofs.Below.{one_best}
+use Rattle.residual_keys.proofs.Needed.{need_one}
 use Rattle.certificate.proofs.OneFirst.{neither_less}
 use Rattle.certificate.proofs.Tickets.{costs_one}
 use Rattle.certificate.proofs.YesIsBest.{yes_is_best}
@@ -42,10 +43,10 @@ rows_one b q (x ∷ xs) (y ∷ ys) e h k =
     rest : x.residual ∷ map (λ row. row.residual) xs ≡ y.residual ∷ map (λ row. row.residual) ys → map (λ row. row.residual) xs ≡ map (λ row. row.residual) ys
     rest e = cc
 
-module _ (known : Known) (b : Book) (q : Request) where
+module _ (b : Book) (q : Request) where
   answer_one : (a c : CertAnswer) (t : Ticket) → AnswerIs b q a t → AnswerIs b q c t → a ≡ c
   answer_one a c t h k =
-      let price = costs_one known b q t a.price c.price h.2 k.2 in
+      let price = costs_one b q t a.price c.price h.2 k.2 in
       let moves = sym h.1 ∙ k.1 in
       λ i. record { price = price i; moves = moves i }
 
@@ -60,15 +61,15 @@ module _ (known : Known) (b : Book) (q : Request) where
 
   pub same_answers : SameAnswers b q
   same_answers keys c d h k =
-      let t = yes_is_best known c b q h in
-      let u = yes_is_best known d b q k in
-      answers_one c.answers d.answers u.0 (subst (Matched (AnswerIs b q) c.answers) (known.one_best b q keys t.0 u.0 t.1 u.1) t.2) u.2
+      let t = yes_is_best c b q h in
+      let u = yes_is_best d b q k in
+      answers_one c.answers d.answers u.0 (subst (Matched (AnswerIs b q) c.answers) (one_best b q keys t.0 u.0 t.1 u.1) t.2) u.2
 
   pub one_certificate : OneCertificate b q
   one_certificate keys c d h k =
-      let tickets = known.one_best b q keys h.tickets k.tickets h.best k.best in
+      let tickets = one_best b q keys h.tickets k.tickets h.best k.best in
       let answers = answers_one c.answers d.answers k.tickets (subst (Matched (AnswerIs b q) c.answers) tickets h.answers) k.answers in
-      let residuals = known.need b q (map (λ row. row.residual) c.rows) (map (λ row. row.residual) d.rows) h.rows.need k.rows.need in
+      let residuals = need_one b q (map (λ row. row.residual) c.rows) (map (λ row. row.residual) d.rows) h.rows.need k.rows.need in
       let rows = rows_one b q c.rows d.rows residuals h.rows.bounds k.rows.bounds in
       let number = h.of.0 ∙ sym k.of.0 in
       let request = h.of.1 ∙ sym k.of.1 in

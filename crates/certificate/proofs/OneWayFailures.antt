@@ -2,15 +2,17 @@
 use Rattle.std.proofs.Common.{◌≡◌, ◌≢◌, ℕ, List, [], ◌∷◌, None, refl, ap, ◌∙◌, subst, inl, inr, arith}
 use Rattle.certificate.specs.Checks.{FirstFailure}
 use Rattle.certificate.specs.OneWay.{flight, one_way_answer, one_way_book, one_way_certificate, one_way_move, one_way_request, one_way_root, one_way_row}
-use Rattle.certificate.proofs.Known.{Known}
+use Rattle.certificate.proofs.Below.{fare_units}
+use Rattle.residual_keys.proofs.NothingLost.{run_ticket, ticket_run}
 use Rattle.certificate.proofs.OneWayChecks.{answers_hold, bounds_hold, departures_hold, no_middle, root_one, rows_hold, starts}
 use Rattle.certificate.proofs.OneWayMoves.{one_way_piece, only_move, root_move}
 use Rattle.certificate.proofs.Tickets.{costs_one}
 use Rattle.fare_law.specs.declared.moves.Move.{Move}
 use Rattle.fare_law.specs.declared.tickets.Ticket.{Ticket}
 use Rattle.fare_law.specs.Lawful.{Lawful}
-use Rattle.fare_law.specs.Moves.{moves_of, run_code}
-use Rattle.fare_law.specs.Order.{Before, Costs}
+use Rattle.fare_law.specs.Moves.{moves_of}
+use Rattle.fare_law.specs.Codes.{run_code}
+use Rattle.fare_law.specs.Best.{Before, Costs}
 use Rattle.residual_keys.specs.ResidualOrder.{StateBefore}
 use Rattle.residual_keys.specs.Residuals.{Run, RunFromRoot, no_part}
 
@@ -40,8 +42,8 @@ run_price ms price e (at, is, run) =
     go : Run one_way_book one_way_request one_way_root (one_way_move ∷ []) price → price ≡ 20000
     go (fs, p, mv, f) = f ∙ (only_move one_way_move fs p None [] mv).2
 
-pub wrong_price : Known → (price : ℕ) → price ≢ 20000 → FirstFailure (record (one_way_certificate 20000) { answers = record one_way_answer { price = price } ∷ [] }) one_way_book one_way_request 3 1
-wrong_price known price ne = inr (
+pub wrong_price : (price : ℕ) → price ≢ 20000 → FirstFailure (record (one_way_certificate 20000) { answers = record one_way_answer { price = price } ∷ [] }) one_way_book one_way_request 3 1
+wrong_price price ne = inr (
   rows_hold 20000,
   inr (
     bounds_hold 20000 (omega arith),
@@ -62,11 +64,11 @@ wrong_price known price ne = inr (
   where
     costs : (t : Ticket) → Lawful t one_way_book one_way_request → moves_of t ≡ one_way_move ∷ [] → Costs t one_way_book one_way_request price → price ≡ 20000
     costs t law moves k =
-        let run = known.tickets one_way_book one_way_request t law in
-        costs_one known one_way_book one_way_request t price run.0 k run.2 ∙ run_price (moves_of t) run.0 moves run.1
+        let run = ticket_run fare_units one_way_book one_way_request t law in
+        costs_one one_way_book one_way_request t price run.0 k run.2 ∙ run_price (moves_of t) run.0 moves run.1
 
-pub answer_twice : Known → ((p : ℕ) (w : List ℕ) → Before p w p w → ⊥) → FirstFailure (record (one_way_certificate 20000) { answers = one_way_answer ∷ one_way_answer ∷ [] }) one_way_book one_way_request 3 2
-answer_twice known never = inr (
+pub answer_twice : ((p : ℕ) (w : List ℕ) → Before p w p w → ⊥) → FirstFailure (record (one_way_certificate 20000) { answers = one_way_answer ∷ one_way_answer ∷ [] }) one_way_book one_way_request 3 2
+answer_twice never = inr (
   rows_hold 20000,
   inr (
     bounds_hold 20000 (omega arith),
@@ -78,7 +80,7 @@ answer_twice known never = inr (
         after = [];
         whole = refl;
         counted = refl;
-        earlier = answers_hold (known.runs one_way_book one_way_request (tt, tt));
+        earlier = answers_hold (run_ticket fare_units one_way_book one_way_request (tt, tt));
         fails = λ r. never 20000 (run_code (one_way_move ∷ [])) r.greater;
       },
     ),
@@ -119,16 +121,16 @@ no_answer = inr (
   ),
 )
 
-pub other_version : Known → (n : ℕ) → n ≢ 1 → FirstFailure (record (one_way_certificate 20000) { number = n }) one_way_book one_way_request 5 1
-other_version known n ne = inr (
+pub other_version : (n : ℕ) → n ≢ 1 → FirstFailure (record (one_way_certificate 20000) { number = n }) one_way_book one_way_request 5 1
+other_version n ne = inr (
   rows_hold 20000,
-  inr (bounds_hold 20000 (omega arith), inr (answers_hold (known.runs one_way_book one_way_request (tt, tt)), inr (departures_hold 20000, (refl, inl (ne, refl))))),
+  inr (bounds_hold 20000 (omega arith), inr (answers_hold (run_ticket fare_units one_way_book one_way_request (tt, tt)), inr (departures_hold 20000, (refl, inl (ne, refl))))),
 )
 
-pub other_request : Known → FirstFailure (record (one_way_certificate 20000) { request = record one_way_request { best = 4 } }) one_way_book one_way_request 5 2
-other_request known = inr (
+pub other_request : FirstFailure (record (one_way_certificate 20000) { request = record one_way_request { best = 4 } }) one_way_book one_way_request 5 2
+other_request = inr (
   rows_hold 20000,
-  inr (bounds_hold 20000 (omega arith), inr (answers_hold (known.runs one_way_book one_way_request (tt, tt)), inr (departures_hold 20000, (refl, inr (refl, differs, refl))))),
+  inr (bounds_hold 20000 (omega arith), inr (answers_hold (run_ticket fare_units one_way_book one_way_request (tt, tt)), inr (departures_hold 20000, (refl, inr (refl, differs, refl))))),
 )
   where
     differs : record one_way_request { best = 4 } ≢ one_way_request

@@ -4,7 +4,7 @@ use Rattle.certificate.specs.BoundCheck.{state_after, BoundWithin, BoundsHold, E
 use Rattle.certificate.specs.CertOf.{RowsAre}
 use Rattle.certificate.specs.declared.parts.CertRow.{CertRow}
 use Rattle.certificate.specs.RowCheck.{RootIsRow, RowsHold}
-use Rattle.certificate.proofs.Known.{Known}
+use Rattle.residual_keys.proofs.Fitting.{reached_fits}
 use Rattle.certificate.proofs.ListFacts.{each_in, in_map, is_in, map_in, map_pairs, pair_last}
 use Rattle.fare_law.specs.declared.flights.Flight.{Flight}
 use Rattle.fare_law.specs.declared.moves.Move.{Move}
@@ -49,7 +49,7 @@ run_at b q x (Some k) bound h e = let s : k ≡ bound = some_same e in subst (λ
     some_same : Some k ≡ Some bound → k ≡ bound
     some_same e = cc
 
-module _ (known : Known) (b : Book) (q : Request) (rows : List CertRow) (of : RowsAre b q rows) where
+module _ (b : Book) (q : Request) (rows : List CertRow) (of : RowsAre b q rows) where
   row_of : (x : State) → Reached b q x → (row : CertRow) × IsIn row rows × (row.residual ≡ x)
   row_of x h = in_map (λ row. row.residual) rows x ((of.need.are x).1 h)
 
@@ -63,7 +63,7 @@ module _ (known : Known) (b : Book) (q : Request) (rows : List CertRow) (of : Ro
   rows_hold first e = (
     λ before row after split. record {
       greater = pair_last (λ x y. StateBefore x.residual y.residual) rows before row after (map_pairs (λ row. row.residual) StateBefore rows of.need.in_order) split;
-      fits = known.fits b q row.residual (reached row (is_in rows before row after split));
+      fits = reached_fits b q row.residual (reached row (is_in rows before row after split));
     },
     root,
   )

@@ -9,7 +9,12 @@ use Rattle.certificate.specs.declared.parts.CertRow.{CertRow}
 use Rattle.certificate.specs.DepartureCheck.{DeparturesHold, IsFront, LeadsFor}
 use Rattle.certificate.specs.RowCheck.{IsRoot, RootIsRow}
 use Rattle.certificate.proofs.Decided.{taken_decided}
-use Rattle.certificate.proofs.Known.{Known}
+use Rattle.certificate.proofs.Below.{fare_units}
+use Rattle.residual_keys.proofs.NothingLost.{codes as code_is, ticket_run}
+use Rattle.residual_keys.proofs.OneNext.{moves_one, run_leads}
+use Rattle.residual_keys.proofs.OneTicket.{ticket_one}
+use Rattle.ticket_order.proofs.Codes.{codes_joined}
+use Rattle.ticket_order.proofs.Words.{before_more, before_trans}
 use Rattle.certificate.proofs.ListFacts.{each_in, on_last, all_each, all_pairs, all_few, matched_some, matched_right, matched_length, matched_each, matched_both, matched_pairs}
 use Rattle.certificate.proofs.Tickets.{answer_code, cheaper}
 use Rattle.fare_law.specs.declared.flights.Flight.{Flight}
@@ -20,8 +25,9 @@ use Rattle.fare_law.specs.declared.tickets.Ticket.{Ticket}
 use Rattle.fare_law.specs.Book.{Book}
 use Rattle.fare_law.specs.Lawful.{Lawful}
 use Rattle.fare_law.specs.Lists.{Each, EachPair, IsIn, Matched, OnLast}
-use Rattle.fare_law.specs.Moves.{moves_of, run_code}
-use Rattle.fare_law.specs.Order.{Before, Best, Cheaper, code}
+use Rattle.fare_law.specs.Moves.{moves_of}
+use Rattle.fare_law.specs.Codes.{run_code, code}
+use Rattle.fare_law.specs.Best.{Before, Best, Cheaper}
 use Rattle.fare_law.specs.Parts.{price_of}
 use Rattle.flight_paths.specs.declared.positions.Position.{Position}
 use Rattle.flight_paths.specs.Positions.{before_slice}
@@ -69,14 +75,14 @@ record Told (b : Book) (q : Request) (rows : List CertRow) (answers : List CertA
   ascending : EachPair AnswerBelow answers
   departures : DeparturesHold b q rows answers
 
-module _ (known : Known) (b : Book) (q : Request) (rows : List CertRow) (answers : List CertAnswer) (tickets : List Ticket) (c : Told b q rows answers tickets) where
+module _ (b : Book) (q : Request) (rows : List CertRow) (answers : List CertAnswer) (tickets : List Ticket) (c : Told b q rows answers tickets) where
   -- an answer that begins with a front goes on with a run of what the front leads to
   answer_runs : (root x : State) (front rest : List Move) (a : CertAnswer) → IsRoot b q root → LeadsFrom b q root front x → IsIn a answers → a.moves ≡ front ++ rest → (price : ℕ) × Run b q x rest price
   answer_runs root x front rest a ir lf i e =
       let t = matched_right (AnswerIs b q) answers tickets c.right a i in
-      let run = known.tickets b q t.0 t.2.0 in
+      let run = ticket_run fare_units b q t.0 t.2.0 in
       let s : (let z : State = record { at = run.1.0; units = []; part = no_part } in z) ≡ root = root_same b q _ root (run.1.0, run.1.1, refl) ir in
-      known.goes_on b q root x front rest lf (run.0, subst (λ ms. Run b q root ms run.0) (t.2.1 ∙ e) (subst (λ z. Run b q z (moves_of t.0) run.0) s run.1.2))
+      run_leads b q root x front rest lf (run.0, subst (λ ms. Run b q root ms run.0) (t.2.1 ∙ e) (subst (λ z. Run b q z (moves_of t.0) run.0) s run.1.2))
 
   -- A ticket that is none of the answers comes after the last of k answers.
   departs : (ms : List Move) (root x : State) (front : List Move) (price further : ℕ) (t : Ticket) (row : CertRow)
@@ -94,10 +100,10 @@ module _ (known : Known) (b : Book) (q : Request) (rows : List CertRow) (answers
       only : (a : CertAnswer) (rest : List Move) → IsIn a answers → a.moves ≡ front ++ m ∷ rest → ⊥
       only a [] i' e' =
           let u = matched_right (AnswerIs b q) answers tickets c.right a i' in
-          out (subst (λ z. IsIn z tickets) (known.one_ticket b q u.0 t u.2.0 law (u.2.1 ∙ e' ∙ sym whole)) u.1)
+          out (subst (λ z. IsIn z tickets) (ticket_one fare_units b q u.0 t u.2.0 law (u.2.1 ∙ e' ∙ sym whole)) u.1)
       only a (n ∷ rest) i' e' =
           let r = answer_runs root x front (m ∷ n ∷ rest) a ir (leads_from b q root x front price lf) i' e' in
-          some_none r.1.2 (known.one_next b q x m fs r.1.0 p r.1.1 None (Some r.1.2) [] r.1.3 mv r.1.5).2
+          some_none r.1.2 (moves_one b q x m fs r.1.0 p r.1.1 None (Some r.1.2) [] r.1.3 mv r.1.5).2
         where
           some_none : (at : Position) → None ≡ Some at → ⊥
           some_none at z = cc
@@ -110,7 +116,7 @@ module _ (known : Known) (b : Book) (q : Request) (rows : List CertRow) (answers
             let d = c.departures front m (price + (price_of fs p + l.0)) (record { root = root; there = x; price = price; last = price_of fs p + l.0; is_root = ir; leads = lf; is_front = fr; none_takes = none; counts = inr (fs, p, at, us, s.0, l.0, mv, s.1, there, l.1, refl); whole = refl }) in (
               d.0,
               on_last (λ a. Before a.price (run_code a.moves) (price + (price_of fs p + l.0)) (run_code (front ++ m ∷ []))) (λ a. Before a.price (run_code a.moves) (price + further) (run_code (front ++ m ∷ n ∷ ms)))
-                  (λ a w. subst (λ z. Before a.price (run_code a.moves) (price + further) z) (code_split front m (n ∷ ms)) (known.before_more a.price (price + (price_of fs p + l.0)) (price + further) (run_code a.moves) (run_code (front ++ m ∷ [])) (run_code (n ∷ ms)) w (omega (arith, l.2, e))))
+                  (λ a w. subst (λ z. Before a.price (run_code a.moves) (price + further) z) (code_split front m (n ∷ ms)) (before_more a.price (price + (price_of fs p + l.0)) (price + further) (run_code a.moves) (run_code (front ++ m ∷ [])) (run_code (n ∷ ms)) w (omega (arith, l.2, e))))
                   answers d.1,
             )
         | inl h ↦
@@ -129,12 +135,12 @@ module _ (known : Known) (b : Book) (q : Request) (rows : List CertRow) (answers
       sums w = omega arith
 
       code_split : (f : List Move) (k : Move) (r : List Move) → run_code (f ++ k ∷ []) ++ run_code r ≡ run_code (f ++ k ∷ r)
-      code_split f k r = sym (known.joined (f ++ k ∷ []) r) ∙ ap run_code (append_assoc f (k ∷ []) r)
+      code_split f k r = sym (codes_joined (f ++ k ∷ []) r) ∙ ap run_code (append_assoc f (k ∷ []) r)
 
       goes_on : (a : CertAnswer) (tail : List Move) → IsIn a answers → a.moves ≡ front ++ m ∷ tail → (k : Move) × (more : List Move) × (tail ≡ k ∷ more)
       goes_on a [] i' e' =
           let r = answer_runs root x front (m ∷ []) a ir (leads_from b q root x front price lf) i' e' in
-          absurd (some_none (known.one_next b q x m fs r.1.0 p r.1.1 (Some at) None us [] mv r.1.2).2)
+          absurd (some_none (moves_one b q x m fs r.1.0 p r.1.1 (Some at) None us [] mv r.1.2).2)
         where
           some_none : Some at ≡ None → ⊥
           some_none z = cc
@@ -146,23 +152,27 @@ module _ (known : Known) (b : Book) (q : Request) (rows : List CertRow) (answers
   after_each price word (x ∷ []) h l = (l, tt)
   after_each price word (x ∷ y ∷ xs) h l =
       let r = after_each price word (y ∷ xs) h.1 l in
-      (known.before_trans x.price y.price price (run_code x.moves) (run_code y.moves) word h.0 r.0, r)
+      (before_trans x.price y.price price (run_code x.moves) (run_code y.moves) word h.0 r.0, r)
 
   -- The answers, as tickets, are the best.
   told_best : Best b q tickets
   told_best = record {
-    ascending = matched_pairs (AnswerIs b q) AnswerBelow (Cheaper b q) (cheaper known b q) answers tickets c.right c.ascending;
+    ascending = matched_pairs (AnswerIs b q) AnswerBelow (Cheaper b q) (cheaper b q) answers tickets c.right c.ascending;
     each = matched_each (AnswerIs b q) (λ t. Lawful t b q) (λ a t h. h.0) answers tickets c.right;
     few = subst (λ n. n ≤ q.best) (sym (matched_length (AnswerIs b q) answers tickets c.right)) c.few;
     rest = λ t law out.
-        let run = known.tickets b q t law in
+        let run = ticket_run fare_units b q t law in
         let root : State = record { at = run.1.0; units = []; part = no_part } in
         let first = c.root in
         let d = departs (moves_of t) root root [] 0 run.0 t first.0 (run.1.0, run.1.1, refl) (inl refl) (refl, refl) run.1.2 first.1
         (root_same b q first.0.residual root first.2 (run.1.0, run.1.1, refl)) law refl out in
-        let w = subst (λ z. OnLast (λ a. Before a.price (run_code a.moves) run.0 z) answers) (sym (known.codes t)) (subst (λ z. OnLast (λ a. Before a.price (run_code a.moves) z (run_code (moves_of t))) answers) (zero_plus run.0) d.1) in (
+<<<<<<< HEAD
+        let w = subst (λ z. OnLast (λ a. Before a.price (run_code a.moves) z (code t)) answers) (zero_plus run.0) d.1 in (
+=======
+        let w = subst (λ z. OnLast (λ a. Before a.price (run_code a.moves) run.0 z) answers) (sym (code_is [] t.components)) (subst (λ z. OnLast (λ a. Before a.price (run_code a.moves) z (run_code (moves_of t))) answers) (zero_plus run.0) d.1) in (
+>>>>>>> certs/certs
           matched_both (AnswerIs b q) (λ a. Before a.price (run_code a.moves) run.0 (code t)) (λ u. Cheaper b q u t)
-              (λ a u h l. (a.price, run.0, h.2, run.2, subst (λ z. Before a.price z run.0 (code t)) (sym (answer_code known b q a u h)) l))
+              (λ a u h l. (a.price, run.0, h.2, run.2, subst (λ z. Before a.price z run.0 (code t)) (sym (answer_code b q a u h)) l))
               answers tickets c.right (after_each run.0 (code t) answers c.ascending w),
           matched_length (AnswerIs b q) answers tickets c.right ∙ d.0,
         );
@@ -171,11 +181,11 @@ module _ (known : Known) (b : Book) (q : Request) (rows : List CertRow) (answers
       zero_plus : (n : ℕ) → 0 + n ≡ n
       zero_plus n = omega arith
 
-pub yes_is_best : Known → (c : Certificate) (b : Book) (q : Request) → YesIsBest c b q
-yes_is_best known c b q h =
+pub yes_is_best : (c : Certificate) (b : Book) (q : Request) → YesIsBest c b q
+yes_is_best c b q h =
     let t = matched_some (AnswerIs b q) c.answers (all_each (AnswerRight b q) (λ a. (t : Ticket) × AnswerIs b q a t) (λ before a r. r.lawful) c.answers h.answers) in (
       t.0,
-      told_best known b q c.rows c.answers t.0 (record {
+      told_best b q c.rows c.answers t.0 (record {
         root = h.rows.1;
         ends = all_each (BoundRight b q c.rows) (EndsHold b q) (λ before row r. r.0) c.rows h.bounds;
         steps = all_each (BoundRight b q c.rows) (StepsHold b q c.rows) (λ before row r. r.1) c.rows h.bounds;

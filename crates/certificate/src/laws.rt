@@ -5,16 +5,11 @@ ghost use Rattle.certificate.specs.Checks.{OneFailure};
 ghost use Rattle.fare_law.specs.declared.requests.Request.{Request};
 ghost use Rattle.fare_law.specs.Book.{Book};
 
-use residual_keys::{best_runs, nothing_lost, one_best, one_next, residual_order, runs_are_short};
-use ticket_order::{codes_tell, order_laws};
-
 /// Of the checks of a certificate one is the first that fails, at one place, and none where they hold.
 /// No certificate is left out: it can't be that the checks don't hold and none is the first that fails.
 pub fn one_failure()
     ensures { (c : Certificate) (b : Book) (q : Request) → OneFailure c b q }
-{
-    order_laws();
-}
+{}
 
 /// Yes implies best: where the checks hold of a certificate, its answers are the best tickets of the
 /// book and the request, in their order and at their prices. Nothing is asked of the book, and of the
@@ -24,16 +19,7 @@ pub fn one_failure()
 pub fn yes_is_best()
     ensures best { (c : Certificate) (b : Book) (q : Request) → YesIsBest c b q }
     ensures same { (b : Book) (q : Request) → SameAnswers b q }
-{
-    nothing_lost();
-    one_next();
-    best_runs();
-    one_best();
-    residual_order();
-    runs_are_short();
-    codes_tell();
-    order_laws();
-}
+{}
 
 /// The certificate of a search meets the checks, where the timetable's flights stand in the order of
 /// their departures, the live fares' keys are well formed, and the request has a first slice and asks
@@ -43,13 +29,4 @@ pub fn search_meets_checks()
     ensures checks { (c : Certificate) (b : Book) (q : Request) → SearchMeetsChecks c b q }
     ensures runs { (c : Certificate) (b : Book) (q : Request) → SameByRuns c b q }
     ensures one { (b : Book) (q : Request) → OneCertificate b q }
-{
-    nothing_lost();
-    one_next();
-    best_runs();
-    one_best();
-    residual_order();
-    runs_are_short();
-    codes_tell();
-    order_laws();
-}
+{}

@@ -5,23 +5,16 @@ ghost use Rattle.certificate.specs.Checks.{Checks};
 ghost use Rattle.certificate.specs.OneWay.{FailsAt, one_way_answer, one_way_book, one_way_certificate, one_way_request, one_way_right, one_way_row};
 ghost use Rattle.std.specs.Prelude.{ℕ, ◌<◌, ◌≢◌, ◌≤◌, [], ◌∷◌};
 
-use residual_keys::{best_runs, nothing_lost, one_best, one_next, residual_order, runs_are_short};
-use ticket_order::{codes_tell, order_laws};
-
 /// The fare is 20,000: the certificate meets the checks with each bound of its one row up to that.
 pub fn one_way_meets()
     ensures { (bound : ℕ) → bound ≤ 20000 → Checks (one_way_certificate bound) one_way_book one_way_request }
-{
-    nothing_lost();
-}
+{}
 
 /// With the fare's amount as the bound it is the certificate of a search, with no smaller bound it is one.
 pub fn one_way_of()
     ensures right { CertOf one_way_book one_way_request one_way_right }
     ensures smaller { (bound : ℕ) → bound < 20000 → CertOf one_way_book one_way_request (one_way_certificate bound) → ⊥ }
-{
-    best_runs();
-}
+{}
 
 /// The case changed. The row check fails without the row and at the second of two equal rows; the bound
 /// check at a greater bound; the answer check at another price and at the second of two equal answers; the
@@ -36,13 +29,4 @@ pub fn one_way_fails()
     ensures no_answer { FailsAt (record one_way_right { answers = [] }) 4 0 }
     ensures version { (n : ℕ) → n ≢ 1 → FailsAt (record one_way_right { number = n }) 5 1 }
     ensures request { FailsAt (record one_way_right { request = record one_way_request { best = 4 } }) 5 2 }
-{
-    nothing_lost();
-    one_next();
-    best_runs();
-    one_best();
-    residual_order();
-    runs_are_short();
-    codes_tell();
-    order_laws();
-}
+{}

@@ -2,8 +2,6 @@ pub mod Known
 pub mod FareFacts
 pub mod Marks
 pub mod OneUnit
-pub mod Ranges
-pub mod Journeys
 pub mod TicketParts
 pub mod Wholes
 pub mod Fitting
@@ -21,6 +19,7 @@ pub mod Offered
 pub mod Markets
 pub mod Pathed
 pub mod PathByPath
+pub mod SortedWords
 pub mod InOrder
 pub mod RunsBest
 pub mod Ordered
@@ -35,3 +34,6 @@ pub mod WordFacts
 pub mod WordsAgain
 pub mod ResidualAgain
 pub mod ResidualRead
+pub mod NamesKept
+pub mod CodesOfRuns
+pub mod Sizes

@@ -1,4 +1,4 @@
--- The list of the needed states is one.
+-- The list of the needed states is one. Given on to the crates above.
 use Rattle.std.proofs.Common.{◌≡◌, ◌+◌, ◌≤◌, ℕ, refl, List, length, inl, inr, arith, ◌∷◌, []}
 use Rattle.fare_law.specs.declared.requests.Request.{Request}
 use Rattle.fare_law.specs.Book.{Book}

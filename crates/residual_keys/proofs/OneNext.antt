@@ -1,4 +1,4 @@
--- A move of a state leaves one state, so what completes a list of moves depends on the state alone.
+-- A move of a state leaves one state, so what completes a list of moves depends on the state alone. Given on to the crates above.
 use Rattle.std.proofs.Common.{◌≡◌, ℕ, ℤ, ◌+◌, Bool, true, false, cond, List, [], ◌∷◌, ◌++◌, set, slice_get, Option, Some, None, sym, refl, ap, ap₂, ◌∙◌, subst, inl, inr, MatchBool}
 use Rattle.fare_law.specs.declared.flights.Flight.{Flight}
 use Rattle.fare_law.specs.declared.tickets.Piece.{Piece}
@@ -6,7 +6,8 @@ use Rattle.fare_law.specs.declared.requests.Request.{Request}
 use Rattle.fare_law.specs.declared.requests.Slice.{Slice}
 use Rattle.fare_law.specs.Book.{Book, live_fare, live_rule}
 use Rattle.fare_law.specs.Lists.{Each, OnFirst, OnLast}
-use Rattle.fare_law.specs.Order.{HasKeys, IsCarrier, IsBasis}
+use Rattle.fare_law.specs.Limits.{HasKeys}
+use Rattle.fare_law.specs.Names.{IsCarrier, IsBasis}
 use Rattle.fare_law.specs.Parts.{Numbers, Filed, StandsFor, price_of}
 use Rattle.fare_law.specs.declared.moves.Move.{Move}
 use Rattle.open_unit.specs.declared.units.OpenUnit.{OpenUnit}

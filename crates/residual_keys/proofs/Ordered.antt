@@ -1,4 +1,4 @@
--- The order of residuals is strict and total.
+-- The order of residuals is strict and total. Given on to the crates above.
 use Rattle.std.proofs.Common.{◌≡◌, ◌⊎◌, ℕ, ℤ, List, [], ◌∷◌, Option, Some, None, sym, refl, ap, ap₂, ◌∙◌, subst, inl, inr, arith, ◌<ℤ◌, int_cmp, Ordering, Less, Equal, Greater}
 use Rattle.std.specs.Ordering.{MatchOrdering}
 use Rattle.std.proofs.lemmas.Int.{ints}

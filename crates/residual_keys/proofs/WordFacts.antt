@@ -1,4 +1,4 @@
--- What is known of words, as the law functions of their crate give it, and the bytes of a residual's words.
+-- What is known of words, as the law functions of their crate give it, and the bytes of a residual's words. Given on to the crates above.
 use Rattle.std.proofs.Common.{◌≢◌, ◌<◌, ◌^◌, ℕ, ℤ, pos, negsuc, ◌≤ℤ◌, List, [], ◌∷◌, ◌++◌, map, Option, Some, None, arith, inl, inr}
 use Rattle.std.proofs.lemmas.Int.{ints}
 use Rattle.std.specs.Fmt.{decimal, signed_decimal}
@@ -9,7 +9,7 @@ use Rattle.fare_law.specs.declared.names.Carrier.{Carrier}
 use Rattle.fare_law.specs.declared.names.Place.{Place}
 use Rattle.fare_law.specs.Limits.{IsCapital, IsPlace}
 use Rattle.fare_law.specs.Lists.{Each}
-use Rattle.fare_law.specs.Order.{IsCarrier, IsCharacter}
+use Rattle.fare_law.specs.Names.{IsCarrier, IsCharacter}
 use Rattle.open_unit.specs.declared.marks.CarrierMark.{CarrierMark}
 use Rattle.open_unit.specs.declared.marks.CarrierMark.TheVariants.{NotYet, One, Mixed}
 use Rattle.open_unit.specs.declared.marks.RuleMark.{RuleMark}

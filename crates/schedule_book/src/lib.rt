@@ -17,5 +17,3 @@ pub use faults::SchedFault;
 pub use laws::{one_fault_of_rows, one_list_of_flights, ordered_flights_ascend};
 pub use schedule::Schedule;
 
-#[cfg(test)]
-mod tests;

@@ -1,16 +1,15 @@
--- The theorems of their own files, from the laws of moves, runs, codes and their order.
+-- The theorems of their own files.
 use Rattle.certificate.proofs.ByRuns.{same_by_runs}
-use Rattle.certificate.proofs.Known.{Known}
 use Rattle.certificate.proofs.MeetsChecks.{search_meets_checks}
 use Rattle.certificate.proofs.OneCertificate.{one_certificate}
 use Rattle.certificate.proofs.laws.search_meets_checks.Goals as goal
 
 pub returns : goal.returns
+<<<<<<< HEAD
 returns c =
     let known : Known = record {
       runs = c.nothing_lost.ensures.runs;
       tickets = c.nothing_lost.ensures.tickets;
-      codes = c.nothing_lost.ensures.codes;
       one_ticket = c.nothing_lost.ensures.one;
       one_next = c.one_next.ensures.one;
       goes_on = c.one_next.ensures.further;
@@ -27,3 +26,6 @@ returns c =
       before_more = c.order_laws.ensures.before_more;
     } in
     record { checks = search_meets_checks known; runs = same_by_runs known; one = one_certificate known }
+=======
+returns c = record { checks = search_meets_checks; runs = same_by_runs; one = one_certificate }
+>>>>>>> certs/certs

@@ -1,15 +1,14 @@
--- The theorems of their own files, from the laws of moves, runs, codes and their order.
-use Rattle.certificate.proofs.Known.{Known}
+-- The theorems of their own files.
 use Rattle.certificate.proofs.OneCertificate.{same_answers}
 use Rattle.certificate.proofs.YesIsBest.{yes_is_best}
 use Rattle.certificate.proofs.laws.yes_is_best.Goals as goal
 
 pub returns : goal.returns
+<<<<<<< HEAD
 returns c =
     let known : Known = record {
       runs = c.nothing_lost.ensures.runs;
       tickets = c.nothing_lost.ensures.tickets;
-      codes = c.nothing_lost.ensures.codes;
       one_ticket = c.nothing_lost.ensures.one;
       one_next = c.one_next.ensures.one;
       goes_on = c.one_next.ensures.further;
@@ -26,3 +25,6 @@ returns c =
       before_more = c.order_laws.ensures.before_more;
     } in
     record { best = yes_is_best known; same = same_answers known }
+=======
+returns c = record { best = yes_is_best; same = same_answers }
+>>>>>>> certs/certs

@@ -1,16 +1,17 @@
--- The cases of their own files, from the laws of moves, runs, codes and their order.
+-- The cases of their own files.
 use Rattle.certificate.specs.OneWay.{one_way_root}
-use Rattle.certificate.proofs.Known.{Known}
 use Rattle.certificate.proofs.OneWayChecks.{bound_fails}
 use Rattle.certificate.proofs.OneWayFailures.{no_row, row_twice, wrong_price, answer_twice, no_answer, other_version, other_request}
+use Rattle.residual_keys.proofs.Ordered.{states}
+use Rattle.ticket_order.proofs.Words.{before_never}
 use Rattle.certificate.proofs.worked.one_way_fails.Goals as goal
 
 pub returns : goal.returns
+<<<<<<< HEAD
 returns c =
     let known : Known = record {
       runs = c.nothing_lost.ensures.runs;
       tickets = c.nothing_lost.ensures.tickets;
-      codes = c.nothing_lost.ensures.codes;
       one_ticket = c.nothing_lost.ensures.one;
       one_next = c.one_next.ensures.one;
       goes_on = c.one_next.ensures.further;
@@ -36,3 +37,15 @@ returns c =
       version = other_version known;
       request = other_request known;
     }
+=======
+returns c = record {
+  no_row = no_row;
+  row_twice = row_twice (states.never one_way_root);
+  bound = bound_fails;
+  price = wrong_price;
+  answer_twice = answer_twice before_never;
+  no_answer = no_answer;
+  version = other_version;
+  request = other_request;
+}
+>>>>>>> certs/certs

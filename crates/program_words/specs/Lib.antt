@@ -1,0 +1,4 @@
+pub mod Parser
+pub mod Texts
+pub mod Numbers
+pub mod Lines
