@@ -10,6 +10,7 @@ use Rattle.serde_json.specs.Read.{read}
 use Rattle.fare_law.specs.FilingLimits.{IsAction, IsFiling, IsRuleNumber}
 use Rattle.fare_law.specs.Limits.{AreSeats, IsFare, IsFareKey, IsSeatKey}
 use Rattle.fare_law.specs.Lists.{Each}
+use Rattle.fare_law.specs.RuleLimits.{IsRule}
 use Rattle.fare_law.specs.Names.{IsCarrier}
 use Rattle.fare_law.specs.declared.fares.Fare.{Fare}
 use Rattle.fare_law.specs.declared.fares.FareKey.{FareKey}
@@ -27,6 +28,7 @@ use Rattle.name_text.specs.Again.{NamesReadAgain}
 use Rattle.name_text.specs.Seats.{seat_day_of}
 use Rattle.rule_text.specs.Members.{item_count}
 use Rattle.rule_text.specs.Rules.{rule_of}
+use Rattle.rule_text.proofs.SpelledLemmas.{rule_spelled}
 use Rattle.fare_filing.specs.Actions.{drop_rule, drop_seats, put_seats}
 use Rattle.fare_filing.specs.declared.fault.FilingFault.TheVariants.{Shape}
 use Rattle.fare_filing.specs.Reading.{action_spelled, actions_from, filing_of, filing_spelled, put_rule}
@@ -93,8 +95,8 @@ module _ (names : NamesReadAgain) where
       get_member-put_other (codes "rule") (codes "carrier") carrier (put (codes "rule") n ms) (λ e. omega (arith, ap length e))
       ∙ get_member-put (codes "rule") n ms
 
-  named_rule_again : StandAside → (action : ℕ) (carrier : Carrier) (n : ℕ) (rule : Rule) (d : Data) → IsCarrier carrier → IsRuleNumber n → WritesRule carrier n rule d → put_rule action d ≡ Ok (PutRule carrier n rule)
-  named_rule_again aside action carrier n rule d c h w =
+  named_rule_again : StandAside → (action : ℕ) (carrier : Carrier) (n : ℕ) (rule : Rule) (d : Data) → IsCarrier carrier → IsRuleNumber n → IsRule rule → WritesRule carrier n rule d → put_rule action d ≡ Ok (PutRule carrier n rule)
+  named_rule_again aside action carrier n rule d c h r w =
       let name = string carrier.0 in
       let number_is = number (unsigned n) in
       subst (λ (x : Data). put_rule action x ≡ Ok (PutRule carrier n rule)) (sym w.written)
@@ -105,7 +107,7 @@ module _ (names : NamesReadAgain) where
         le_true 1 n h.0,
         le_true n 9999 h.1,
         aside name number_is w.members,
-        w.spells.again,
+        (rule_spelled rule w.members w.rule_is r).again,
       ) refl)
 
   action_again : StandAside → (a : Action) (n : ℕ) (d : Data) → IsAction a → WritesAction a d → action_spelled n d ≡ Ok a
@@ -115,7 +117,7 @@ module _ (names : NamesReadAgain) where
       subst (λ (x : Data). action_spelled n x ≡ Ok (DropFare key)) (sym e) (rw (key_again key h) refl)
   action_again aside (PutRule carrier rule_no rule) n d h w =
       subst (λ (x : Data). action_spelled n x ≡ Ok (PutRule carrier rule_no rule)) (sym w.written)
-      (named_rule_again aside n carrier rule_no rule w.inner h.0 h.1 w.formed)
+      (named_rule_again aside n carrier rule_no rule w.inner h.0 h.1 h.2 w.formed)
   action_again aside (DropRule carrier rule_no) n d h e =
       subst (λ (x : Data). action_spelled n x ≡ Ok (DropRule carrier rule_no)) (sym e) (rw (rule_name_again carrier rule_no h.0 h.1) refl)
   action_again aside (PutSeats key seats) n d h w =

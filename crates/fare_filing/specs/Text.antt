@@ -13,8 +13,7 @@ use Rattle.fare_law.specs.declared.filings.SeatKey.{SeatKey}
 use Rattle.fare_law.specs.declared.names.Carrier.{Carrier}
 use Rattle.fare_law.specs.declared.rules.Rule.{Rule}
 use Rattle.name_text.specs.Seats.{seat_day_of}
-use Rattle.rule_text.specs.Rules.{rule_of}
-use Rattle.rule_text.specs.Written.{IsBare, Spells}
+use Rattle.rule_text.specs.Written.{WritesRule as WritesMembers}
 
 -- fares
 
@@ -44,8 +43,7 @@ rule_name_data carrier rule =
 -- the members of the rule's categories, and with them its carrier and its number
 pub record WritesRule (carrier : Carrier) (rule_number : ℕ) (rule : Rule) (d : Data) : Type 0 where
   pub members : Members
-  pub spells : Spells 4 rule_of rule (object members)
-  pub bare : IsBare (object members)
+  pub rule_is : WritesMembers rule members
   pub written : d ≡ object (put (codes "carrier") (string carrier.0) (put (codes "rule") (number (unsigned rule_number)) members))
 
 -- seats

@@ -1,5 +1,5 @@
 -- Parts of a rule within their limits are read again from their values.
-use Rattle.std.proofs.Common.{◌≡◌, ◌<◌, ◌≤◌, ◌≤ℤ◌, ◌+◌, ℕ, ℤ, suc, int_le, nat_le, eq-eqb, true, false, List, [], ◌∷◌, length, Some, Result, Ok, refl, arith, sym, subst, ap, ◌∙◌}
+use Rattle.std.proofs.Common.{◌≡◌, ◌<◌, ◌≤◌, ◌≤ℤ◌, ◌+◌, ℕ, ℤ, suc, int_le, nat_le, eq-eqb, true, false, List, [], ◌∷◌, length, Some, Result, Ok, refl, arith, sym, subst, ap}
 use Rattle.std.specs.Char.{is_ascii_uppercase}
 use Rattle.std.specs.List.{list_all}
 use Rattle.std.proofs.lemmas.Bool.Decides.{nat_tests}
@@ -28,7 +28,8 @@ use Rattle.fare_law.specs.RuleLimits.{IsListOf, IsWeekday, IsDays, IsDayRange, I
 use Rattle.rule_text.specs.Members.{each_of, item_count, list_of}
 use Rattle.rule_text.specs.Parts.{ascend, ascend_from, date_of, day_range_of, days_of, flight_range_of, place_form, weekday_of}
 use Rattle.rule_text.specs.Rules.{combine_rule_of, day_time_of, end_on_end_spelled, flight_rule_of, min_stay_of, partners_spelled, surcharge_of, transfer_rule_of, unit_kind_of, unit_kind_spelled}
-use Rattle.rule_text.specs.Written.{Spells, SpellsEach, combine_rule_data, day_range_data, day_time_data, flight_range_data, flight_rule_data, min_stay_data, surcharge_data, transfer_rule_data}
+use Rattle.rule_text.specs.Again.{Spells}
+use Rattle.rule_text.specs.Written.{combine_rule_data, day_range_data, day_time_data, flight_range_data, flight_rule_data, min_stay_data, surcharge_data, transfer_rule_data}
 
 le_true : (a b : ℕ) → a ≤ b → nat_le a b ≡ true
 le_true a b h = grind (arith, nat_tests)
@@ -110,6 +111,13 @@ flight_range_again r v e h =
     })
 
 -- lists
+
+-- each value is read as the item at its place
+abbrev pub SpellsEach : {A : Type 0} → ℕ → (Data → Result A RuleFault) → List A → Items → Type 0
+SpellsEach levels form [] no_items = Unit {0}
+SpellsEach levels form [] (item d ds) = ⊥
+SpellsEach levels form (x ∷ xs) no_items = ⊥
+SpellsEach levels form (x ∷ xs) (item d ds) = Spells levels form x d × SpellsEach levels form xs ds
 
 module _ {A : Type 0} (levels : ℕ) (form : Data → Result A RuleFault) where
   each_again : (xs : List A) (ds : Items) → SpellsEach levels form xs ds → each_of form ds ≡ Ok xs
@@ -198,10 +206,10 @@ combine_rule_again r kinds v end_on_end partners e d one other h =
       nests = let a = d.nests in omega arith;
     })
 
-pub surcharge_again : (s : Surcharge) (carrier first last : List ℕ) (v : Data) → v ≡ surcharge_data s.amount carrier first s.high last s.low
-    → carrier ≡ s.carrier.0 → day_spelled first ≡ Some s.first → day_spelled last ≡ Some s.last → IsSurcharge s → Spells 1 surcharge_of s v
-surcharge_again s carrier first last v e named one other h =
-    subst (λ (x : Data). Spells 1 surcharge_of s x) (sym (e ∙ ap (λ t. surcharge_data s.amount t first s.high last s.low) named))
+pub surcharge_again : (s : Surcharge) (first last : List ℕ) (v : Data) → v ≡ surcharge_data s.amount s.carrier.0 first s.high last s.low
+    → day_spelled first ≡ Some s.first → day_spelled last ≡ Some s.last → IsSurcharge s → Spells 1 surcharge_of s v
+surcharge_again s first last v e one other h =
+    subst (λ (x : Data). Spells 1 surcharge_of s x) (sym e)
     (record {
       again = rw (
         carrier_named_again s.carrier h.carrier,

@@ -7,7 +7,7 @@ use Rattle.serde_json.specs.View.{view, items_view}
 use Rattle.serde_json.specs.declared.value.Value.{Value}
 use Rattle.fare_law.specs.Lists.{Each}
 use Rattle.rule_text.specs.Members.{each_of, items_of, then_rest, item_count}
-use Rattle.rule_text.specs.Written.{Spells, SpellsEach}
+use Rattle.rule_text.specs.Written.{WritesEach}
 use Rattle.rule_text.specs.declared.fault.RuleFault.{RuleFault}
 use Rattle.rule_text.specs.declared.fault.RuleFault.TheVariants.{Range}
 
@@ -79,20 +79,19 @@ pub ruleset count_steps = (count_right, count_none, count_many)
 
 -- values that were written for the items so far
 
-grows : {A : Type 0} (levels : ℕ) (form : Data → Result A RuleFault) (xs : List A) (vs : List Value) (x : A) (v : Value)
-    → SpellsEach levels form xs (items_view vs) → Spells levels form x (view v) → SpellsEach levels form (xs ++ x ∷ []) (items_view (vs ++ v ∷ []))
-grows levels form [] [] x v h w = (w, tt)
-grows levels form [] (u ∷ vs) x v h w = absurd h
-grows levels form (y ∷ xs) [] x v h w = absurd h
-grows levels form (y ∷ xs) (u ∷ vs) x v h w = (h.0, grows levels form xs vs x v h.1 w)
+module _ {A : Type 0} (Writes : A → Data → Type 0) where
+  grows : (xs : List A) (vs : List Value) (x : A) (v : Value) → WritesEach Writes xs (items_view vs) → Writes x (view v) → WritesEach Writes (xs ++ x ∷ []) (items_view (vs ++ v ∷ []))
+  grows [] [] x v h w = (w, tt)
+  grows [] (u ∷ vs) x v h w = absurd h
+  grows (y ∷ xs) [] x v h w = absurd h
+  grows (y ∷ xs) (u ∷ vs) x v h w = (h.0, grows xs vs x v h.1 w)
 
-pub values_grow : {A : Type 0} (levels : ℕ) (form : Data → Result A RuleFault) (xs : List A) (vs : List Value) (i : ℕ) (d : A) (v : Value) → i < length xs
-    → SpellsEach levels form (take i xs) (items_view vs) → Spells levels form (get_or xs i d) (view v) → SpellsEach levels form (take (i + 1) xs) (items_view (vs ++ v ∷ []))
-values_grow levels form xs vs i d v l h w = rw (take_more xs i d l) (grows levels form (take i xs) vs (get_or xs i d) v h w)
+  pub values_grow : (xs : List A) (vs : List Value) (i : ℕ) (d : A) (v : Value) → i < length xs
+      → WritesEach Writes (take i xs) (items_view vs) → Writes (get_or xs i d) (view v) → WritesEach Writes (take (i + 1) xs) (items_view (vs ++ v ∷ []))
+  values_grow xs vs i d v l h w = rw (take_more xs i d l) (grows (take i xs) vs (get_or xs i d) v h w)
 
-pub values_whole : {A : Type 0} (levels : ℕ) (form : Data → Result A RuleFault) (xs : List A) (vs : List Value) (i : ℕ) → length xs ≤ i
-    → SpellsEach levels form (take i xs) (items_view vs) → SpellsEach levels form xs (items_view vs)
-values_whole levels form xs vs i l h = subst (λ ys. SpellsEach levels form ys (items_view vs)) (take_all i xs l) h
+  pub values_whole : (xs : List A) (vs : List Value) (i : ℕ) → length xs ≤ i → WritesEach Writes (take i xs) (items_view vs) → WritesEach Writes xs (items_view vs)
+  values_whole xs vs i l h = subst (λ ys. WritesEach Writes ys (items_view vs)) (take_all i xs l) h
 
 -- what each item has, the one at this place has
 pub holds_at : {A : Type 0} (P : A → Type 0) (xs : List A) (i : ℕ) (d : A) → i < length xs → Each P xs → P (get_or xs i d)

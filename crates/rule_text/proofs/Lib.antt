@@ -5,3 +5,6 @@ pub mod TextLemmas
 pub mod AgainLemmas
 pub mod MemberLemmas
 pub mod RuleLemmas
+pub mod WrittenLemmas
+pub mod SpelledLemmas
+pub mod OneText

@@ -1,7 +1,7 @@
--- Objects of members that may be absent.
-use Rattle.std.proofs.Common.{◌≡◌, ◌<◌, ◌≤◌, ℕ, zero, suc, not, length, get_or, Bool, true, false, ◌||◌, ◌&&◌, bytes_eq, true≢false, Ordering, Less, Equal, Greater, List, [], ◌∷◌, Option, Some, None, Result, Ok, refl, arith, sym, subst, ap, ◌∙◌}
+-- Objects of members that may be absent. Given on to the crates above.
+use Rattle.std.proofs.Common.{◌≡◌, ◌<◌, ◌≤◌, ℕ, zero, suc, not, length, get_or, Bool, true, false, ◌||◌, ◌&&◌, bytes_eq, true≢false, Ordering, Less, Equal, Greater, List, [], ◌∷◌, ◌++◌, Option, Some, None, Result, Ok, refl, arith, sym, subst, ap, ◌∙◌}
 use Rattle.std.specs.Cmp.Lexicographic.{slice_cmp}
-use Rattle.std.specs.Ordering.{nat_cmp, match_ordering}
+use Rattle.std.specs.Ordering.{is_gt, nat_cmp, match_ordering}
 use Rattle.std.proofs.lemmas.Slice.Eq.{bytes_eq-Decides}
 use Rattle.serde_json.proofs.Views.{get_member-put, get_member-put_other}
 use Rattle.serde_json.specs.Data.{Data, Members, no_members, member, object, put, depth, members_depth}
@@ -9,7 +9,8 @@ use Rattle.serde_json.specs.Find.{get_member}
 use Rattle.serde_json.specs.Written.{has_float, members_have_float}
 use Rattle.rule_text.specs.declared.fault.RuleFault.{RuleFault}
 use Rattle.rule_text.specs.Members.{is_one_of, only_named, optional_at}
-use Rattle.rule_text.specs.Written.{Puts, Spells, SpellsIf, put_if}
+use Rattle.rule_text.specs.Again.{Spells}
+use Rattle.rule_text.specs.Written.{Puts, WritesIf, member_if, put_if}
 
 untrue_test : (b : Bool) → (b ≡ true → ⊥) → b ≡ false
 untrue_test true h = absurd (h refl)
@@ -130,6 +131,13 @@ built_named these those (g ∷ gs) e =
     let h = both (is_one_of these g.0 || is_one_of those g.0) (all_known these those gs) e in
     named_if these those g.0 g.1 (built gs) h.0 ∙ built_named these those gs h.1
 
+-- a part that may be absent, and its value
+abbrev pub SpellsIf : {A : Type 0} → ℕ → (Data → Result A RuleFault) → Option A → Option Data → Type 0
+SpellsIf levels form None None = Unit {0}
+SpellsIf levels form None (Some d) = ⊥
+SpellsIf levels form (Some part) None = ⊥
+SpellsIf levels form (Some part) (Some d) = Spells levels form part d
+
 -- a value that has no float and so many levels at most, where there is one
 abbrev pub IsPlain : ℕ → Option Data → Type 0
 IsPlain levels None = Unit {0}
@@ -169,10 +177,53 @@ optional_again levels form None k (Some d) ms h e = absurd h
 optional_again levels form (Some a) k None ms h e = absurd h
 optional_again levels form (Some a) k (Some d) ms h e = rw (e, h.again) refl
 
-pub puts_some : {A : Type 0} (levels : ℕ) (form : Data → Result A RuleFault) (part : Option A) (a : A) (name : List ℕ) (d : Data) (old new : Members)
-    → part ≡ Some a → Spells levels form a d → new ≡ put name d old → Puts levels form part name old new
-puts_some levels form part a name d old new is h e = record {
+pub puts_some : {A : Type 0} (Writes : A → Data → Type 0) (part : Option A) (a : A) (name : List ℕ) (d : Data) (old new : Members)
+    → part ≡ Some a → Writes a d → new ≡ put name d old → Puts Writes part name old new
+puts_some Writes part a name d old new is h e = record {
   value = Some d;
-  spells = subst (λ p. SpellsIf levels form p (Some d)) (sym is) h;
+  writes = subst (λ p. WritesIf Writes p (Some d)) (sym is) h;
   put = e;
 }
+
+-- members that were put in the order of their names
+
+abbrev pub listed : List Given → Members
+listed [] = no_members
+listed (g ∷ gs) = member_if g.0 g.1 (listed gs)
+
+abbrev pub turned : List Given → List Given
+turned [] = []
+turned (g ∷ gs) = turned gs ++ g ∷ []
+
+-- whether this name comes after each of these
+abbrev pub comes_after : List ℕ → List Given → Bool
+comes_after k [] = true
+comes_after k (g ∷ gs) = is_gt (slice_cmp nat_cmp k g.0) && comes_after k gs
+
+-- whether each name comes after all that follow it
+abbrev pub descend : List Given → Bool
+descend [] = true
+descend (g ∷ gs) = comes_after g.0 (turned gs) && descend gs
+
+greater : (o : Ordering) → is_gt o ≡ true → o ≡ Greater
+greater Less e = absurd (cc)
+greater Equal e = absurd (cc)
+greater Greater e = refl
+
+put_behind : (k l : List ℕ) (o p : Option Data) (ms : Members) → slice_cmp nat_cmp k l ≡ Greater → put_if k o (member_if l p ms) ≡ member_if l p (put_if k o ms)
+put_behind k l None p ms e = refl
+put_behind k l (Some d) None ms e = refl
+put_behind k l (Some d) (Some x) ms e = ap (λ r. match_ordering r (member k d (member l x ms)) (member l d ms) (member l x (put k d ms))) e
+
+put_last : (k : List ℕ) (o : Option Data) (gs : List Given) → comes_after k gs ≡ true → put_if k o (listed gs) ≡ listed (gs ++ (k, o) ∷ [])
+put_last k None [] e = refl
+put_last k (Some d) [] e = refl
+put_last k o (g ∷ gs) e =
+    let h = both (is_gt (slice_cmp nat_cmp k g.0)) (comes_after k gs) e in
+    put_behind k g.0 o g.1 (listed gs) (greater (slice_cmp nat_cmp k g.0) h.0) ∙ ap (member_if g.0 g.1) (put_last k o gs h.1)
+
+pub built_in_order : (gs : List Given) → descend gs ≡ true → built gs ≡ listed (turned gs)
+built_in_order [] e = refl
+built_in_order (g ∷ gs) e =
+    let h = both (comes_after g.0 (turned gs)) (descend gs) e in
+    ap (put_if g.0 g.1) (built_in_order gs h.1) ∙ put_last g.0 g.1 (turned gs) h.0

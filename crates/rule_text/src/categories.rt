@@ -19,12 +19,13 @@ use std::alloc::Global;
 impl RulePart for DayTime {
     ghost use Rattle.rule_text.specs.Rules.{day_time_of};
     ghost use Rattle.fare_law.specs.RuleLimits.{IsDayTime};
+    ghost use Rattle.rule_text.specs.Written.{WritesDayTime};
 
     ghost form = { day_time_of };
 
     ghost holds = { IsDayTime };
 
-    ghost levels = { 2 };
+    ghost writes = { WritesDayTime };
 
     fn read_part(value: &Value) -> Result<DayTime, RuleFault> {
         check_members(value, &["days", "from", "to"], &[])?;
@@ -37,7 +38,7 @@ impl RulePart for DayTime {
         Ok(DayTime { days, from, to })
     }
 
-    #[tactic(auto, using(crate::proofs::AgainLemmas::day_time_again))]
+    #[tactic(auto, using(crate::proofs::WrittenLemmas::day_time_written))]
     fn part_value(&self, alloc: Global) -> Result<Value, Mem> {
         let days = self.days.part_value(alloc)?;
         let from = minute_text(self.from);
@@ -49,12 +50,13 @@ impl RulePart for DayTime {
 impl RulePart for FlightRule {
     ghost use Rattle.rule_text.specs.Rules.{flight_rule_of};
     ghost use Rattle.fare_law.specs.RuleLimits.{IsFlightRule};
+    ghost use Rattle.rule_text.specs.Written.{WritesFlightRule};
 
     ghost form = { flight_rule_of };
 
     ghost holds = { IsFlightRule };
 
-    ghost levels = { 3 };
+    ghost writes = { WritesFlightRule };
 
     fn read_part(value: &Value) -> Result<FlightRule, RuleFault> {
         check_members(value, &["allow", "flights"], &[])?;
@@ -64,7 +66,7 @@ impl RulePart for FlightRule {
         })
     }
 
-    #[tactic(auto, using(crate::proofs::AgainLemmas::flight_rule_again))]
+    #[tactic(auto, using(crate::proofs::WrittenLemmas::flight_rule_written))]
     fn part_value(&self, alloc: Global) -> Result<Value, Mem> {
         let flights = self.flights.part_value(alloc)?;
         Ok(objects::flight_rule(alloc, self.allow, flights)?)
@@ -74,12 +76,13 @@ impl RulePart for FlightRule {
 impl RulePart for MinStay {
     ghost use Rattle.rule_text.specs.Rules.{min_stay_of};
     ghost use Rattle.fare_law.specs.RuleLimits.{IsMinStay};
+    ghost use Rattle.rule_text.specs.Written.{WritesMinStay};
 
     ghost form = { min_stay_of };
 
     ghost holds = { IsMinStay };
 
-    ghost levels = { 1 };
+    ghost writes = { WritesMinStay };
 
     fn read_part(value: &Value) -> Result<MinStay, RuleFault> {
         check_members(value, &["days", "sunday"], &[])?;
@@ -89,7 +92,6 @@ impl RulePart for MinStay {
         })
     }
 
-    #[tactic(auto, using(crate::proofs::AgainLemmas::min_stay_again))]
     fn part_value(&self, alloc: Global) -> Result<Value, Mem> {
         Ok(objects::min_stay(alloc, self.days, self.sunday)?)
     }
@@ -98,12 +100,13 @@ impl RulePart for MinStay {
 impl RulePart for StopRule {
     ghost use Rattle.rule_text.specs.Rules.{stop_rule_of};
     ghost use Rattle.fare_law.specs.RuleLimits.{IsStopRule};
+    ghost use Rattle.rule_text.specs.Written.{WritesStopRule};
 
     ghost form = { stop_rule_of };
 
     ghost holds = { IsStopRule };
 
-    ghost levels = { 2 };
+    ghost writes = { WritesStopRule };
 
     fn read_part(value: &Value) -> Result<StopRule, RuleFault> {
         check_members(value, &["max", "charge"], &["places"])?;
@@ -124,12 +127,13 @@ impl RulePart for StopRule {
 impl RulePart for TransferRule {
     ghost use Rattle.rule_text.specs.Rules.{transfer_rule_of};
     ghost use Rattle.fare_law.specs.RuleLimits.{IsTransferRule};
+    ghost use Rattle.rule_text.specs.Written.{WritesTransferRule};
 
     ghost form = { transfer_rule_of };
 
     ghost holds = { IsTransferRule };
 
-    ghost levels = { 1 };
+    ghost writes = { WritesTransferRule };
 
     fn read_part(value: &Value) -> Result<TransferRule, RuleFault> {
         check_members(value, &["max", "online"], &[])?;
@@ -139,7 +143,6 @@ impl RulePart for TransferRule {
         })
     }
 
-    #[tactic(auto, using(crate::proofs::AgainLemmas::transfer_rule_again))]
     fn part_value(&self, alloc: Global) -> Result<Value, Mem> {
         Ok(objects::transfer_rule(alloc, self.max, self.online)?)
     }
@@ -148,12 +151,13 @@ impl RulePart for TransferRule {
 impl RulePart for Surcharge {
     ghost use Rattle.rule_text.specs.Rules.{surcharge_of};
     ghost use Rattle.fare_law.specs.RuleLimits.{IsSurcharge};
+    ghost use Rattle.rule_text.specs.Written.{WritesSurcharge};
 
     ghost form = { surcharge_of };
 
     ghost holds = { IsSurcharge };
 
-    ghost levels = { 1 };
+    ghost writes = { WritesSurcharge };
 
     fn read_part(value: &Value) -> Result<Surcharge, RuleFault> {
         check_members(
@@ -196,12 +200,13 @@ impl RulePart for Surcharge {
 impl RulePart for TravelRule {
     ghost use Rattle.rule_text.specs.Rules.{travel_rule_of};
     ghost use Rattle.fare_law.specs.RuleLimits.{IsTravelRule};
+    ghost use Rattle.rule_text.specs.Written.{WritesTravelRule};
 
     ghost form = { travel_rule_of };
 
     ghost holds = { IsTravelRule };
 
-    ghost levels = { 3 };
+    ghost writes = { WritesTravelRule };
 
     fn read_part(value: &Value) -> Result<TravelRule, RuleFault> {
         check_members(value, &[], &["ranges", "by"])?;

@@ -1,7 +1,8 @@
 //! Category 10: combinations.
-ghost use Rattle.std.specs.Prelude.{◌≡◌, Some};
+ghost use Rattle.std.specs.Prelude.{◌≡◌};
 ghost use Rattle.serde_json.specs.View.{view};
 ghost use Rattle.rule_text.specs.Rules as Rules;
+ghost use Rattle.rule_text.specs.Written as Written;
 
 use crate::members::{check_members, part_at};
 use crate::order::ascend;
@@ -15,12 +16,13 @@ use std::alloc::Global;
 impl RulePart for CombineRule {
     ghost use Rattle.rule_text.specs.Rules.{combine_rule_of};
     ghost use Rattle.fare_law.specs.RuleLimits.{IsCombineRule};
+    ghost use Rattle.rule_text.specs.Written.{WritesCombineRule};
 
     ghost form = { combine_rule_of };
 
     ghost holds = { IsCombineRule };
 
-    ghost levels = { 2 };
+    ghost writes = { WritesCombineRule };
 
     fn read_part(value: &Value) -> Result<CombineRule, RuleFault> {
         check_members(value, &["kinds", "partners", "end_on_end"], &[])?;
@@ -37,7 +39,7 @@ impl RulePart for CombineRule {
         })
     }
 
-    #[tactic(auto, using(crate::proofs::AgainLemmas::combine_rule_again))]
+    #[tactic(auto, using(crate::proofs::WrittenLemmas::combine_rule_written))]
     fn part_value(&self, alloc: Global) -> Result<Value, Mem> {
         let kinds = self.kinds.part_value(alloc)?;
         let end_on_end = end_on_end_text(self.end_on_end);
@@ -49,19 +51,19 @@ impl RulePart for CombineRule {
 impl RulePart for UnitKind {
     ghost use Rattle.rule_text.specs.Rules.{unit_kind_of};
     ghost use Rattle.fare_law.specs.RuleLimits.{IsAnyKind};
+    ghost use Rattle.rule_text.specs.Written.{WritesKind};
 
     ghost form = { unit_kind_of };
 
     ghost holds = { IsAnyKind };
 
-    ghost levels = { 0 };
+    ghost writes = { WritesKind };
 
     fn read_part(value: &Value) -> Result<UnitKind, RuleFault> {
         let text = value.as_str().ok_or(RuleFault::Range)?;
         unit_kind_spelled(text).ok_or(RuleFault::Range)
     }
 
-    #[tactic(auto, using(crate::proofs::AgainLemmas::unit_kind_again))]
     fn part_value(&self, alloc: Global) -> Result<Value, Mem> {
         Ok(Value::try_from_str(alloc, unit_kind_text(*self))?)
     }
@@ -104,7 +106,7 @@ fn end_on_end_at(value: &Value) -> Option<EndOnEnd>
 }
 
 fn unit_kind_text(kind: UnitKind) -> &'static str
-    ensures { Rules.unit_kind_spelled result.now ≡ Some kind }
+    ensures { result.now ≡ Written.kind_text kind }
 {
     match kind {
         UnitKind::OneWay => "one_way",
@@ -115,7 +117,7 @@ fn unit_kind_text(kind: UnitKind) -> &'static str
 }
 
 fn partners_text(partners: Partners) -> &'static str
-    ensures { Rules.partners_spelled result.now ≡ Some partners }
+    ensures { result.now ≡ Written.partners_text partners }
 {
     match partners {
         Partners::Any => "any",
@@ -125,7 +127,7 @@ fn partners_text(partners: Partners) -> &'static str
 }
 
 fn end_on_end_text(end_on_end: EndOnEnd) -> &'static str
-    ensures { Rules.end_on_end_spelled result.now ≡ Some end_on_end }
+    ensures { result.now ≡ Written.end_on_end_text end_on_end }
 {
     match end_on_end {
         EndOnEnd::Free => "free",

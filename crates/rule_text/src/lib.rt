@@ -18,4 +18,4 @@ mod writing;
 
 pub use fault::RuleFault;
 pub use reading::read_rule;
-pub use writing::{names_stand_aside, rule_members, rule_value};
+pub use writing::{names_stand_aside, one_value_of_rules, rule_members, rule_value};

@@ -1,5 +1,6 @@
 //! The JSON objects of a rule's categories, from the values of their members.
 ghost use Rattle.std.specs.Prelude.{◌≡◌, IfOk, IfSome, OnOk};
+ghost use Rattle.serde_json.specs.Data.{no_members};
 ghost use Rattle.serde_json.specs.View.{view, members_view};
 ghost use Rattle.rule_text.specs.Written as Written;
 
@@ -17,7 +18,7 @@ pub fn put_optional<T: RulePart>(
     part: &Option<T>,
 ) -> Result<(), Mem>
     requires { IfSome part.now T.holds }
-    ensures { OnOk result (Written.Puts T.levels T.form part.now name.now (members_view members.old.entries) (members_view members.new.entries)) }
+    ensures { OnOk result (Written.Puts T.writes part.now name.now (members_view members.old.entries) (members_view members.new.entries)) }
 {
     match part {
         Some(part) => Ok(put(members, alloc, name, part.part_value(alloc)?)?),
@@ -45,7 +46,7 @@ pub fn min_stay(alloc: Global, days: u16, sunday: bool) -> Result<Value, AllocEr
 
 /// The members of category 8 but for `places`.
 pub fn stop_members(alloc: Global, charge: u64, max: u8) -> Result<Map<String, Value>, AllocError>
-    ensures { IfOk result (λ members. members_view members.entries ≡ Written.stop_members charge max) }
+    ensures { IfOk result (λ members. members_view members.entries ≡ Written.stop_members charge max no_members) }
 {
     let mut members = Map::new(alloc);
     put(&mut members, alloc, "charge", Value::from(charge))?;

@@ -1,11 +1,11 @@
 //! Parts of a rule, and lists of them.
-ghost use Rattle.std.specs.Prelude.{◌≡◌, ◌≤◌, ◌+◌, ℕ, Result, IfOk, length};
+ghost use Rattle.std.specs.Prelude.{◌≡◌, ◌≤◌, Result, IfOk, length};
 ghost use Rattle.serde_json.specs.Data.{Data};
 ghost use Rattle.serde_json.specs.View.{view, items_view};
 ghost use Rattle.fare_law.specs.Lists.{Each};
 ghost use Rattle.fare_law.specs.RuleLimits.{IsListOf};
 ghost use Rattle.rule_text.specs.Members as Members;
-ghost use Rattle.rule_text.specs.Written.{Spells, SpellsEach};
+ghost use Rattle.rule_text.specs.Written.{WritesEach, WritesList};
 ghost use Rattle.rule_text.specs.declared.fault.RuleFault.{RuleFault as Fault};
 
 use crate::RuleFault;
@@ -13,24 +13,23 @@ use fare_law::{ArrayVec, Mem};
 use serde_json::Value;
 use std::alloc::Global;
 
-/// A part of a rule: what its JSON value spells, and the limits of what is read.
+/// A part of a rule: what its JSON value spells, the limits of what is read, and what is written.
 pub trait RulePart: Drop {
     ghost form: { Data → Result Self Fault };
 
     ghost holds: { Self → Type 0 };
 
-    // How deep its value nests.
-    ghost levels: { ℕ };
+    ghost writes: { Self → Data → Type 0 };
 
     /// The part that a value spells, or its first fault.
     fn read_part(value: &Value) -> Result<Self, RuleFault>
         ensures part { result ≡ form (view value.now) }
         ensures limits { IfOk result holds };
 
-    /// The value that is read as this part.
+    /// The part's value.
     fn part_value(&self, alloc: Global) -> Result<Value, Mem>
         requires { holds self.now }
-        ensures { IfOk result (λ value. Spells levels form self.now (view value)) };
+        ensures { IfOk result (λ value. writes self.now (view value)) };
 }
 
 impl<T: RulePart + Default, const N: usize> RulePart for ArrayVec<T, N> {
@@ -38,14 +37,13 @@ impl<T: RulePart + Default, const N: usize> RulePart for ArrayVec<T, N> {
 
     ghost holds = { IsListOf N T.holds };
 
-    ghost levels = { T.levels + 1 };
+    ghost writes = { WritesList T.writes };
 
     fn read_part(value: &Value) -> Result<ArrayVec<T, N>, RuleFault> {
         let items = value.as_array().ok_or(RuleFault::Range)?;
         read_items(items.as_slice())
     }
 
-    #[tactic(auto, using(crate::proofs::AgainLemmas::list_again))]
     fn part_value(&self, alloc: Global) -> Result<Value, Mem> {
         Ok(Value::Array(item_values(alloc, self.as_slice())?))
     }
@@ -55,7 +53,7 @@ impl<T: RulePart + Default, const N: usize> RulePart for ArrayVec<T, N> {
 #[tactic(auto, using(crate::proofs::ItemLemmas::value_steps))]
 fn item_values<T: RulePart>(alloc: Global, items: &[T]) -> Result<Vec<Value>, Mem>
     requires { Each T.holds items.now }
-    ensures { IfOk result (λ values. SpellsEach T.levels T.form items.now (items_view values.items)) }
+    ensures { IfOk result (λ values. WritesEach T.writes items.now (items_view values.items)) }
 {
     let mut values = Vec::new(alloc);
     for item in items {

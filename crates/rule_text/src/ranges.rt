@@ -18,18 +18,19 @@ use std::alloc::{AllocError, Global};
 
 impl RulePart for DayRange {
     ghost use Rattle.rule_text.specs.Parts.{day_range_of};
+    ghost use Rattle.rule_text.specs.Written.{WritesDayRange};
 
     ghost form = { day_range_of };
 
     ghost holds = { IsDayRange };
 
-    ghost levels = { 1 };
+    ghost writes = { WritesDayRange };
 
     fn read_part(value: &Value) -> Result<DayRange, RuleFault> {
         day_range(value).ok_or(RuleFault::Range)
     }
 
-    #[tactic(auto, using(crate::proofs::AgainLemmas::day_range_again))]
+    #[tactic(auto, using(crate::proofs::WrittenLemmas::day_range_written))]
     fn part_value(&self, alloc: Global) -> Result<Value, Mem> {
         let first = day_text(self.first);
         let last = day_text(self.last);
@@ -39,18 +40,18 @@ impl RulePart for DayRange {
 
 impl RulePart for FlightRange {
     ghost use Rattle.rule_text.specs.Parts.{flight_range_of};
+    ghost use Rattle.rule_text.specs.Written.{WritesFlightRange};
 
     ghost form = { flight_range_of };
 
     ghost holds = { IsFlightRange };
 
-    ghost levels = { 1 };
+    ghost writes = { WritesFlightRange };
 
     fn read_part(value: &Value) -> Result<FlightRange, RuleFault> {
         flight_range(value).ok_or(RuleFault::Range)
     }
 
-    #[tactic(auto, using(crate::proofs::AgainLemmas::flight_range_again))]
     fn part_value(&self, alloc: Global) -> Result<Value, Mem> {
         let carrier = carrier_text(&self.carrier);
         Ok(flight_range_json(alloc, carrier, self.low, self.high)?)

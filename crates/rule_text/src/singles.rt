@@ -20,19 +20,19 @@ use std::alloc::Global;
 impl RulePart for u8 {
     ghost use Rattle.rule_text.specs.Parts.{weekday_of};
     ghost use Rattle.fare_law.specs.RuleLimits.{IsWeekday};
+    ghost use Rattle.rule_text.specs.Written.{WritesNumber};
 
     ghost form = { weekday_of };
 
     ghost holds = { IsWeekday };
 
-    ghost levels = { 0 };
+    ghost writes = { WritesNumber };
 
     fn read_part(value: &Value) -> Result<u8, RuleFault> {
         let day = number_of(value, 1, 7).ok_or(RuleFault::Range)?;
         Ok(day as u8)
     }
 
-    #[tactic(auto, using(crate::proofs::AgainLemmas::weekday_again))]
     fn part_value(&self, _alloc: Global) -> Result<Value, Mem> {
         Ok(Value::from(*self))
     }
@@ -42,19 +42,19 @@ impl RulePart for u8 {
 impl RulePart for u16 {
     ghost use Rattle.rule_text.specs.Parts.{days_of};
     ghost use Rattle.fare_law.specs.RuleLimits.{IsDays};
+    ghost use Rattle.rule_text.specs.Written.{WritesNumber};
 
     ghost form = { days_of };
 
     ghost holds = { IsDays };
 
-    ghost levels = { 0 };
+    ghost writes = { WritesNumber };
 
     fn read_part(value: &Value) -> Result<u16, RuleFault> {
         let days = number_of(value, 0, 365).ok_or(RuleFault::Range)?;
         Ok(days as u16)
     }
 
-    #[tactic(auto, using(crate::proofs::AgainLemmas::days_again))]
     fn part_value(&self, _alloc: Global) -> Result<Value, Mem> {
         Ok(Value::from(*self))
     }
@@ -63,18 +63,19 @@ impl RulePart for u16 {
 // A date, as its day.
 impl RulePart for i32 {
     ghost use Rattle.rule_text.specs.Parts.{date_of};
+    ghost use Rattle.rule_text.specs.Written.{WritesDate};
 
     ghost form = { date_of };
 
     ghost holds = { IsInCentury };
 
-    ghost levels = { 0 };
+    ghost writes = { WritesDate };
 
     fn read_part(value: &Value) -> Result<i32, RuleFault> {
         date_of(value).ok_or(RuleFault::Range)
     }
 
-    #[tactic(auto, using(crate::proofs::AgainLemmas::date_again))]
+    #[tactic(auto, using(crate::proofs::WrittenLemmas::date_written))]
     fn part_value(&self, alloc: Global) -> Result<Value, Mem> {
         let text = day_text(*self);
         Ok(Value::try_from_str(alloc, ascii_text(&text))?)
@@ -83,18 +84,18 @@ impl RulePart for i32 {
 
 impl RulePart for Place {
     ghost use Rattle.rule_text.specs.Parts.{place_form};
+    ghost use Rattle.rule_text.specs.Written.{WritesPlace};
 
     ghost form = { place_form };
 
     ghost holds = { IsPlace };
 
-    ghost levels = { 0 };
+    ghost writes = { WritesPlace };
 
     fn read_part(value: &Value) -> Result<Place, RuleFault> {
         read_place(value).ok_or(RuleFault::Range)
     }
 
-    #[tactic(auto, using(crate::proofs::AgainLemmas::place_again))]
     fn part_value(&self, alloc: Global) -> Result<Value, Mem> {
         Ok(Value::try_from_str(alloc, place_text(self))?)
     }

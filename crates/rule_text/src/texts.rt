@@ -1,7 +1,7 @@
 //! Days, times and names as text.
-ghost use Rattle.std.specs.Prelude.{◌≡◌, ◌+◌, ◌/◌, ◌%◌, ◌<◌, Some};
+ghost use Rattle.std.specs.Prelude.{◌≡◌, ◌+◌, ◌/◌, ◌%◌, ◌<◌};
 ghost use Rattle.std.specs.Str.{IsAscii};
-ghost use Rattle.market_time.specs.Clock.{minute_spelled};
+ghost use Rattle.market_time.specs.Clock.{time_text};
 ghost use Rattle.market_time.specs.Digits.{digits_of};
 ghost use Rattle.fare_law.specs.Names.{IsCarrier};
 ghost use Rattle.fare_law.specs.Limits.{IsPlace};
@@ -9,10 +9,10 @@ ghost use Rattle.fare_law.specs.Limits.{IsPlace};
 use fare_law::{Carrier, Place};
 
 /// The text `HH:MM` of a minute of the day.
-#[tactic(auto, using(crate::proofs::TextLemmas::minute_again, crate::proofs::TextLemmas::minute_is_ascii))]
+#[tactic(auto, using(crate::proofs::TextLemmas::minute_is_ascii))]
 pub fn minute_text(minute: u16) -> [u8; 5]
     requires { minute < 1440 }
-    ensures minute { minute_spelled result ≡ Some minute }
+    ensures minute { result ≡ time_text minute }
     ensures ascii { IsAscii result }
 {
     let hour = (minute / 60) as u8;

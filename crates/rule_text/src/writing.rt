@@ -3,8 +3,10 @@ ghost use Rattle.std.specs.Prelude.{◌≡◌, IfOk, codes};
 ghost use Rattle.serde_json.specs.Data.{Data, Members, object, put};
 ghost use Rattle.serde_json.specs.View.{view, members_view};
 ghost use Rattle.fare_law.specs.RuleLimits.{IsRule};
+ghost use Rattle.fare_law.specs.declared.rules.Rule.{Rule as RuleData};
+ghost use Rattle.rule_text.specs.Again.{Spells};
 ghost use Rattle.rule_text.specs.Rules.{rule_of};
-ghost use Rattle.rule_text.specs.Written.{IsBare, Spells};
+ghost use Rattle.rule_text.specs.Written.{WritesRule, WritesRuleObject};
 
 use crate::objects::put_optional;
 use fare_law::{Mem, Rule};
@@ -15,8 +17,8 @@ use std::alloc::Global;
 /// ascending by name. It is read again as the rule.
 pub fn rule_value(alloc: Global, rule: &Rule) -> Result<Value, Mem>
     requires { IsRule rule.now }
+    ensures written { IfOk result (λ value. WritesRuleObject rule.now (view value)) }
     ensures again { IfOk result (λ value. Spells 4 rule_of rule.now (view value)) }
-    ensures bare { IfOk result (λ value. IsBare (view value)) }
 {
     Ok(Value::Object(rule_members(alloc, rule)?))
 }
@@ -25,10 +27,13 @@ pub fn rule_value(alloc: Global, rule: &Rule) -> Result<Value, Mem>
 /// adds them to these.
 pub fn rule_members(alloc: Global, rule: &Rule) -> Result<Map<String, Value>, Mem>
     requires { IsRule rule.now }
+    ensures written { IfOk result (λ members. WritesRule rule.now (members_view members.entries)) }
     ensures again { IfOk result (λ members. Spells 4 rule_of rule.now (object (members_view members.entries))) }
-    ensures bare { IfOk result (λ members. IsBare (object (members_view members.entries))) }
 {
     let mut members = Map::new(alloc);
+    put_optional(alloc, &mut members, "cat10", &rule.cat10)?;
+    put_optional(alloc, &mut members, "cat12", &rule.cat12)?;
+    put_optional(alloc, &mut members, "cat14", &rule.cat14)?;
     put_optional(alloc, &mut members, "cat2", &rule.cat2)?;
     put_optional(alloc, &mut members, "cat3", &rule.cat3)?;
     put_optional(alloc, &mut members, "cat4", &rule.cat4)?;
@@ -37,11 +42,13 @@ pub fn rule_members(alloc: Global, rule: &Rule) -> Result<Map<String, Value>, Me
     put_optional(alloc, &mut members, "cat7", &rule.cat7)?;
     put_optional(alloc, &mut members, "cat8", &rule.cat8)?;
     put_optional(alloc, &mut members, "cat9", &rule.cat9)?;
-    put_optional(alloc, &mut members, "cat10", &rule.cat10)?;
-    put_optional(alloc, &mut members, "cat12", &rule.cat12)?;
-    put_optional(alloc, &mut members, "cat14", &rule.cat14)?;
     Ok(members)
 }
+
+/// A rule has one value.
+pub fn one_value_of_rules()
+    ensures { (rule : RuleData) (ms ns : Members) → WritesRule rule ms → WritesRule rule ns → ms ≡ ns }
+{}
 
 /// A carrier and a number that are added to an object change nothing in the rule that it spells.
 pub fn names_stand_aside()

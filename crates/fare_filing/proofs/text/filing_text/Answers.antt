@@ -13,7 +13,7 @@ returns-clause-text c =
     record {
       json = view c.in_ok-value.value;
       filing_is = w;
-      compact = e ∙ c.in_ok-text.ensures.text (no_float c.args.filing.now (view c.in_ok-value.value) w);
+      compact = e ∙ c.in_ok-text.ensures.text (no_float c.args.filing.now (view c.in_ok-value.value) c.requires w);
     }
 
 pub returns-clause-again : goal.returns-clause-again
@@ -23,4 +23,4 @@ returns-clause-again c =
     let w = c.in_ok-value.ensures in
     let e : c.from_vec.result ≡ string_bytes c.in_ok-text.text = c.from_vec.ensures ∙ ap (λ v. v.items) c.into_bytes.ensures.value in
     subst (λ (text : List ℕ). filing_of text ≡ Ok filing) (sym e)
-    (text_again c.names_read_again.ensures c.names_stand_aside.ensures filing d (string_bytes c.in_ok-text.text) c.requires w (IsUtf8-string_bytes c.in_ok-text.text) (c.in_ok-text.ensures.reads_back (shallow filing d w)))
+    (text_again c.names_read_again.ensures c.names_stand_aside.ensures filing d (string_bytes c.in_ok-text.text) c.requires w (IsUtf8-string_bytes c.in_ok-text.text) (c.in_ok-text.ensures.reads_back (shallow filing d c.requires w)))
