@@ -4,10 +4,9 @@ use Rattle.fare_law.specs.declared.requests.Request.{Request}
 use Rattle.fare_law.specs.declared.rules.UnitKind.TheVariants.{OneWay}
 use Rattle.fare_law.specs.declared.tickets.Ticket.{Ticket}
 use Rattle.fare_law.specs.Book.{Book}
-use Rattle.fare_law.specs.Lawful.{IsPart}
+use Rattle.fare_law.specs.Parts.{IsPart, price_of}
 use Rattle.fare_law.specs.Lists.{Matched}
-use Rattle.fare_law.specs.Order.{Costs}
-use Rattle.fare_law.specs.Parts.{price_of}
+use Rattle.fare_law.specs.Best.{Costs}
 use Rattle.one_way.specs.declared.cases.OneWayCase.{OneWayCase}
 use Rattle.one_way.specs.OneWay.{book_of, ticket_of, part_of}
 use Rattle.answer_text.specs.Answer.{AnswerText, TicketText}

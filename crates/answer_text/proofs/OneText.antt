@@ -12,10 +12,10 @@ use Rattle.fare_law.specs.declared.tickets.Component.{Component}
 use Rattle.fare_law.specs.declared.tickets.Piece.{Piece}
 use Rattle.fare_law.specs.declared.tickets.Ticket.{Ticket}
 use Rattle.fare_law.specs.Book.{Book, flight_at, live_rule}
-use Rattle.fare_law.specs.Lawful.{Part, IsPart, Lawful, unit_of}
+use Rattle.fare_law.specs.Lawful.{Lawful, unit_of}
+use Rattle.fare_law.specs.Parts.{Part, IsPart, StandsFor, ComponentLawful, price_of}
 use Rattle.fare_law.specs.Lists.{Each, EachPair, Matched, OnFirst, OnLast}
-use Rattle.fare_law.specs.Order.{Costs}
-use Rattle.fare_law.specs.Parts.{StandsFor, ComponentLawful, price_of}
+use Rattle.fare_law.specs.Best.{Costs}
 use Rattle.fare_law.specs.Units.{IsUnit}
 use Rattle.market_time.specs.Dates.{day_spelled}
 use Rattle.answer_text.specs.Answer.{MatchedFrom, ComponentText, TicketText, AnswerText}

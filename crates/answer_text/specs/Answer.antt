@@ -5,10 +5,10 @@ use Rattle.fare_law.specs.declared.requests.Request.{Request}
 use Rattle.fare_law.specs.declared.rules.UnitKind.{UnitKind}
 use Rattle.fare_law.specs.declared.tickets.Ticket.{Ticket}
 use Rattle.fare_law.specs.Book.{Book}
-use Rattle.fare_law.specs.Lawful.{Part, IsPart, unit_of}
+use Rattle.fare_law.specs.Lawful.{unit_of}
+use Rattle.fare_law.specs.Parts.{Part, IsPart, price_of}
 use Rattle.fare_law.specs.Lists.{Matched}
-use Rattle.fare_law.specs.Order.{Costs}
-use Rattle.fare_law.specs.Parts.{price_of}
+use Rattle.fare_law.specs.Best.{Costs}
 use Rattle.fare_law.specs.Units.{IsUnit}
 use Rattle.answer_text.specs.Lines.{tickets_line, ticket_line, component_line, FlightLine}
 

@@ -1,6 +1,6 @@
 //! The answer's text of the smallest case.
 ghost use Rattle.std.specs.Prelude.{◌≡◌, [], ◌∷◌, IfOk, IfSome, OnOk, OnSome};
-ghost use Rattle.fare_law.specs.Order.{Costs};
+ghost use Rattle.fare_law.specs.Best.{Costs};
 ghost use Rattle.market_time.specs.Dates.{IsInCentury};
 ghost use Rattle.one_way.specs.OneWay.{IsOneWay, HasTicket, book_of, ticket_of, tickets_in};
 ghost use Rattle.answer_text.specs.Answer.{AnswerText, TicketText};

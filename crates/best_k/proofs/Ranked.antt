@@ -2,8 +2,7 @@
 use Rattle.std.proofs.Common.{◌≡◌, ℕ, zero, suc, ◌<◌, ◌⊎◌, List, [], ◌∷◌, sym, refl, ap, subst, inl, inr, arith, ◌+◌, Bool, true, false, ◌++◌, Some, None, ◌∙◌, cond, map, Decides}
 use Rattle.std.proofs.lemmas.Bool.{cases_order}
 use Rattle.std.proofs.lemmas.Bool.Decides.{Decides-or, Decides-and, Decides-ltb, Decides-eqb}
-use Rattle.fare_law.specs.Lists.{IsIn, EachPair}
-use Rattle.fare_law.specs.Order.{Less}
+use Rattle.fare_law.specs.Lists.{IsIn, EachPair, Less}
 use Rattle.best_k.specs.declared.lattice.Choice.{Choice}
 use Rattle.best_k.specs.declared.lattice.Choice.TheVariants.{Leaf, Pair}
 use Rattle.best_k.specs.declared.lattice.Derivation.{Derivation}

@@ -1,9 +1,10 @@
 -- Lines that were read, and lines that are left.
-use Rattle.std.proofs.Common.{◌≡◌, ◌<◌, ◌≤◌, ◌+◌, ℕ, List, [], ◌∷◌, ◌++◌, length, drop, get_or, map, refl, ap, sym, ◌∙◌, append_assoc, append-nil, add-one, Result, Ok, Err, drop-cons, true, false, cond, subst}
+use Rattle.std.proofs.Common.{◌≡◌, ◌<◌, ◌≤◌, ◌+◌, ℕ, List, [], ◌∷◌, ◌++◌, length, drop, get_or, map, refl, ap, sym, ◌∙◌, append_assoc, append-nil, add-one, Result, Ok, Err, drop-cons, true, false, cond}
 use Rattle.std.proofs.lemmas.List.{drop_all}
-use Rattle.std.proofs.lemmas.List.Elements.{All-push}
-use Rattle.std.specs.List.{All}
+use Rattle.std.specs.List.{flat_map}
 use Rattle.fare_law.specs.declared.rows.TextLine.{TextLine}
+use Rattle.fare_law.specs.Limits.{IsFlightRow, IsPlaceRow, IsSeatRow}
+use Rattle.fare_law.specs.Lists.{Each}
 use Rattle.case_text.specs.declared.contents.Case.{Case}
 use Rattle.case_text.specs.declared.contents.Entry.{Entry}
 use Rattle.case_text.specs.declared.contents.Entry.TheVariants.{Opens, Place, Flight, Seat, Text}
@@ -14,27 +15,29 @@ use Rattle.case_text.specs.declared.headers.Header.TheVariants.{Places, Flights,
 use Rattle.case_text.specs.declared.kinds.CaseKind.{CaseKind}
 use Rattle.case_text.specs.declared.lines.Line.{Line}
 use Rattle.case_text.specs.declared.standing.Standing.{Standing}
-use Rattle.case_text.specs.Contents.{case_with, added, line_added, no_contents, HasDays, KeepsDays}
+use Rattle.case_text.specs.Contents.{case_with, added, after_header, end_after, line_added, lines_in, no_contents, places_in, flights_in, seats_in}
 use Rattle.case_text.specs.Entries.{entries, judged, moved, is_over, at_start, case_read, ◌>>=◌}
+use Rattle.case_text.specs.Limits.{HasRows, KeepsLimits}
 use Rattle.case_text.specs.Lines.{shown}
 
--- a case with the contents of another at the end of its sections
-abbrev pub joined : Case → Case → Case
-joined a b = record {
-  places = a.places ++ b.places;
-  flights = a.flights ++ b.flights;
-  seats = a.seats ++ b.seats;
-  filings = a.filings ++ b.filings;
-  later = a.later ++ b.later;
-  requests = a.requests ++ b.requests;
-  script = a.script ++ b.script;
-  certificate = a.certificate ++ b.certificate;
-  ticket = a.ticket ++ b.ticket;
+-- a case with further entries, each at the end of its section
+abbrev pub joined : Case → List Entry → Case
+joined a more = record {
+  places = a.places ++ flat_map places_in more;
+  flights = a.flights ++ flat_map flights_in more;
+  seats = a.seats ++ flat_map seats_in more;
+  filings = a.filings ++ flat_map (lines_in Filings) more;
+  later = a.later ++ flat_map (lines_in Later) more;
+  requests = a.requests ++ flat_map (lines_in Request) more;
+  script = a.script ++ flat_map (lines_in Script) more;
+  certificate = a.certificate ++ flat_map (lines_in Certificate) more;
+  ticket = a.ticket ++ flat_map (lines_in Ticket) more;
+  end = end_after a.end more;
 }
 
 -- what stands before, and what is still to be read
 abbrev pub read_on : Case → Result (List Entry) CaseFault → Result Case CaseFault
-read_on before (Ok found) = Ok (joined before (case_with found))
+read_on before (Ok found) = Ok (joined before found)
 read_on before (Err fault) = Err fault
 
 -- what the lines from a place on give, after what stands before them
@@ -45,49 +48,77 @@ append_cons : {A : Type 0} (xs : List A) (x : A) (ys : List A) → (xs ++ x ∷ 
 append_cons xs x ys = append_assoc xs (x ∷ []) ys
 
 -- one line more before the others
-line_first : (before : Case) (header : Header) (line : TextLine) (found : List Entry) → joined (line_added before header line) (case_with found) ≡ joined before (case_with (Text header line ∷ found))
-line_first before Filings line found = rw (append_cons before.filings line (case_with found).filings) refl
-line_first before Later line found = rw (append_cons before.later line (case_with found).later) refl
-line_first before Request line found = rw (append_cons before.requests line (case_with found).requests) refl
-line_first before Script line found = rw (append_cons before.script line (case_with found).script) refl
-line_first before Certificate line found = rw (append_cons before.certificate line (case_with found).certificate) refl
-line_first before Ticket line found = rw (append_cons before.ticket line (case_with found).ticket) refl
+line_first : (before : Case) (header : Header) (line : TextLine) (found : List Entry) → joined (line_added before header line) found ≡ joined before (Text header line ∷ found)
+line_first before Filings line found = rw (append_cons before.filings line (flat_map (lines_in Filings) found)) refl
+line_first before Later line found = rw (append_cons before.later line (flat_map (lines_in Later) found)) refl
+line_first before Request line found = rw (append_cons before.requests line (flat_map (lines_in Request) found)) refl
+line_first before Script line found = rw (append_cons before.script line (flat_map (lines_in Script) found)) refl
+line_first before Certificate line found = rw (append_cons before.certificate line (flat_map (lines_in Certificate) found)) refl
+line_first before Ticket line found = rw (append_cons before.ticket line (flat_map (lines_in Ticket) found)) refl
 line_first before Places line found = refl
 line_first before Flights line found = refl
 line_first before Seats line found = refl
 line_first before End line found = refl
 
+header_first : (before : Case) (header : Header) (line : ℕ) (found : List Entry) → joined (after_header before header line) found ≡ joined before (Opens header line ∷ found)
+header_first before Filings line found = refl
+header_first before Later line found = refl
+header_first before Request line found = refl
+header_first before Script line found = refl
+header_first before Certificate line found = refl
+header_first before Ticket line found = refl
+header_first before Places line found = refl
+header_first before Flights line found = refl
+header_first before Seats line found = refl
+header_first before End line found = refl
+
 -- one entry more before the others
-added_first : (before : Case) (entry : Entry) (found : List Entry) → joined (added before entry) (case_with found) ≡ joined before (case_with (entry ∷ found))
-added_first before (Opens header) found = refl
-added_first before (Place row) found = rw (append_cons before.places row (case_with found).places) refl
-added_first before (Flight row) found = rw (append_cons before.flights row (case_with found).flights) refl
-added_first before (Seat row) found = rw (append_cons before.seats row (case_with found).seats) refl
+added_first : (before : Case) (entry : Entry) (found : List Entry) → joined (added before entry) found ≡ joined before (entry ∷ found)
+added_first before (Opens header line) found = header_first before header line found
+added_first before (Place row) found = rw (append_cons before.places row (flat_map places_in found)) refl
+added_first before (Flight row) found = rw (append_cons before.flights row (flat_map flights_in found)) refl
+added_first before (Seat row) found = rw (append_cons before.seats row (flat_map seats_in found)) refl
 added_first before (Text header line) found = line_first before header line found
 
--- a line of a section without rows adds no flight
-same_flights : (before : Case) (header : Header) (line : TextLine) → (line_added before header line).flights ≡ before.flights
-same_flights before Places line = refl
-same_flights before Flights line = refl
-same_flights before Seats line = refl
-same_flights before Filings line = refl
-same_flights before Later line = refl
-same_flights before Request line = refl
-same_flights before Script line = refl
-same_flights before Certificate line = refl
-same_flights before Ticket line = refl
-same_flights before End line = refl
+each_push : {A : Type 0} (P : A → Type 0) (xs : List A) (x : A) → Each P xs → P x → Each P (xs ++ x ∷ [])
+each_push P [] x h p = (p, tt)
+each_push P (y ∷ ys) x h p = (h.0, each_push P ys x h.1 p)
 
--- one entry more, and the days of all flights still lie in the calendar
-pub days_added : (before : Case) (entry : Entry) → All HasDays before.flights → KeepsDays entry → All HasDays (added before entry).flights
-days_added before (Opens header) days keeps = days
-days_added before (Place row) days keeps = days
-days_added before (Flight row) days keeps = All-push HasDays before.flights row days keeps
-days_added before (Seat row) days keeps = days
-days_added before (Text header line) days keeps = subst (All HasDays) (sym (same_flights before header line)) days
+-- a header and a line of a section without rows add no row
+headed_rows : (before : Case) (header : Header) (line : ℕ) → HasRows before → HasRows (after_header before header line)
+headed_rows before Places line h = h
+headed_rows before Flights line h = h
+headed_rows before Seats line h = h
+headed_rows before Filings line h = h
+headed_rows before Later line h = h
+headed_rows before Request line h = h
+headed_rows before Script line h = h
+headed_rows before Certificate line h = h
+headed_rows before Ticket line h = h
+headed_rows before End line h = record { places = h.places; flights = h.flights; seats = h.seats }
+
+lined_rows : (before : Case) (header : Header) (line : TextLine) → HasRows before → HasRows (line_added before header line)
+lined_rows before Places line h = h
+lined_rows before Flights line h = h
+lined_rows before Seats line h = h
+lined_rows before Filings line h = record { places = h.places; flights = h.flights; seats = h.seats }
+lined_rows before Later line h = record { places = h.places; flights = h.flights; seats = h.seats }
+lined_rows before Request line h = record { places = h.places; flights = h.flights; seats = h.seats }
+lined_rows before Script line h = record { places = h.places; flights = h.flights; seats = h.seats }
+lined_rows before Certificate line h = record { places = h.places; flights = h.flights; seats = h.seats }
+lined_rows before Ticket line h = record { places = h.places; flights = h.flights; seats = h.seats }
+lined_rows before End line h = h
+
+-- one entry more, and all rows are still within their limits
+pub rows_added : (before : Case) (entry : Entry) → HasRows before → KeepsLimits entry → HasRows (added before entry)
+rows_added before (Opens header line) h k = headed_rows before header line h
+rows_added before (Place row) h k = record { places = each_push IsPlaceRow before.places row h.places k; flights = h.flights; seats = h.seats }
+rows_added before (Flight row) h k = record { places = h.places; flights = each_push IsFlightRow before.flights row h.flights k; seats = h.seats }
+rows_added before (Seat row) h k = record { places = h.places; flights = h.flights; seats = each_push IsSeatRow before.seats row h.seats k }
+rows_added before (Text header line) h k = lined_rows before header line h
 
 -- a case before nothing
-joined_none : (before : Case) → joined before (case_with []) ≡ before
+joined_none : (before : Case) → joined before [] ≡ before
 joined_none before =
     rw (append-nil before.places, append-nil before.flights, append-nil before.seats, append-nil before.filings, append-nil before.later, append-nil before.requests, append-nil before.script, append-nil before.certificate, append-nil before.ticket) refl
 

@@ -5,4 +5,5 @@ pub mod WeekdayBits
 pub mod Columns
 pub mod Counting
 pub mod Growing
+pub mod SectionCounts
 pub mod Feed

@@ -1,11 +1,10 @@
--- What stands in a case: its entries by their sections.
-use Rattle.std.specs.Prelude.{List, [], ◌∷◌, ◌++◌, ⊤, if◌then◌else◌}
+-- What stands in a case: its entries by their sections, and the line of #end.
+use Rattle.std.specs.Prelude.{ℕ, List, [], ◌∷◌, ◌++◌, if◌then◌else◌}
 use Rattle.std.specs.List.{flat_map}
 use Rattle.fare_law.specs.declared.rows.FlightRow.{FlightRow}
 use Rattle.fare_law.specs.declared.rows.PlaceRow.{PlaceRow}
 use Rattle.fare_law.specs.declared.rows.SeatRow.{SeatRow}
 use Rattle.fare_law.specs.declared.rows.TextLine.{TextLine}
-use Rattle.market_time.specs.Dates.{IsInCentury}
 use Rattle.case_text.specs.declared.contents.Case.{Case}
 use Rattle.case_text.specs.declared.contents.Entry.{Entry}
 use Rattle.case_text.specs.declared.contents.Entry.TheVariants.{Opens, Place, Flight, Seat, Text}
@@ -31,6 +30,12 @@ abbrev pub lines_in : Header → Entry → List TextLine
 lines_in section (Text header line) = if is_named (name_of header) section then line ∷ [] else []
 lines_in section entry = []
 
+-- the line of the last of these entries that is #end, or else this one
+abbrev pub end_after : ℕ → List Entry → ℕ
+end_after line [] = line
+end_after line (Opens End at ∷ more) = end_after at more
+end_after line (entry ∷ more) = end_after line more
+
 -- the case that has these entries
 abbrev pub case_with : List Entry → Case
 case_with entries = record {
@@ -43,6 +48,7 @@ case_with entries = record {
   script = flat_map (lines_in Script) entries;
   certificate = flat_map (lines_in Certificate) entries;
   ticket = flat_map (lines_in Ticket) entries;
+  end = end_after 0 entries;
 }
 
 -- a case with nothing in it
@@ -62,19 +68,15 @@ line_added c Flights line = c
 line_added c Seats line = c
 line_added c End line = c
 
+-- a case after this header
+abbrev pub after_header : Case → Header → ℕ → Case
+after_header c End line = record c { end = line }
+after_header c header line = c
+
 -- a case with one entry more
 abbrev pub added : Case → Entry → Case
-added c (Opens header) = c
+added c (Opens header line) = after_header c header line
 added c (Place row) = record c { places = c.places ++ row ∷ [] }
 added c (Flight row) = record c { flights = c.flights ++ row ∷ [] }
 added c (Seat row) = record c { seats = c.seats ++ row ∷ [] }
 added c (Text header line) = line_added c header line
-
--- the first and the last day of the row lie in the calendar
-abbrev pub HasDays : FlightRow → Type 0
-HasDays row = IsInCentury row.first × IsInCentury row.last
-
--- the entry is no flight, or one whose days lie in the calendar
-abbrev pub KeepsDays : Entry → Type 0
-KeepsDays (Flight row) = HasDays row
-KeepsDays entry = ⊤

@@ -24,7 +24,7 @@ at_start = record { under = None; count = 0 }
 
 -- where the line after this entry stands
 abbrev pub moved : Standing → Entry → Standing
-moved standing (Opens header) = record { under = Some header; count = 0 }
+moved standing (Opens header line) = record { under = Some header; count = 0 }
 moved standing entry = record { under = standing.under; count = standing.count + 1 }
 
 -- the case has ended
@@ -74,7 +74,7 @@ wants_request kind standing = is_request standing.under && has_one_request kind 
 -- the header that the line is, if it is the one due
 abbrev pub opened : TextLine → Option Header → Result Entry CaseFault
 opened line None = Err (Order line.line)
-opened line (Some header) = if is_named line.bytes header then Ok (Opens header) else Err (Order line.line)
+opened line (Some header) = if is_named line.bytes header then Ok (Opens header line.line) else Err (Order line.line)
 
 abbrev pub header_judged : CaseKind → Standing → TextLine → Result Entry CaseFault
 header_judged kind standing line =

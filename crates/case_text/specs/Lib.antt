@@ -8,4 +8,5 @@ pub mod Readers
 pub mod Gives
 pub mod Headers
 pub mod Contents
+pub mod Limits
 pub mod Entries

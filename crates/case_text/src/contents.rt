@@ -1,6 +1,6 @@
 //! What stands in a case.
 ghost use Rattle.std.specs.Prelude.{◌≡◌, OnOk};
-ghost use Rattle.case_text.specs.Contents.{added, line_added, no_contents};
+ghost use Rattle.case_text.specs.Contents.{added, line_added, no_contents, after_header};
 
 use crate::headers::Header;
 use fare_law::{FlightRow, List, Mem, PlaceRow, SeatRow, TextLine};
@@ -19,12 +19,14 @@ pub struct Case {
     pub script: List<TextLine>,
     pub certificate: List<TextLine>,
     pub ticket: List<TextLine>,
+    /// The line of `#end`.
+    pub end: u32,
 }
 
-/// What a line is: a header, a row of a table, or a line of another section.
+/// What a line is: a header with its line, a row of a table, or a line of another section.
 #[derive(Drop)]
 pub enum Entry {
-    Opens(Header),
+    Opens(Header, u32),
     Place(PlaceRow),
     Flight(FlightRow),
     Seat(SeatRow),
@@ -46,19 +48,31 @@ impl Case {
             script: List::new(alloc),
             certificate: List::new(alloc),
             ticket: List::new(alloc),
+            end: 0,
         }
     }
 
-    /// Adds an entry at the end of its section. A header adds nothing.
+    /// Adds an entry at the end of its section. A header adds nothing but the line of `#end`.
     pub(crate) fn add(&mut self, entry: Entry) -> Result<(), Mem>
         ensures { OnOk result (self.new ≡ added self.old entry) }
     {
         match entry {
-            Entry::Opens(_) => Ok(()),
+            Entry::Opens(header, line) => {
+                self.open(header, line);
+                Ok(())
+            }
             Entry::Place(row) => self.places.push(row),
             Entry::Flight(row) => self.flights.push(row),
             Entry::Seat(row) => self.seats.push(row),
             Entry::Text(header, line) => self.add_line(header, line),
+        }
+    }
+
+    fn open(&mut self, header: Header, line: u32)
+        ensures { self.new ≡ after_header self.old header line }
+    {
+        if matches!(header, Header::End) {
+            self.end = line;
         }
     }
 

@@ -2,11 +2,11 @@
 ghost use Rattle.std.specs.Prelude.{◌≡◌, IfOk, IfSome};
 ghost use Rattle.csv.specs.Records.{fields_of};
 ghost use Rattle.case_text.specs.declared.contents.Entry.TheVariants.{Place, Flight, Seat};
-ghost use Rattle.case_text.specs.Contents.{KeepsDays};
 ghost use Rattle.case_text.specs.Readers.{HasFields};
 ghost use Rattle.case_text.specs.Rows as Rows;
 ghost use Rattle.case_text.specs.Entries as Entries;
 ghost use Rattle.case_text.specs.Gives.{Told, row_fault as row_fault_of};
+ghost use Rattle.case_text.specs.Limits.{KeepsLimits};
 ghost use Rattle.case_text.specs.Lines.{shown};
 
 use crate::contents::Entry;
@@ -28,7 +28,7 @@ pub fn judged(
 ) -> Result<Entry, CaseFault>
     requires { IfSome fields (λ row. HasFields (fields_of row.now) line.now.bytes.now) }
     ensures told { Told result (Entries.judged kind standing (shown line.now)) }
-    ensures days { IfOk result KeepsDays }
+    ensures limits { IfOk result KeepsLimits }
 {
     if standing.is_over() {
         Err(CaseFault::AfterEnd { line: line.line })
@@ -70,7 +70,7 @@ fn begins_header(line: &[u8]) -> bool
 
 fn header(kind: CaseKind, standing: Standing, line: &Line<'_>) -> Result<Entry, CaseFault>
     ensures told { result ≡ Entries.header_judged kind standing (shown line.now) }
-    ensures days { IfOk result KeepsDays }
+    ensures limits { IfOk result KeepsLimits }
 {
     if !is_name(line.bytes) {
         return Err(CaseFault::UnknownSection { line: line.line });
@@ -81,7 +81,7 @@ fn header(kind: CaseKind, standing: Standing, line: &Line<'_>) -> Result<Entry, 
     match due(kind, standing.under) {
         Some(header) => {
             if line.bytes == header.name() {
-                Ok(Entry::Opens(header))
+                Ok(Entry::Opens(header, line.line))
             } else {
                 Err(CaseFault::Order { line: line.line })
             }
@@ -144,7 +144,7 @@ fn entry_of(
 ) -> Result<Entry, CaseFault>
     requires { IfSome fields (λ row. HasFields (fields_of row.now) line.now.bytes.now) }
     ensures told { Told result (Entries.entry_of header (shown line.now)) }
-    ensures days { IfOk result KeepsDays }
+    ensures limits { IfOk result KeepsLimits }
 {
     match header {
         Header::Places => place(alloc, line, fields),
@@ -157,7 +157,7 @@ fn entry_of(
 fn place(alloc: Global, line: &Line<'_>, fields: Option<&ByteRecord>) -> Result<Entry, CaseFault>
     requires { IfSome fields (λ row. HasFields (fields_of row.now) line.now.bytes.now) }
     ensures told { Told result (Entries.row_judged Place (shown line.now) (Rows.place_row (shown line.now))) }
-    ensures days { IfOk result KeepsDays }
+    ensures limits { IfOk result KeepsLimits }
 {
     let row = match fields {
         Some(row) => place_fields(row, line),
@@ -172,7 +172,7 @@ fn place(alloc: Global, line: &Line<'_>, fields: Option<&ByteRecord>) -> Result<
 fn flight(alloc: Global, line: &Line<'_>, fields: Option<&ByteRecord>) -> Result<Entry, CaseFault>
     requires { IfSome fields (λ row. HasFields (fields_of row.now) line.now.bytes.now) }
     ensures told { Told result (Entries.row_judged Flight (shown line.now) (Rows.flight_row (shown line.now))) }
-    ensures days { IfOk result KeepsDays }
+    ensures limits { IfOk result KeepsLimits }
 {
     let row = match fields {
         Some(row) => flight_fields(row, line),
@@ -187,7 +187,7 @@ fn flight(alloc: Global, line: &Line<'_>, fields: Option<&ByteRecord>) -> Result
 fn seat(alloc: Global, line: &Line<'_>, fields: Option<&ByteRecord>) -> Result<Entry, CaseFault>
     requires { IfSome fields (λ row. HasFields (fields_of row.now) line.now.bytes.now) }
     ensures told { Told result (Entries.row_judged Seat (shown line.now) (Rows.seat_row (shown line.now))) }
-    ensures days { IfOk result KeepsDays }
+    ensures limits { IfOk result KeepsLimits }
 {
     let row = match fields {
         Some(row) => seat_fields(row, line),

@@ -1,11 +1,13 @@
 //! Numbers of a text.
-ghost use Rattle.std.specs.Prelude.{◌≡◌, ◌≤◌, length};
+ghost use Rattle.std.specs.Prelude.{◌≡◌, ◌≤◌, length, IfSome};
+ghost use Rattle.std.specs.Int.{IsInRange};
 ghost use Rattle.case_text.specs.Numbers.{leads_well as leading, read_on, number_spelled, number_within as within_of};
 
 /// The number from `low` to `high` that the text spells in decimal digits, without sign or leading zero.
 #[tactic(auto, using(crate::proofs::Digits::none_long))]
 pub fn number_within(text: &[u8], low: u16, high: u16) -> Option<u16>
-    ensures { result ≡ within_of low high text.now }
+    ensures number { result ≡ within_of low high text.now }
+    ensures range { IfSome result (IsInRange low high) }
 {
     // Six digits without a leading zero are above every u16.
     if text.len() > 5 {

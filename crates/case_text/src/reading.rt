@@ -1,9 +1,9 @@
 //! Reading a case.
-ghost use Rattle.std.specs.Prelude.{◌≡◌, ◌+◌, ◌<◌, ◌≤◌, ◌^◌, length, map, All, IfOk};
+ghost use Rattle.std.specs.Prelude.{◌≡◌, ◌+◌, ◌<◌, ◌≤◌, ◌^◌, length, map, IfOk};
 ghost use Rattle.std.specs.Str.Lines.{lines as lines_of};
-ghost use Rattle.case_text.specs.Contents.{HasDays};
 ghost use Rattle.case_text.specs.Entries as Entries;
 ghost use Rattle.case_text.specs.Gives.{Told};
+ghost use Rattle.case_text.specs.Limits.{HasRows, IsCase};
 ghost use Rattle.case_text.specs.Lines.{shown};
 ghost use Rattle.case_text.specs.Parts.{ends_at};
 ghost use Rattle.case_text.specs.Readers.{Awaits, row_text as row_text_of};
@@ -16,12 +16,13 @@ use csv::{ByteRecord, Reader, ReaderBuilder};
 use std::alloc::Global;
 use std::io::Read;
 
-/// The case that the bytes spell, or the first fault in the order of the lines. The days of its
-/// flight rows lie from 10957 to 47481.
+/// The case that the bytes spell, or the first fault in the order of the lines. Its rows and the
+/// counts of its sections are within their limits, and it has one request where its kind has one.
+#[tactic(auto, using(crate::proofs::SectionCounts::limits_told))]
 pub fn sections(alloc: Global, bytes: &[u8], kind: CaseKind) -> Result<Case, CaseFault>
     requires { length bytes.now + 1 < 2 ^ 32 }
     ensures told { Told result (Entries.case_of kind bytes.now) }
-    ensures days { IfOk result (λ case. All HasDays case.flights) }
+    ensures limits { IfOk result (IsCase kind) }
 {
     let lines = case_lines(alloc, bytes)?;
     let next = (line_count(bytes) + 1) as u32;
@@ -59,7 +60,7 @@ fn read_lines(
     next: u32,
 ) -> Result<Case, CaseFault>
     ensures told { Told result (Entries.case_read kind next (map shown lines.now)) }
-    ensures days { IfOk result (λ case. All HasDays case.flights) }
+    ensures rows { IfOk result HasRows }
 {
     let text = row_text(alloc, lines)?;
     let mut reader = ReaderBuilder::new()
@@ -80,7 +81,7 @@ fn read_with<R: Read>(
 ) -> Result<Case, CaseFault>
     requires { Awaits R.remaining reader.old (row_text_of (map shown lines.now)) }
     ensures told { Told result (Entries.case_read kind next (map shown lines.now)) }
-    ensures days { IfOk result (λ case. All HasDays case.flights) }
+    ensures rows { IfOk result HasRows }
 {
     let mut standing = Standing::at_start();
     let mut case = Case::new(alloc);

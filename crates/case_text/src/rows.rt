@@ -1,7 +1,7 @@
 //! The rows of the tables of places, flights and seats.
 ghost use Rattle.std.specs.Prelude.{◌≡◌, ◌<◌, ◌≤◌, ℕ, List, length, Ok, OnOk, IfOk, IfErr};
 ghost use Rattle.csv.specs.Records.{fields_of};
-ghost use Rattle.market_time.specs.Dates.{IsInCentury};
+ghost use Rattle.fare_law.specs.Limits.{IsFlightRow, IsPlaceRow, IsSeatRow};
 ghost use Rattle.case_text.specs.Rows as Rows;
 ghost use Rattle.case_text.specs.Gives.{Gives, Refuses};
 ghost use Rattle.case_text.specs.Lines.{shown};
@@ -19,7 +19,8 @@ use std::alloc::Global;
 
 /// The row of a place: its code and its least connect time in minutes, 0 to 1440.
 pub fn place_row(alloc: Global, line: &Line<'_>) -> Result<PlaceRow, RowFault>
-    ensures { Gives result (Rows.place_row (shown line.now)) }
+    ensures row { Gives result (Rows.place_row (shown line.now)) }
+    ensures limits { IfOk result IsPlaceRow }
 {
     let row = own_fields(alloc, line.bytes)?;
     place_fields(&row, line)
@@ -28,7 +29,8 @@ pub fn place_row(alloc: Global, line: &Line<'_>) -> Result<PlaceRow, RowFault>
 /// The same of a line whose fields are these.
 pub(crate) fn place_fields(row: &ByteRecord, line: &Line<'_>) -> Result<PlaceRow, RowFault>
     requires { HasFields (fields_of row.now) line.now.bytes.now }
-    ensures { Gives result (Rows.place_row (shown line.now)) }
+    ensures row { Gives result (Rows.place_row (shown line.now)) }
+    ensures limits { IfOk result IsPlaceRow }
 {
     columns(row, 2)?;
     let place = in_column(1, place_of(field(row, 1)))?;
@@ -40,10 +42,10 @@ pub(crate) fn place_fields(row: &ByteRecord, line: &Line<'_>) -> Result<PlaceRow
     })
 }
 
-/// The row of a flight, in twelve columns.
+/// The row of a flight, in twelve columns, each within its limits.
 pub fn flight_row(alloc: Global, line: &Line<'_>) -> Result<FlightRow, RowFault>
     ensures row { Gives result (Rows.flight_row (shown line.now)) }
-    ensures days { IfOk result (λ row. IsInCentury row.first × IsInCentury row.last) }
+    ensures limits { IfOk result IsFlightRow }
 {
     let row = own_fields(alloc, line.bytes)?;
     flight_fields(&row, line)
@@ -53,7 +55,7 @@ pub fn flight_row(alloc: Global, line: &Line<'_>) -> Result<FlightRow, RowFault>
 pub(crate) fn flight_fields(row: &ByteRecord, line: &Line<'_>) -> Result<FlightRow, RowFault>
     requires { HasFields (fields_of row.now) line.now.bytes.now }
     ensures row { Gives result (Rows.flight_row (shown line.now)) }
-    ensures days { IfOk result (λ row. IsInCentury row.first × IsInCentury row.last) }
+    ensures limits { IfOk result IsFlightRow }
 {
     columns(row, 12)?;
     let carrier = in_column(1, carrier_of(field(row, 1)))?;
@@ -87,7 +89,8 @@ pub(crate) fn flight_fields(row: &ByteRecord, line: &Line<'_>) -> Result<FlightR
 
 /// The row of a flight's seats, on one day or on all days.
 pub fn seat_row(alloc: Global, line: &Line<'_>) -> Result<SeatRow, RowFault>
-    ensures { Gives result (Rows.seat_row (shown line.now)) }
+    ensures row { Gives result (Rows.seat_row (shown line.now)) }
+    ensures limits { IfOk result IsSeatRow }
 {
     let row = own_fields(alloc, line.bytes)?;
     seat_fields(&row, line)
@@ -96,7 +99,8 @@ pub fn seat_row(alloc: Global, line: &Line<'_>) -> Result<SeatRow, RowFault>
 /// The same of a line whose fields are these.
 pub(crate) fn seat_fields(row: &ByteRecord, line: &Line<'_>) -> Result<SeatRow, RowFault>
     requires { HasFields (fields_of row.now) line.now.bytes.now }
-    ensures { Gives result (Rows.seat_row (shown line.now)) }
+    ensures row { Gives result (Rows.seat_row (shown line.now)) }
+    ensures limits { IfOk result IsSeatRow }
 {
     columns(row, 5)?;
     let carrier = in_column(1, carrier_of(field(row, 1)))?;

@@ -29,7 +29,7 @@ impl Standing {
         ensures { result ≡ Entries.moved self entry.now }
     {
         match entry {
-            Entry::Opens(header) => Standing {
+            Entry::Opens(header, _) => Standing {
                 under: Some(*header),
                 count: 0,
             },

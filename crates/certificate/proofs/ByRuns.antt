@@ -12,7 +12,7 @@ use Rattle.fare_law.specs.declared.requests.Request.{Request}
 use Rattle.fare_law.specs.declared.tickets.Ticket.{Ticket}
 use Rattle.fare_law.specs.Book.{Book}
 use Rattle.fare_law.specs.Lists.{IsIn, Matched}
-use Rattle.fare_law.specs.Order.{Best, Costs}
+use Rattle.fare_law.specs.Best.{Best, Costs}
 use Rattle.fare_law.specs.Flights.{Ascending}
 use Rattle.residual_keys.specs.Residuals.{RunFromRoot}
 use Rattle.residual_keys.specs.Searches.{BestRuns, Drawn, DrawnBefore, IsDrawn, TicketOf}

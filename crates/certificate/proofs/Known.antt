@@ -4,9 +4,10 @@ use Rattle.fare_law.specs.declared.moves.Move.{Move}
 use Rattle.fare_law.specs.declared.requests.Request.{Request}
 use Rattle.fare_law.specs.declared.tickets.Ticket.{Ticket}
 use Rattle.fare_law.specs.Book.{Book}
-use Rattle.fare_law.specs.Lists.{Each, IsPrefix, Matched}
-use Rattle.fare_law.specs.Moves.{moves_of, run_code}
-use Rattle.fare_law.specs.Order.{Before, Best, Cheaper, HasKeys, Less, code}
+use Rattle.fare_law.specs.Lists.{Each, IsPrefix, Matched, Less}
+use Rattle.fare_law.specs.Codes.{run_code}
+use Rattle.fare_law.specs.Best.{Before, Best, Cheaper}
+use Rattle.fare_law.specs.Limits.{HasKeys}
 use Rattle.fare_law.specs.Flights.{Ascending}
 use Rattle.residual_keys.specs.NothingLost.{OneTicket, RunsAreTickets, TicketsAreRuns}
 use Rattle.residual_keys.specs.OneNext.{MoveLeavesOne, RunGoesOn, RunHasKeys}
@@ -19,7 +20,6 @@ use Rattle.ticket_order.specs.Coding.{Coded}
 pub record Known : Type 0 where
   pub runs : (b : Book) (q : Request) → Ascending b.timetable.flights → RunsAreTickets b q
   pub tickets : (b : Book) (q : Request) → TicketsAreRuns b q
-  pub codes : (t : Ticket) → code t ≡ run_code (moves_of t)
   pub one_ticket : (b : Book) (q : Request) → OneTicket b q
   pub one_next : (b : Book) (q : Request) → MoveLeavesOne b q
   pub goes_on : (b : Book) (q : Request) → RunGoesOn b q

@@ -13,9 +13,11 @@ use Rattle.certificate.proofs.Tickets.{below}
 use Rattle.fare_law.specs.declared.moves.Move.{Move}
 use Rattle.fare_law.specs.declared.requests.Request.{Request}
 use Rattle.fare_law.specs.Book.{Book}
-use Rattle.fare_law.specs.Lists.{Each, EachPair, IsIn}
-use Rattle.fare_law.specs.Moves.{moves_of, run_code}
-use Rattle.fare_law.specs.Order.{Before, Cheaper, HasKeys, Less}
+use Rattle.fare_law.specs.Lists.{Each, EachPair, IsIn, Less}
+use Rattle.fare_law.specs.Moves.{moves_of}
+use Rattle.fare_law.specs.Codes.{run_code}
+use Rattle.fare_law.specs.Best.{Before, Cheaper}
+use Rattle.fare_law.specs.Limits.{HasKeys}
 use Rattle.fare_law.specs.Parts.{price_of}
 use Rattle.fare_law.specs.Flights.{Ascending}
 use Rattle.residual_keys.specs.Residuals.{State, Run, RunFromRoot, no_part}

@@ -17,8 +17,8 @@ use Rattle.fare_law.specs.declared.moves.Move.{Move}
 use Rattle.fare_law.specs.declared.requests.Request.{Request}
 use Rattle.fare_law.specs.Book.{Book}
 use Rattle.fare_law.specs.Lists.{Each, IsIn, OnLast}
-use Rattle.fare_law.specs.Moves.{run_code}
-use Rattle.fare_law.specs.Order.{Before}
+use Rattle.fare_law.specs.Codes.{run_code}
+use Rattle.fare_law.specs.Best.{Before}
 
 -- lists that are read from the front
 

@@ -1,5 +1,5 @@
 -- The answers' tickets: their prices and codes are the answers', and so is their order.
-use Rattle.std.proofs.Common.{◌≡◌, ℕ, sym, ap, ◌∙◌, subst, inl}
+use Rattle.std.proofs.Common.{◌≡◌, ℕ, sym, ap, subst, inl}
 use Rattle.certificate.specs.declared.parts.CertAnswer.{CertAnswer}
 use Rattle.certificate.specs.AnswerCheck.{AnswerIs, AnswerBelow}
 use Rattle.certificate.proofs.Known.{Known}
@@ -7,8 +7,8 @@ use Rattle.certificate.proofs.OneFirst.{neither_less}
 use Rattle.fare_law.specs.declared.requests.Request.{Request}
 use Rattle.fare_law.specs.declared.tickets.Ticket.{Ticket}
 use Rattle.fare_law.specs.Book.{Book}
-use Rattle.fare_law.specs.Moves.{run_code}
-use Rattle.fare_law.specs.Order.{Before, Cheaper, Costs, code}
+use Rattle.fare_law.specs.Codes.{run_code, code}
+use Rattle.fare_law.specs.Best.{Before, Cheaper, Costs}
 
 module _ (known : Known) (b : Book) (q : Request) where
   -- a ticket costs one price
@@ -16,7 +16,7 @@ module _ (known : Known) (b : Book) (q : Request) where
   costs_one t m n h k = neither_less m n (λ l. known.never b q t (m, n, h, k, inl l)) (λ l. known.never b q t (n, m, k, h, inl l))
 
   pub answer_code : (a : CertAnswer) (t : Ticket) → AnswerIs b q a t → code t ≡ run_code a.moves
-  answer_code a t h = known.codes t ∙ ap run_code h.1
+  answer_code a t h = ap run_code h.1
 
   pub cheaper : (a c : CertAnswer) (t u : Ticket) → AnswerIs b q a t → AnswerIs b q c u → AnswerBelow a c → Cheaper b q t u
   cheaper a c t u h k w =

@@ -20,8 +20,9 @@ use Rattle.fare_law.specs.declared.tickets.Ticket.{Ticket}
 use Rattle.fare_law.specs.Book.{Book}
 use Rattle.fare_law.specs.Lawful.{Lawful}
 use Rattle.fare_law.specs.Lists.{Each, EachPair, IsIn, Matched, OnLast}
-use Rattle.fare_law.specs.Moves.{moves_of, run_code}
-use Rattle.fare_law.specs.Order.{Before, Best, Cheaper, code}
+use Rattle.fare_law.specs.Moves.{moves_of}
+use Rattle.fare_law.specs.Codes.{run_code, code}
+use Rattle.fare_law.specs.Best.{Before, Best, Cheaper}
 use Rattle.fare_law.specs.Parts.{price_of}
 use Rattle.flight_paths.specs.declared.positions.Position.{Position}
 use Rattle.flight_paths.specs.Positions.{before_slice}
@@ -160,7 +161,7 @@ module _ (known : Known) (b : Book) (q : Request) (rows : List CertRow) (answers
         let first = c.root in
         let d = departs (moves_of t) root root [] 0 run.0 t first.0 (run.1.0, run.1.1, refl) (inl refl) (refl, refl) run.1.2 first.1
         (root_same b q first.0.residual root first.2 (run.1.0, run.1.1, refl)) law refl out in
-        let w = subst (λ z. OnLast (λ a. Before a.price (run_code a.moves) run.0 z) answers) (sym (known.codes t)) (subst (λ z. OnLast (λ a. Before a.price (run_code a.moves) z (run_code (moves_of t))) answers) (zero_plus run.0) d.1) in (
+        let w = subst (λ z. OnLast (λ a. Before a.price (run_code a.moves) z (code t)) answers) (zero_plus run.0) d.1 in (
           matched_both (AnswerIs b q) (λ a. Before a.price (run_code a.moves) run.0 (code t)) (λ u. Cheaper b q u t)
               (λ a u h l. (a.price, run.0, h.2, run.2, subst (λ z. Before a.price z run.0 (code t)) (sym (answer_code known b q a u h)) l))
               answers tickets c.right (after_each run.0 (code t) answers c.ascending w),

@@ -10,7 +10,8 @@ use Rattle.fare_law.specs.declared.requests.Slice.{Slice}
 use Rattle.fare_law.specs.declared.tickets.Ticket.{Ticket}
 use Rattle.fare_law.specs.Book.{Book}
 use Rattle.fare_law.specs.Lists.{Each, Matched}
-use Rattle.fare_law.specs.Order.{Best, HasKeys}
+use Rattle.fare_law.specs.Best.{Best}
+use Rattle.fare_law.specs.Limits.{HasKeys}
 use Rattle.fare_law.specs.Flights.{Ascending}
 use Rattle.residual_keys.specs.ResidualOrder.{StateBefore}
 use Rattle.residual_keys.specs.Searches.{AreNeeded, BestRuns, Least}

@@ -10,8 +10,8 @@ use Rattle.fare_law.specs.declared.requests.Request.{Request}
 use Rattle.fare_law.specs.declared.tickets.Piece.{Piece}
 use Rattle.fare_law.specs.Book.{Book}
 use Rattle.fare_law.specs.Lists.{Each, IsIn, OnLast}
-use Rattle.fare_law.specs.Moves.{run_code}
-use Rattle.fare_law.specs.Order.{Before}
+use Rattle.fare_law.specs.Codes.{run_code}
+use Rattle.fare_law.specs.Best.{Before}
 use Rattle.fare_law.specs.Parts.{price_of}
 use Rattle.flight_paths.specs.declared.positions.Position.{Position}
 use Rattle.open_unit.specs.declared.units.OpenUnit.{OpenUnit}

@@ -3,6 +3,12 @@ pub mod WordLemmas
 pub mod LineWords
 pub mod MoveLemmas
 pub mod LineLemmas
+pub mod TakingLemmas
 pub mod FaultLemmas
 pub mod RequestLemmas
 pub mod ListLemmas
+pub mod LineFeeds
+pub mod JsonFeeds
+pub mod SameLines
+pub mod OneReading
+pub mod CertLines

@@ -1,35 +1,21 @@
 -- The lines of a certificate's text are read as what they spell, and what is read is spelled so.
-use Rattle.std.proofs.Common.{bytes_eq, ◌≡◌, ◌≢◌, ◌≤◌, ◌<◌, ◌^◌, ◌⊎◌, ◌↔◌, ◌==◌, ◌&&◌, ◌||◌, nat_le, inl, inr, ℕ, zero, suc, Bool, true, false, cond, List, [], ◌∷◌, ◌++◌, length, map, flat_map, Option, Some, None, option_map, option_and_then, if◌then◌else◌, refl, ap, ap₂, sym, ◌∙◌, subst, arith, eq-eqb, append_assoc, append-nil}
-use Rattle.std.specs.Char.{is_ascii_digit, is_ascii_uppercase}
+use Rattle.std.proofs.Common.{◌≡◌, ◌↔◌, ℕ, List, ◌∷◌, ◌++◌, flat_map, Option, Some, None, refl, ap, ap₂, sym, ◌∙◌, subst, arith}
 use Rattle.std.specs.Fmt.{decimal}
-use Rattle.std.specs.Int.{IsInRange}
-use Rattle.std.specs.List.{list_all}
-use Rattle.std.specs.Prelude.{IfSome, codes}
-use Rattle.std.proofs.lemmas.Bool.Decides.{nat_tests}
-use Rattle.std.proofs.lemmas.Option.{cond_some, same_Some}
-use Rattle.std.proofs.lemmas.Slice.Eq.{bytes_eq-Decides}
+use Rattle.std.specs.Prelude.{codes}
+use Rattle.std.proofs.lemmas.Option.{same_Some}
 use Rattle.certificate.specs.declared.parts.CertAnswer.{CertAnswer}
 use Rattle.certificate.specs.declared.parts.CertRow.{CertRow}
-use Rattle.certificate_text.specs.LineReading.{after_label, word_at, number_spelled, bound_in, role_numbered, role_in, flights_in, count_in, move_in, moves_in, answer_in}
-use Rattle.certificate_text.specs.Lines.{spaced, number_line, move_words, answer_line, bound_word, row_line, IsMove, IsAnswer, IsRow, SpellsNumber, SpellsAnswer, SpellsRow}
+use Rattle.certificate_text.specs.LineReading.{after_label, word_at, bound_in, moves_in, answer_in}
+use Rattle.certificate_text.specs.Lines.{spaced, move_words, answer_line, bound_word, IsAnswer, SpellsAnswer, SpellsRow}
 use Rattle.certificate_text.proofs.LineWords.{Numbers, digits_free, from_step, bound_again, bound_read, bound_free}
 use Rattle.certificate_text.proofs.MoveLemmas.{moves_again, moves_read, spaced_ends}
-use Rattle.certificate_text.proofs.WordLemmas.{Ends, label_again, label_read, word_again, word_read}
-use Rattle.fare_law.specs.declared.moves.Move.{Move}
-use Rattle.fare_law.specs.declared.moves.Role.{Role}
-use Rattle.fare_law.specs.declared.moves.Role.TheVariants.{Alone, Opens, GoesOn, Closes}
-use Rattle.fare_law.specs.declared.names.Basis.{Basis}
-use Rattle.fare_law.specs.declared.names.Carrier.{Carrier}
-use Rattle.fare_law.specs.Lists.{Each}
-use Rattle.fare_law.specs.Moves.{role_code}
-use Rattle.fare_law.specs.Order.{IsBasis, IsCarrier, IsCharacter}
-use Rattle.name_text.specs.Names.{basis_of, carrier_of, is_character}
+use Rattle.certificate_text.proofs.WordLemmas.{label_again, label_read, word_again, word_read}
 use Rattle.residual_keys.specs.ResidualText.{Spells, residual_text}
 use Rattle.residual_keys.specs.Residuals.{State}
-use Rattle.word_text.specs.Laws.{CutTells, LastCutTells, NumberTells, DigitsAre}
-use Rattle.word_text.specs.Words.{IsFreeOf, cut_last_at, number_in}
+use Rattle.word_text.specs.Laws.{LastCutTells}
+use Rattle.word_text.specs.Words.{cut_last_at, number_in}
 
-answer_again : Numbers → (a : CertAnswer) → IsAnswer a → answer_in (answer_line a) ≡ Some a
+pub answer_again : Numbers → (a : CertAnswer) → IsAnswer a → answer_in (answer_line a) ≡ Some a
 unfolding answer_in
 answer_again k a h =
     let rest = flat_map move_words a.moves in

@@ -1,31 +1,26 @@
 -- The words of a certificate's lines are read as what they spell, and what is read is spelled so.
-use Rattle.std.proofs.Common.{bytes_eq, ◌≡◌, ◌≢◌, ◌≤◌, ◌<◌, ◌^◌, ◌⊎◌, ◌↔◌, ◌==◌, ◌&&◌, ◌||◌, nat_le, inl, inr, ℕ, zero, suc, Bool, true, false, cond, List, [], ◌∷◌, ◌++◌, length, map, flat_map, Option, Some, None, option_map, option_and_then, if◌then◌else◌, refl, ap, ap₂, sym, ◌∙◌, subst, arith, eq-eqb, append_assoc, append-nil}
+use Rattle.std.proofs.Common.{bytes_eq, ◌≡◌, ◌≢◌, ◌≤◌, ◌<◌, ◌^◌, ◌⊎◌, ◌↔◌, ◌==◌, ◌&&◌, ◌||◌, nat_le, inl, inr, ℕ, zero, suc, Bool, true, false, List, [], ◌∷◌, ◌++◌, length, Option, Some, None, option_map, option_and_then, if◌then◌else◌, refl, ap, sym, ◌∙◌, subst, arith, eq-eqb}
 use Rattle.std.specs.Char.{is_ascii_digit, is_ascii_uppercase}
 use Rattle.std.specs.Fmt.{decimal}
 use Rattle.std.specs.Int.{IsInRange}
 use Rattle.std.specs.List.{list_all}
-use Rattle.std.specs.Prelude.{IfSome, codes}
+use Rattle.std.specs.Prelude.{IfSome}
 use Rattle.std.proofs.lemmas.Bool.Decides.{nat_tests}
 use Rattle.std.proofs.lemmas.Option.{cond_some, same_Some}
 use Rattle.std.proofs.lemmas.Slice.Eq.{bytes_eq-Decides}
-use Rattle.certificate.specs.declared.parts.CertAnswer.{CertAnswer}
-use Rattle.certificate.specs.declared.parts.CertRow.{CertRow}
-use Rattle.certificate_text.specs.LineReading.{after_label, word_at, number_spelled, bound_in, role_numbered, role_in, flights_in, count_in, move_in, moves_in, answer_in}
-use Rattle.certificate_text.specs.Lines.{spaced, number_line, move_words, answer_line, bound_word, row_line, IsMove, IsAnswer, IsRow, SpellsNumber, SpellsAnswer, SpellsRow}
-use Rattle.certificate_text.proofs.WordLemmas.{Ends, label_again, label_read, word_again, word_read}
-use Rattle.fare_law.specs.declared.moves.Move.{Move}
+use Rattle.certificate_text.specs.LineReading.{after_label, number_spelled, bound_in, role_numbered, role_in}
+use Rattle.certificate_text.specs.Lines.{number_line, bound_word, SpellsNumber}
+use Rattle.certificate_text.proofs.WordLemmas.{label_again, label_read}
 use Rattle.fare_law.specs.declared.moves.Role.{Role}
 use Rattle.fare_law.specs.declared.moves.Role.TheVariants.{Alone, Opens, GoesOn, Closes}
 use Rattle.fare_law.specs.declared.names.Basis.{Basis}
 use Rattle.fare_law.specs.declared.names.Carrier.{Carrier}
 use Rattle.fare_law.specs.Lists.{Each}
-use Rattle.fare_law.specs.Moves.{role_code}
-use Rattle.fare_law.specs.Order.{IsBasis, IsCarrier, IsCharacter}
+use Rattle.fare_law.specs.Codes.{role_code}
+use Rattle.fare_law.specs.Names.{IsBasis, IsCarrier, IsCharacter}
 use Rattle.name_text.specs.Names.{basis_of, carrier_of, is_character}
-use Rattle.residual_keys.specs.ResidualText.{Spells, residual_text}
-use Rattle.residual_keys.specs.Residuals.{State}
-use Rattle.word_text.specs.Laws.{CutTells, LastCutTells, NumberTells, DigitsAre}
-use Rattle.word_text.specs.Words.{IsFreeOf, cut_last_at, number_in}
+use Rattle.word_text.specs.Laws.{NumberTells, DigitsAre}
+use Rattle.word_text.specs.Words.{IsFreeOf, number_in}
 
 -- what is known of numbers
 pub record Numbers : Type 0 where
@@ -34,19 +29,19 @@ pub record Numbers : Type 0 where
 
 -- ---- names
 
-pub free_each : (P : ℕ → Type 0) → ((b : ℕ) → P b → b ≢ 32) → (bs : List ℕ) → Each P bs → IsFreeOf 32 bs
-free_each P other [] h = tt
-free_each P other (b ∷ bs) h = (other b h.0, free_each P other bs h.1)
+pub free_each : (P : ℕ → Type 0) (c : ℕ) → ((b : ℕ) → P b → b ≢ c) → (bs : List ℕ) → Each P bs → IsFreeOf c bs
+free_each P c other [] h = tt
+free_each P c other (b ∷ bs) h = (other b h.0, free_each P c other bs h.1)
 
 pub digits_free : Numbers → (n : ℕ) → n < 2 ^ 64 → IsFreeOf 32 (decimal n)
-digits_free k n small = free_each (IsInRange 48 57) (λ b h e. omega (arith, h, e)) (decimal n) (k.digits n small)
+digits_free k n small = free_each (IsInRange 48 57) 32 (λ b h e. omega (arith, h, e)) (decimal n) (k.digits n small)
 
 pub no_space : (b : ℕ) → IsCharacter b → b ≢ 32
 no_space b (inl h) e = omega (arith, h, e)
 no_space b (inr h) e = omega (arith, h, e)
 
 pub names_free : (cs : List ℕ) → Each IsCharacter cs → IsFreeOf 32 cs
-names_free cs h = free_each IsCharacter no_space cs h
+names_free cs h = free_each IsCharacter 32 no_space cs h
 
 pub character_again : (c : ℕ) → IsCharacter c → is_character c ≡ true
 character_again c (inl h) = grind (arith, nat_tests)

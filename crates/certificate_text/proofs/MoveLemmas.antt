@@ -1,32 +1,19 @@
 -- Moves are read as their words spell them, and what is read is spelled so.
-use Rattle.std.proofs.Common.{bytes_eq, ◌≡◌, ◌≢◌, ◌≤◌, ◌<◌, ◌^◌, ◌⊎◌, ◌↔◌, ◌==◌, ◌&&◌, ◌||◌, nat_le, inl, inr, ℕ, zero, suc, Bool, true, false, cond, List, [], ◌∷◌, ◌++◌, length, map, flat_map, Option, Some, None, option_map, option_and_then, if◌then◌else◌, refl, ap, ap₂, sym, ◌∙◌, subst, arith, eq-eqb, ne_eqb, append_assoc, append-nil}
-use Rattle.std.specs.Char.{is_ascii_digit, is_ascii_uppercase}
+use Rattle.std.proofs.Common.{◌≡◌, ◌≤◌, ◌<◌, ◌^◌, ◌==◌, inl, inr, ℕ, zero, suc, List, [], ◌∷◌, ◌++◌, length, map, flat_map, Option, Some, None, option_map, option_and_then, if◌then◌else◌, refl, ap, ap₂, sym, ◌∙◌, subst, arith, ne_eqb, append_assoc, append-nil}
 use Rattle.std.specs.Fmt.{decimal}
-use Rattle.std.specs.Int.{IsInRange}
-use Rattle.std.specs.List.{list_all}
-use Rattle.std.specs.Prelude.{IfSome, codes}
-use Rattle.std.proofs.lemmas.Bool.Decides.{nat_tests}
-use Rattle.std.proofs.lemmas.Option.{same_Some, some_pair_parts}
-use Rattle.std.proofs.lemmas.Slice.Eq.{bytes_eq-Decides}
-use Rattle.certificate.specs.declared.parts.CertAnswer.{CertAnswer}
-use Rattle.certificate.specs.declared.parts.CertRow.{CertRow}
-use Rattle.certificate_text.specs.LineReading.{after_label, word_at, number_spelled, bound_in, role_numbered, role_in, flights_in, count_in, move_in, moves_in, answer_in}
-use Rattle.certificate_text.specs.Lines.{spaced, number_line, move_words, answer_line, bound_word, row_line, IsMove, IsAnswer, IsRow, SpellsNumber, SpellsAnswer, SpellsRow}
+use Rattle.std.proofs.lemmas.Option.{same_Some}
+use Rattle.certificate_text.specs.LineReading.{word_at, role_in, flights_in, count_in, move_in, moves_in}
+use Rattle.certificate_text.specs.Lines.{spaced, move_words, IsMove}
 use Rattle.certificate_text.proofs.LineWords.{Numbers, digits_free, names_free, carrier_again, basis_again, carrier_read, basis_read, from_step, role_again, role_small, role_read}
-use Rattle.certificate_text.proofs.WordLemmas.{Ends, label_again, label_read, word_again, word_read}
+use Rattle.certificate_text.proofs.WordLemmas.{Ends, word_again, word_read}
 use Rattle.fare_law.specs.declared.moves.Move.{Move}
 use Rattle.fare_law.specs.declared.moves.Role.{Role}
-use Rattle.fare_law.specs.declared.moves.Role.TheVariants.{Alone, Opens, GoesOn, Closes}
 use Rattle.fare_law.specs.declared.names.Basis.{Basis}
 use Rattle.fare_law.specs.declared.names.Carrier.{Carrier}
 use Rattle.fare_law.specs.Lists.{Each}
-use Rattle.fare_law.specs.Moves.{role_code}
-use Rattle.fare_law.specs.Order.{IsBasis, IsCarrier, IsCharacter}
-use Rattle.name_text.specs.Names.{basis_of, carrier_of, is_character}
-use Rattle.residual_keys.specs.ResidualText.{Spells, residual_text}
-use Rattle.residual_keys.specs.Residuals.{State}
-use Rattle.word_text.specs.Laws.{CutTells, LastCutTells, NumberTells, DigitsAre}
-use Rattle.word_text.specs.Words.{IsFreeOf, cut_last_at, number_in}
+use Rattle.fare_law.specs.Codes.{role_code}
+use Rattle.name_text.specs.Names.{basis_of, carrier_of}
+use Rattle.word_text.specs.Words.{number_in}
 
 -- what follows the words of moves begins with a space, or is nothing
 pub spaced_ends : (ws : List (List ℕ)) → Ends (spaced ws)

@@ -1,5 +1,5 @@
 -- Pieces that are added one after another.
-use Rattle.std.proofs.Common.{◌≡◌, ◌≤◌, ◌<◌, ◌+◌, ℕ, List, [], ◌∷◌, ◌++◌, length, map, take, get_or, flat_map, append_assoc, append-nil, refl, ap, sym, ◌∙◌, arith}
+use Rattle.std.proofs.Common.{◌≡◌, ℕ, List, [], ◌∷◌, ◌++◌, flat_map, append_assoc, refl, ap, sym, ◌∙◌}
 use Rattle.std.specs.Prelude.{codes}
 use Rattle.certificate.specs.declared.parts.Certificate.{Certificate}
 use Rattle.certificate_text.specs.CertText.{answer_lines, cert_lines, head_lines, row_lines, text_of}

@@ -1,10 +1,9 @@
 -- The text of a request is one, and read as it.
-use Rattle.std.proofs.Common.{◌≡◌, ◌≢◌, ◌↔◌, ℕ, ℤ, List, [], ◌∷◌, ◌++◌, Option, Some, None, Result, Ok, Err, refl, ap, ap₂, sym, ◌∙◌, subst}
+use Rattle.std.proofs.Common.{◌≡◌, ◌↔◌, ℕ, ℤ, List, [], ◌∷◌, Option, Some, None, Result, Ok, refl, ap, ap₂, sym, ◌∙◌, subst}
 use Rattle.std.specs.Prelude.{codes}
 use Rattle.std.proofs.lemmas.Option.{same_Some}
 use Rattle.serde_json.specs.Data.{Data, Items, no_items, item, array}
 use Rattle.serde_json.specs.Written.{compact_text}
-use Rattle.certificate_text.specs.CertText.{IsRequestText, request_line}
 use Rattle.certificate_text.specs.Faults.{SpellsRequest}
 use Rattle.certificate_text.specs.LineReading.{after_label}
 use Rattle.certificate_text.proofs.WordLemmas.{label_again, label_read}
@@ -14,7 +13,7 @@ use Rattle.fare_law.specs.Limits.{IsRequest}
 use Rattle.market_time.specs.Dates.{day_spelled}
 use Rattle.request_text.specs.declared.fault.RequestFault.{RequestFault}
 use Rattle.request_text.specs.Reading.{request_of}
-use Rattle.request_text.specs.Text.{request_members, slice_members, WritesSlice, WritesSlices, WritesRequest, Writes}
+use Rattle.request_text.specs.Text.{request_members, slice_members, WritesSlices, WritesRequest, Writes}
 
 abbrev pub OneDate : Type 0
 OneDate = (one other : List ℕ) (day : ℤ) → day_spelled one ≡ Some day → day_spelled other ≡ Some day → one ≡ other
@@ -36,7 +35,7 @@ one_written k q d e h g =
 one_text : OneDate → (q : Request) (t u : List ℕ) → Writes q t → Writes q u → t ≡ u
 one_text k q t u h g = h.compact ∙ ap compact_text (one_written k q h.json g.json h.request g.request) ∙ sym g.compact
 
-same_ok : {A E : Type 0} (x y : A) → ◌≡◌ {A = Result A E} (Ok x) (Ok y) → x ≡ y
+pub same_ok : {A E : Type 0} (x y : A) → ◌≡◌ {A = Result A E} (Ok x) (Ok y) → x ≡ y
 same_ok x y e = cc
 
 spelled_text : (line : List ℕ) (q : Request) (s : SpellsRequest line q) → after_label (codes "request ") line ≡ Some s.text

@@ -1,10 +1,8 @@
 -- Labels and words at the front of a text.
-use Rattle.std.proofs.Common.{ap₂, length-append, inl, inr, ◌≡◌, ◌≢◌, ◌≤◌, ◌<◌, ◌+◌, ◌-◌, ◌⊎◌, ◌==◌, ℕ, zero, suc, Bool, true, false, cond, List, [], ◌∷◌, ◌++◌, length, take, drop, get_or, Option, Some, None, MatchOption, option_map, option_and_then, if◌then◌else◌, refl, ap, sym, ◌∙◌, subst, arith, eq-eqb, ne_eqb, append_assoc, append-nil, add-one, drop-cons, length-drop, Bor}
-use Rattle.std.proofs.lemmas.Bool.{true≢false}
-use Rattle.std.proofs.lemmas.Bool.Decides.{nat_tests, Decides-eqb}
-use Rattle.std.proofs.lemmas.List.{take_all, drop_all, take-append-drop}
+use Rattle.std.proofs.Common.{ap₂, length-append, inl, inr, ◌≡◌, ◌≢◌, ◌≤◌, ◌<◌, ◌+◌, ◌-◌, ◌⊎◌, ◌==◌, ℕ, zero, suc, Bool, true, false, List, [], ◌∷◌, ◌++◌, length, take, drop, get_or, Option, Some, None, option_map, option_and_then, if◌then◌else◌, refl, ap, sym, ◌∙◌, subst, arith, eq-eqb, ne_eqb, append_assoc, append-nil, add-one, drop-cons, length-drop}
+use Rattle.std.proofs.lemmas.Bool.Decides.{nat_tests}
+use Rattle.std.proofs.lemmas.List.{take_all, take-append-drop}
 use Rattle.std.proofs.lemmas.Option.{same_Some}
-use Rattle.std.proofs.lemmas.Slice.Eq.{strip_prefix_is}
 use Rattle.fare_law.specs.declared.moves.Move.{Move}
 use Rattle.certificate_text.specs.LineReading.{after_label, before_space, word_at, flights_in, move_in, moves_in}
 use Rattle.word_text.specs.Words.{IsFreeOf, number_in}
@@ -110,8 +108,6 @@ spaced_none text more i l e h =
 -- nothing follows the whole text
 pub past_end : (text : List ℕ) → take (length text - length text) (drop (length text) text) ≡ []
 past_end text = let none : length text - length text ≡ 0 = omega arith in ap (λ n. take n (drop (length text) text)) none
-
-pub ruleset label_rules = (label_none, label_of)
 
 pub ruleset space_rules = (free_more, spaced_at, spaced_none)
 

@@ -5,6 +5,7 @@ use Rattle.certificate.specs.declared.parts.CertRow.{CertRow}
 use Rattle.certificate.specs.declared.parts.Certificate.{Certificate}
 use Rattle.certificate_text.specs.Lines.{IsAnswer, IsRow, answer_line, number_line, row_line}
 use Rattle.fare_law.specs.declared.requests.Request.{Request}
+use Rattle.fare_law.specs.declared.rows.TextLine.{TextLine}
 use Rattle.fare_law.specs.Limits.{IsRequest}
 use Rattle.fare_law.specs.Lists.{Each}
 use Rattle.request_text.specs.Reading.{request_of}
@@ -42,6 +43,12 @@ pub record CertText (c : Certificate) (text : List ℕ) : Type 0 where
   pub request : List ℕ
   pub is : IsRequestText c.request request
   pub written : text ≡ text_of (cert_lines c request)
+
+-- The lines are those of the certificate.
+pub record CertLines (c : Certificate) (lines : List TextLine) : Type 0 where
+  pub request : List ℕ
+  pub is : IsRequestText c.request request
+  pub written : map (λ (l : TextLine). l.bytes) lines ≡ cert_lines c request
 
 -- a certificate that has a text of its own
 pub record IsCertificate (c : Certificate) : Type 0 where

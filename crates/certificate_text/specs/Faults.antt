@@ -1,15 +1,14 @@
--- What is due after each line of a certificate's text, and the first line at fault.
-use Rattle.std.specs.Prelude.{◌≡◌, ◌≢◌, ◌⊎◌, ◌+◌, ℕ, zero, suc, List, [], ◌∷◌, ◌++◌, length, ⊤, codes}
+-- What is due after each line of a certificate, and the first line at fault.
+use Rattle.std.specs.Prelude.{◌≡◌, ◌≢◌, ◌⊎◌, ℕ, zero, suc, List, [], ◌∷◌, ⊤, codes}
 use Rattle.certificate.specs.declared.parts.CertAnswer.{CertAnswer}
 use Rattle.certificate.specs.declared.parts.CertRow.{CertRow}
-use Rattle.certificate_text.specs.CertText.{IsRequestText, request_line, text_of}
+use Rattle.certificate_text.specs.CertText.{IsRequestText, request_line}
 use Rattle.certificate_text.specs.declared.faults.CertFault.{CertFault}
 use Rattle.certificate_text.specs.declared.faults.CertFault.TheVariants.{Syntax, Count, Mem}
 use Rattle.certificate_text.specs.Lines.{SpellsAnswer, SpellsNumber, SpellsRow}
+use Rattle.certificate_text.specs.Unread.{Unread, Begins, IsOver, TakesAll, place}
 use Rattle.fare_law.specs.declared.requests.Request.{Request}
 use Rattle.fare_law.specs.Limits.{IsRequest}
-use Rattle.fare_law.specs.Lists.{Each}
-use Rattle.word_text.specs.Words.{IsFreeOf}
 
 -- what a line has to be; of answers and of rows, how many more come after it
 pub data Due : Type 0 where
@@ -55,25 +54,23 @@ abbrev pub Leads : Due → List (List ℕ) → Due → Type 0
 Leads due [] then = due ≡ then
 Leads due (line ∷ lines) then = (next : Due) × IsOf due line next × Leads next lines then
 
--- A text begins with these lines, of the forms that are due from the line of this number on, and what is left then.
-pub record Passed (due : Due) (text : List ℕ) (line : ℕ) (lines : List (List ℕ)) (then : Due) (left : List ℕ) (number : ℕ) : Type 0 where
-  pub free : Each (IsFreeOf 10) lines
+-- What is read begins with these lines, of the forms that are due one after another, and what is due and what is left then.
+pub record Passed (due : Due) (from : Unread) (lines : List (List ℕ)) (then : Due) (left : Unread) : Type 0 where
   pub leads : Leads due lines then
-  pub whole : text ≡ text_of lines ++ left
-  pub counted : number ≡ line + length lines
+  pub taken : TakesAll from lines left
 
--- A text begins with the line of this request, and what is left then.
-pub record PassedRequest (text : List ℕ) (line : ℕ) (q : Request) (left : List ℕ) (number : ℕ) : Type 0 where
+-- What is read begins with the line of this request, and what is left then.
+pub record PassedRequest (from : Unread) (q : Request) (left : Unread) : Type 0 where
   pub written : List ℕ
   pub is : IsRequest q
   pub request : IsRequestText q written
-  pub passed : Passed Asked text line (request_line written ∷ []) AnswerCount left number
+  pub passed : Passed Asked from (request_line written ∷ []) AnswerCount left
 
--- the first line of a text, which a line feed ends
-pub record FirstLine (text line : List ℕ) : Type 0 where
-  pub free : IsFreeOf 10 line
-  pub more : List ℕ
-  pub whole : text ≡ line ++ 10 ∷ more
+-- What is read begins with the last line, and nothing is left then.
+pub record PassedEnd (from : Unread) : Type 0 where
+  pub left : Unread
+  pub passed : Passed End from (codes "end" ∷ []) Nothing left
+  pub over : IsOver left
 
 -- an answer or a row is due
 abbrev pub IsListed : Due → Type 0
@@ -89,25 +86,26 @@ Miscounts (Row more) line = line ≡ codes "end"
 Miscounts End line = (r : CertRow) × SpellsRow line r
 Miscounts due line = ⊥
 
--- a count is wrong at the first line of this text, or where there is none
-abbrev pub CountWrong : Due → List ℕ → Type 0
-CountWrong due text = (IsListed due × (text ≡ [])) ⊎ ((line : List ℕ) × FirstLine text line × Miscounts due line)
+-- a count is wrong at the first line that is left, or where there is none
+abbrev pub CountWrong : Due → Unread → Type 0
+CountWrong due left = (IsListed due × IsOver left) ⊎ ((line : List ℕ) × Begins left line × Miscounts due line)
 
--- the first line of this text is of another form, ends without a line feed, is missing, or stands after the end
-pub record SyntaxWrong (due : Due) (text : List ℕ) : Type 0 where
-  pub other : (line : List ℕ) → FirstLine text line → ((next : Due) → IsOf due line next → ⊥) × (Miscounts due line → ⊥)
-  pub missing : text ≡ [] → (IsListed due → ⊥) × (due ≢ Nothing)
+-- the first line that is left is of another form, ends without a line feed, is missing, or stands after the end
+pub record SyntaxWrong (due : Due) (left : Unread) : Type 0 where
+  pub other : (line : List ℕ) → Begins left line → ((next : Due) → IsOf due line next → ⊥) × (Miscounts due line → ⊥)
+  pub missing : IsOver left → (IsListed due → ⊥) × (due ≢ Nothing)
 
 -- the first line that is wrong so has this number
-pub record FirstWrong (Wrong : Due → List ℕ → Type 0) (due : Due) (text : List ℕ) (line : ℕ) (number : ℕ) : Type 0 where
+pub record FirstWrong (Wrong : Due → Unread → Type 0) (due : Due) (from : Unread) (number : ℕ) : Type 0 where
   pub lines : List (List ℕ)
   pub then : Due
-  pub left : List ℕ
-  pub passed : Passed due text line lines then left number
+  pub left : Unread
+  pub passed : Passed due from lines then left
   pub wrong : Wrong then left
+  pub at : number ≡ place left
 
--- The fault is that of the first line at fault, from the line of this number on; want of memory is free.
-abbrev pub FaultFrom : Due → List ℕ → ℕ → CertFault → Type 0
-FaultFrom due text line (Syntax number) = FirstWrong SyntaxWrong due text line number
-FaultFrom due text line (Count number) = FirstWrong CountWrong due text line number
-FaultFrom due text line Mem = ⊤
+-- The fault is that of the first line at fault; want of memory is free.
+abbrev pub FaultFrom : Due → Unread → CertFault → Type 0
+FaultFrom due from (Syntax number) = FirstWrong SyntaxWrong due from number
+FaultFrom due from (Count number) = FirstWrong CountWrong due from number
+FaultFrom due from Mem = ⊤

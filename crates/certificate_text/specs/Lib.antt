@@ -1,4 +1,6 @@
 pub mod Lines
 pub mod CertText
 pub mod LineReading
+pub mod Unread
 pub mod Faults
+pub mod Readings

@@ -4,8 +4,8 @@ use Rattle.certificate.specs.declared.parts.CertAnswer.{CertAnswer}
 use Rattle.certificate.specs.declared.parts.CertRow.{CertRow}
 use Rattle.fare_law.specs.declared.moves.Move.{Move}
 use Rattle.fare_law.specs.Lists.{Each}
-use Rattle.fare_law.specs.Moves.{role_code}
-use Rattle.fare_law.specs.Order.{IsBasis, IsCarrier}
+use Rattle.fare_law.specs.Codes.{role_code}
+use Rattle.fare_law.specs.Names.{IsBasis, IsCarrier}
 use Rattle.residual_keys.specs.ResidualText.{IsWritten, residual_text}
 
 -- words, each after a space

@@ -3,7 +3,7 @@ ghost use Rattle.std.specs.Prelude.{◌≡◌, ◌++◌, ◌∷◌, [], map, fla
 ghost use Rattle.certificate_text.specs.CertText.{text_of};
 ghost use Rattle.certificate_text.specs.Lines as Lines;
 ghost use Rattle.certificate_text.specs.Lines.{answer_line, move_words, number_line, row_line, spaced};
-ghost use Rattle.fare_law.specs.Moves.{role_code};
+ghost use Rattle.fare_law.specs.Codes.{role_code};
 
 use certificate::{CertAnswer, CertRow};
 use fare_law::{Mem, Move, Role};

@@ -1,12 +1,13 @@
 //! The answers and the rows of a certificate's text.
-ghost use Rattle.std.specs.Prelude.{◌+◌, ◌<◌, ◌^◌, length, IfOk, IfErr};
+ghost use Rattle.std.specs.Prelude.{◌<◌, ◌^◌, length, IfOk, IfErr};
 ghost use Rattle.fare_law.specs.Lists.{Each};
 ghost use Rattle.certificate_text.specs.CertText.{answer_lines, row_lines};
 ghost use Rattle.certificate_text.specs.Faults.{Due, FaultFrom, Passed};
 ghost use Rattle.certificate_text.specs.Lines.{IsAnswer, IsRow};
+ghost use Rattle.certificate_text.specs.Unread.{HasRoom, unread};
 
 use crate::CertFault;
-use crate::reading::Lines;
+use crate::unread::Lines;
 use certificate::{CertAnswer, CertRow};
 use fare_law::List;
 use std::alloc::Global;
@@ -16,11 +17,11 @@ pub fn answers<'a>(
     alloc: Global,
     start: Lines<'a>,
 ) -> Result<(List<CertAnswer>, Lines<'a>), CertFault>
-    requires { start.line + length start.rest.now < 2 ^ 32 }
-    ensures ok { IfOk result (λ x. Passed Due.AnswerCount start.entry.rest.now start.entry.line
-        (answer_lines x.0) Due.RowCount x.1.rest.now x.1.line) }
+    requires { HasRoom (unread start) }
+    ensures ok { IfOk result (λ x. Passed Due.AnswerCount (unread start.entry)
+        (answer_lines x.0) Due.RowCount (unread x.1)) }
     ensures fits { IfOk result (λ x. Each IsAnswer x.0 × (length x.0 < 2 ^ 32)) }
-    ensures fault { IfErr result (FaultFrom Due.AnswerCount start.entry.rest.now start.entry.line) }
+    ensures fault { IfErr result (FaultFrom Due.AnswerCount (unread start.entry)) }
 {
     let (count, first) = start.answer_count()?;
     let mut answers = List::new(alloc);
@@ -39,11 +40,11 @@ pub fn answers<'a>(
 
 /// The rows and how many there are, and what is left after their lines.
 pub fn rows<'a>(alloc: Global, start: Lines<'a>) -> Result<(List<CertRow>, Lines<'a>), CertFault>
-    requires { start.line + length start.rest.now < 2 ^ 32 }
-    ensures ok { IfOk result (λ x. Passed Due.RowCount start.entry.rest.now start.entry.line
-        (row_lines x.0) Due.End x.1.rest.now x.1.line) }
+    requires { HasRoom (unread start) }
+    ensures ok { IfOk result (λ x. Passed Due.RowCount (unread start.entry)
+        (row_lines x.0) Due.End (unread x.1)) }
     ensures fits { IfOk result (λ x. Each IsRow x.0 × (length x.0 < 2 ^ 32)) }
-    ensures fault { IfErr result (FaultFrom Due.RowCount start.entry.rest.now start.entry.line) }
+    ensures fault { IfErr result (FaultFrom Due.RowCount (unread start.entry)) }
 {
     let (count, first) = start.row_count()?;
     let mut rows = List::new(alloc);

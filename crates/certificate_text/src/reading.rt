@@ -1,66 +1,84 @@
-//! Reading a certificate's text line by line.
-ghost use Rattle.std.specs.Prelude.{◌≡◌, ◌+◌, ◌-◌, ◌<◌, ◌^◌, ℕ, [], ◌∷◌, length, map, MatchOption, None, Some, IfOk, IfErr, codes};
-ghost use Rattle.fare_law.specs.Lists.{Each};
-ghost use Rattle.certificate_text.specs.Faults.{Due, FaultFrom, Passed, PassedRequest, answers_due, rows_due};
+//! Reading a certificate line by line.
+ghost use Rattle.std.specs.Prelude.{◌≡◌, ◌↔◌, ◌∷◌, ◌<◌, ◌^◌, ℕ, [], List, MatchOption, IfOk, IfErr, IsTrue, codes};
+ghost use Rattle.certificate_text.specs.Faults.{Due, FaultFrom, Passed, PassedEnd, PassedRequest, answers_due, rows_due};
 ghost use Rattle.certificate_text.specs.Lines.{IsAnswer, IsRow};
-ghost use Rattle.certificate_text.specs.Lines as Text;
-ghost use Rattle.word_text.specs.Words.{cut_at};
+ghost use Rattle.certificate_text.specs.Lines as Spelled;
+ghost use Rattle.certificate_text.specs.Unread.{HasRoom, IsOver, Takes, Unread, place as place_of, unread};
 
 use crate::CertFault;
 use crate::request::request_line;
 use crate::spelled::{answer_line, number_line, row_line};
+use crate::unread::Lines;
 use certificate::{CertAnswer, CertRow};
 use fare_law::Request;
 use std::alloc::Global;
 use word_text::{cut, cuts_tell};
 
-/// What is left of a text, from the line of this number on.
-#[derive(Clone, Copy)]
-pub struct Lines<'a> {
-    pub rest: &'a [u8],
-    pub line: u32,
-}
-
 impl<'a> Lines<'a> {
     /// The first line, and what is left after it.
     pub fn next(self) -> Option<(&'a [u8], Lines<'a>)>
-        requires { self.line + length self.rest.now < 2 ^ 32 }
-        ensures { MatchOption result (cut_at 10 self.entry.rest.now ≡ None)
-            (λ x. (cut_at 10 self.entry.rest.now ≡ Some (x.0.now, x.1.rest.now))
-            × (x.1.line ≡ self.entry.line + 1)) }
+        requires { HasRoom (unread self) }
+        ensures { MatchOption result ((line : List ℕ) (left : Unread) → Takes (unread self.entry) line left → ⊥)
+            (λ x. Takes (unread self.entry) x.0.now (unread x.1)) }
     {
         cuts_tell();
-        let (line, rest) = cut(self.rest, b'\n')?;
-        let line_after = self.line + 1;
-        Some((
-            line,
-            Lines {
-                rest,
-                line: line_after,
+        match self {
+            Lines::Text { text, number } => {
+                let (line, text) = cut(text, b'\n')?;
+                let number = number + 1;
+                Some((line, Lines::Text { text, number }))
+            }
+            Lines::Numbered { lines, end } => {
+                let [first, lines @ ..] = lines else {
+                    return None;
+                };
+                Some((first.bytes.as_slice(), Lines::Numbered { lines, end }))
+            }
+        }
+    }
+
+    /// Whether nothing is left.
+    pub fn is_over(self) -> bool
+        ensures { IsTrue result ↔ IsOver (unread self.entry) }
+    {
+        match self {
+            Lines::Text { text, .. } => text.is_empty(),
+            Lines::Numbered { lines, .. } => lines.is_empty(),
+        }
+    }
+
+    /// The number of the first line, or of the line that is missing.
+    pub fn place(self) -> u32
+        ensures { result ≡ place_of (unread self.entry) }
+    {
+        match self {
+            Lines::Text { number, .. } => number,
+            Lines::Numbered { lines, end } => match lines {
+                [first, ..] => first.line,
+                [] => end,
             },
-        ))
+        }
     }
 
     pub fn syntax(self) -> CertFault
-        ensures { result ≡ CertFault.Syntax self.entry.line }
+        ensures { result ≡ CertFault.Syntax (place_of (unread self.entry)) }
     {
-        CertFault::Syntax { line: self.line }
+        CertFault::Syntax { line: self.place() }
     }
 
     pub fn count(self) -> CertFault
-        ensures { result ≡ CertFault.Count self.entry.line }
+        ensures { result ≡ CertFault.Count (place_of (unread self.entry)) }
     {
-        CertFault::Count { line: self.line }
+        CertFault::Count { line: self.place() }
     }
 
     /// After the line `certificate 1`.
     pub fn head(self) -> Result<Lines<'a>, CertFault>
-        requires { self.line + length self.rest.now < 2 ^ 32 }
-        ensures ok { IfOk result (λ next. Passed Due.Head self.entry.rest.now self.entry.line
-            (codes "certificate 1" ∷ []) Due.Version next.rest.now next.line) }
-        ensures fault { IfErr result (FaultFrom Due.Head self.entry.rest.now self.entry.line) }
+        requires { HasRoom (unread self) }
+        ensures ok { IfOk result (λ next. Passed Due.Head (unread self.entry)
+            (codes "certificate 1" ∷ []) Due.Version (unread next)) }
+        ensures fault { IfErr result (FaultFrom Due.Head (unread self.entry)) }
     {
-        cuts_tell();
         let Some((line, next)) = self.next() else {
             return Err(self.syntax());
         };
@@ -72,13 +90,12 @@ impl<'a> Lines<'a> {
 
     /// The number of the version, and what is left after its line.
     pub fn version(self) -> Result<(u32, Lines<'a>), CertFault>
-        requires { self.line + length self.rest.now < 2 ^ 32 }
-        ensures ok { IfOk result (λ x. Passed Due.Version self.entry.rest.now self.entry.line
-            (Text.number_line (codes "version") x.0 ∷ []) (Due.Asked) x.1.rest.now x.1.line) }
+        requires { HasRoom (unread self) }
+        ensures ok { IfOk result (λ x. Passed Due.Version (unread self.entry)
+            (Spelled.number_line (codes "version") x.0 ∷ []) (Due.Asked) (unread x.1)) }
         ensures fits { IfOk result (λ x. x.0 < 2 ^ 32) }
-        ensures fault { IfErr result (FaultFrom Due.Version self.entry.rest.now self.entry.line) }
+        ensures fault { IfErr result (FaultFrom Due.Version (unread self.entry)) }
     {
-        cuts_tell();
         let Some((line, next)) = self.next() else {
             return Err(self.syntax());
         };
@@ -90,12 +107,11 @@ impl<'a> Lines<'a> {
 
     /// The request, and what is left after its line.
     pub fn request(self, alloc: Global) -> Result<(Request, Lines<'a>), CertFault>
-        requires { self.line + length self.rest.now < 2 ^ 32 }
-        ensures ok { IfOk result (λ x. PassedRequest self.entry.rest.now self.entry.line x.0
-            x.1.rest.now x.1.line) }
-        ensures fault { IfErr result (FaultFrom Due.Asked self.entry.rest.now self.entry.line) }
+        requires { HasRoom (unread self) }
+        ensures ok { IfOk result (λ x. PassedRequest (unread self.entry) x.0
+            (unread x.1)) }
+        ensures fault { IfErr result (FaultFrom Due.Asked (unread self.entry)) }
     {
-        cuts_tell();
         let Some((line, next)) = self.next() else {
             return Err(self.syntax());
         };
@@ -107,13 +123,12 @@ impl<'a> Lines<'a> {
 
     /// How many answers there are, and what is left after its line.
     pub fn answer_count(self) -> Result<(u32, Lines<'a>), CertFault>
-        requires { self.line + length self.rest.now < 2 ^ 32 }
-        ensures ok { IfOk result (λ x. Passed Due.AnswerCount self.entry.rest.now self.entry.line
-            (Text.number_line (codes "answers") x.0 ∷ []) (answers_due x.0) x.1.rest.now x.1.line) }
+        requires { HasRoom (unread self) }
+        ensures ok { IfOk result (λ x. Passed Due.AnswerCount (unread self.entry)
+            (Spelled.number_line (codes "answers") x.0 ∷ []) (answers_due x.0) (unread x.1)) }
         ensures fits { IfOk result (λ x. x.0 < 2 ^ 32) }
-        ensures fault { IfErr result (FaultFrom Due.AnswerCount self.entry.rest.now self.entry.line) }
+        ensures fault { IfErr result (FaultFrom Due.AnswerCount (unread self.entry)) }
     {
-        cuts_tell();
         let Some((line, next)) = self.next() else {
             return Err(self.syntax());
         };
@@ -125,16 +140,15 @@ impl<'a> Lines<'a> {
 
     /// An answer, and what is left after its line.
     pub fn answer(self) -> Result<(CertAnswer, Lines<'a>), CertFault>
-        requires { self.line + length self.rest.now < 2 ^ 32 }
-        ensures ok { IfOk result (λ x. (more : ℕ) → Passed (Due.Answer more) self.entry.rest.now self.entry.line
-            (Text.answer_line x.0 ∷ []) (answers_due more) x.1.rest.now x.1.line) }
+        requires { HasRoom (unread self) }
+        ensures ok { IfOk result (λ x. (more : ℕ) → Passed (Due.Answer more) (unread self.entry)
+            (Spelled.answer_line x.0 ∷ []) (answers_due more) (unread x.1)) }
         ensures fits { IfOk result (λ x. IsAnswer x.0) }
         ensures fault { IfErr result (λ f. (more : ℕ)
-            → FaultFrom (Due.Answer more) self.entry.rest.now self.entry.line f) }
+            → FaultFrom (Due.Answer more) (unread self.entry) f) }
     {
-        cuts_tell();
         let Some((line, next)) = self.next() else {
-            if self.rest.is_empty() {
+            if self.is_over() {
                 return Err(self.count());
             }
             return Err(self.syntax());
@@ -150,13 +164,12 @@ impl<'a> Lines<'a> {
 
     /// How many rows there are, and what is left after its line.
     pub fn row_count(self) -> Result<(u32, Lines<'a>), CertFault>
-        requires { self.line + length self.rest.now < 2 ^ 32 }
-        ensures ok { IfOk result (λ x. Passed Due.RowCount self.entry.rest.now self.entry.line
-            (Text.number_line (codes "rows") x.0 ∷ []) (rows_due x.0) x.1.rest.now x.1.line) }
+        requires { HasRoom (unread self) }
+        ensures ok { IfOk result (λ x. Passed Due.RowCount (unread self.entry)
+            (Spelled.number_line (codes "rows") x.0 ∷ []) (rows_due x.0) (unread x.1)) }
         ensures fits { IfOk result (λ x. x.0 < 2 ^ 32) }
-        ensures fault { IfErr result (FaultFrom Due.RowCount self.entry.rest.now self.entry.line) }
+        ensures fault { IfErr result (FaultFrom Due.RowCount (unread self.entry)) }
     {
-        cuts_tell();
         let Some((line, next)) = self.next() else {
             return Err(self.syntax());
         };
@@ -171,16 +184,15 @@ impl<'a> Lines<'a> {
 
     /// A row, and what is left after its line.
     pub fn row(self) -> Result<(CertRow, Lines<'a>), CertFault>
-        requires { self.line + length self.rest.now < 2 ^ 32 }
-        ensures ok { IfOk result (λ x. (more : ℕ) → Passed (Due.Row more) self.entry.rest.now self.entry.line
-            (Text.row_line x.0 ∷ []) (rows_due more) x.1.rest.now x.1.line) }
+        requires { HasRoom (unread self) }
+        ensures ok { IfOk result (λ x. (more : ℕ) → Passed (Due.Row more) (unread self.entry)
+            (Spelled.row_line x.0 ∷ []) (rows_due more) (unread x.1)) }
         ensures fits { IfOk result (λ x. IsRow x.0) }
         ensures fault { IfErr result (λ f. (more : ℕ)
-            → FaultFrom (Due.Row more) self.entry.rest.now self.entry.line f) }
+            → FaultFrom (Due.Row more) (unread self.entry) f) }
     {
-        cuts_tell();
         let Some((line, next)) = self.next() else {
-            if self.rest.is_empty() {
+            if self.is_over() {
                 return Err(self.count());
             }
             return Err(self.syntax());
@@ -196,12 +208,10 @@ impl<'a> Lines<'a> {
 
     /// After the line `end`, which nothing follows.
     pub fn end(self) -> Result<(), CertFault>
-        requires { self.line + length self.rest.now < 2 ^ 32 }
-        ensures ok { IfOk result (λ x. Passed Due.End self.entry.rest.now self.entry.line
-            (codes "end" ∷ []) Due.Nothing [] (self.entry.line + 1)) }
-        ensures fault { IfErr result (FaultFrom Due.End self.entry.rest.now self.entry.line) }
+        requires { HasRoom (unread self) }
+        ensures ok { IfOk result (λ x. PassedEnd (unread self.entry)) }
+        ensures fault { IfErr result (FaultFrom Due.End (unread self.entry)) }
     {
-        cuts_tell();
         let Some((line, next)) = self.next() else {
             return Err(self.syntax());
         };
@@ -211,7 +221,7 @@ impl<'a> Lines<'a> {
             }
             return Err(self.syntax());
         }
-        if !next.rest.is_empty() {
+        if !next.is_over() {
             return Err(next.syntax());
         }
         Ok(())

@@ -1,5 +1,5 @@
 -- The cause of a filing that is refused.
-use Rattle.std.proofs.Common.{◌≡◌, ◌<◌, ℕ, suc, List, [], ◌∷◌, length, map, refl, ap}
+use Rattle.std.proofs.Common.{◌≡◌, ◌<◌, suc, List, [], ◌∷◌, length, map, refl, ap}
 use Rattle.fare_law.specs.declared.filings.Filing.{Filing}
 use Rattle.fare_law.specs.Book.{Book}
 use Rattle.fare_book.specs.Taking.{HasCause, StopsAt}

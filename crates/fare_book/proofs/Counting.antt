@@ -1,7 +1,6 @@
 -- Counts of keys, as one key comes or goes.
 use Rattle.std.proofs.Common.{◌≡◌, ◌≢◌, ◌⊎◌, ◌≤◌, ◌+◌, ℕ, List, [], ◌∷◌, length, refl, sym, subst, ◌∙◌, inl, inr, arith}
-use Rattle.fare_law.specs.Faults.{HasMany}
-use Rattle.fare_law.specs.Lists.{AllDifferent, Each, IsIn}
+use Rattle.fare_law.specs.Lists.{HasMany, AllDifferent, Each, IsIn}
 use Rattle.fare_book.specs.Counts.{AtMost, Exactly}
 
 module _ {K : Type 0} where

@@ -1,5 +1,5 @@
 -- Fares by their keys, as ordered maps compare them.
-use Rattle.std.proofs.Common.{◌≡◌, ◌&&◌, ℕ, Bool, true, false, cond, List, Option, Decides, refl, sym, ap, ap₂, subst, ◌∙◌}
+use Rattle.std.proofs.Common.{◌≡◌, ◌&&◌, ℕ, Bool, true, cond, List, Option, Decides, refl, sym, ap, subst, ◌∙◌}
 use Rattle.std.specs.BTreeMap.{is_at}
 use Rattle.std.specs.Cmp.Lexicographic.{slice_cmp}
 use Rattle.std.specs.Map.{lookup}
@@ -10,11 +10,8 @@ use Rattle.std.proofs.lemmas.Bool.Decides.{Decides-like, Decides-and, same_from_
 use Rattle.std.proofs.lemmas.Cmp.{nat_list_cmp_total, tied_itself}
 use Rattle.fare_law.specs.contracts.fares.FareKeyOrd.TheImpl as fare_order
 use Rattle.fare_law.specs.declared.fares.FareKey.{FareKey}
-use Rattle.fare_law.specs.declared.names.Basis.{Basis}
-use Rattle.fare_law.specs.declared.names.Carrier.{Carrier}
-use Rattle.fare_law.specs.declared.names.Place.{Place}
 use Rattle.fare_law.specs.Book.{same_key}
-use Rattle.fare_law.specs.Order.{Less}
+use Rattle.fare_law.specs.Lists.{Less}
 use Rattle.fare_book.proofs.RowOrder.{words_told}
 use Rattle.fare_book.proofs.SameKeys.{same_fares_tell}
 

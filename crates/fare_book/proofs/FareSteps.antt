@@ -1,26 +1,24 @@
 -- The live fares, as one comes or goes: what names each rule, and the markets.
-use Rattle.std.proofs.Common.{◌≡◌, ◌≢◌, ◌⊎◌, ◌≤◌, ◌+◌, ◌-◌, ℕ, Bool, true, false, cond, List, [], ◌∷◌, Option, Some, None, Decides, IsSome, is_some, option_map, refl, sym, ap, subst, ◌∙◌, inl, inr, arith}
+use Rattle.std.proofs.Common.{◌≡◌, ◌⊎◌, ◌≤◌, ◌+◌, ◌-◌, ℕ, Bool, true, false, cond, List, [], ◌∷◌, Option, Some, None, refl, sym, ap, subst, ◌∙◌, inl, inr, arith}
 use Rattle.std.specs.BTreeMap.{BTreeMap}
 use Rattle.std.specs.Map.{lookup}
 use Rattle.std.specs.Option.{MatchOption}
 use Rattle.std.specs.declared.sync.Arc.{Arc}
-use Rattle.std.proofs.lemmas.Bool.{both_ways, cases_Bool, false_from_ne_true}
+use Rattle.std.proofs.lemmas.Bool.{both_ways, cases_Bool}
 use Rattle.fare_law.specs.declared.fares.Fare.{Fare}
 use Rattle.fare_law.specs.declared.fares.FareKey.{FareKey}
-use Rattle.fare_law.specs.declared.sheets.SheetRow.{SheetRow}
 use Rattle.fare_law.specs.Book.{same_key}
-use Rattle.fare_law.specs.Lists.{IsIn}
 use Rattle.fare_law.specs.Sheets.{Sheet}
 use Rattle.fare_book.specs.Counts.{Exactly}
 use Rattle.fare_book.specs.Keeping.{sheet_at}
 use Rattle.fare_book.specs.Keys.{same_market, same_rule}
-use Rattle.fare_book.specs.Tables.{AreKeyed, Changes, Fares, IsOldRow, LiveRules, MarketHolds, NamesRule, NoneOf, OldSheet, TableOf, Untouched, in_market, rule_of}
+use Rattle.fare_book.specs.Tables.{AreKeyed, Changes, Fares, LiveRules, MarketHolds, NamesRule, TableOf, Untouched, in_market, rule_of}
 use Rattle.fare_book.specs.declared.keys.Market.{Market}
 use Rattle.fare_book.specs.declared.keys.RuleKey.{RuleKey}
 use Rattle.fare_book.proofs.Counting.{count_less, count_more, count_same}
 use Rattle.fare_book.proofs.SameKeys.{same_fares_tell, same_markets_tell, same_rules_tell}
 use Rattle.fare_book.proofs.TableRows.{in_market_is, in_market_tells}
-use Rattle.fare_book.proofs.Updates.{at_key, either, elsewhere}
+use Rattle.fare_book.proofs.Updates.{at_key, either}
 
 clash : {G : Type 0} (o : Option Fare) (x : Fare) → o ≡ None → o ≡ Some x → G
 clash None x e s = absurd (cc)

@@ -59,11 +59,11 @@ uses_set old new r n u k = ap (λ o. unwrap_or o 0) (rule_changes old new r (Som
     by false = refl
 
 -- a rule is set or taken away
-pub rule_set : {Z : Type 0} (old new : List (RuleKey × Arc Rule Z)) (r : RuleKey) (w : Option (Arc Rule Z)) (v : Option Rule) → option_map arc_value w ≡ v → ((q : RuleKey) → lookup (rule.ghosts.eq q) new ≡ cond (rule.ghosts.eq r q) w (lookup (rule.ghosts.eq q) old))
+pub rule_set : (old new : List (RuleKey × Rule)) (r : RuleKey) (w v : Option Rule) → w ≡ v → ((q : RuleKey) → lookup (rule.ghosts.eq q) new ≡ cond (rule.ghosts.eq r q) w (lookup (rule.ghosts.eq q) old))
     → (k : RuleKey) → rule_at new k ≡ cond (same_rule k r) v (rule_at old k)
-rule_set old new r w v is u k = ap (option_map arc_value) (rule_changes old new r w u k) ∙ by (same_rule k r)
+rule_set old new r w v is u k = rule_changes old new r w u k ∙ by (same_rule k r)
   where
-    by : (t : Bool) → option_map arc_value (cond t w (lookup (same_rule k) old)) ≡ cond t v (rule_at old k)
+    by : (t : Bool) → cond t w (lookup (same_rule k) old) ≡ cond t v (rule_at old k)
     by true = is
     by false = refl
 

@@ -21,3 +21,4 @@ pub mod TakingLemmas
 pub mod Placing
 pub mod Versions
 pub mod Causes
+pub mod OneFault

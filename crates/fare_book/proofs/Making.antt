@@ -1,6 +1,5 @@
 -- The rows of a table, as a sheet takes them.
-use Rattle.std.proofs.Common.{◌≡◌, ◌≢◌, ◌⊎◌, ◌≤◌, ◌<◌, ◌+◌, ℕ, suc, Bool, true, false, cond, List, [], ◌∷◌, ◌++◌, length, take, get_or, Option, Some, None, IsSome, refl, sym, ap, ap₂, subst, ◌∙◌, inl, inr, arith}
-use Rattle.std.specs.BTreeMap.{is_at}
+use Rattle.std.proofs.Common.{◌≡◌, ◌≢◌, ◌⊎◌, suc, Bool, true, false, cond, List, [], ◌∷◌, ◌++◌, length, Some, None, IsSome, refl, sym, ap, ap₂, subst, ◌∙◌, inl, inr, arith}
 use Rattle.std.specs.Cmp.Lexicographic.{slice_cmp}
 use Rattle.std.specs.List.{AllByRecursion}
 use Rattle.std.specs.List.Sorted.{IsStrictlySortedBy}
@@ -8,21 +7,17 @@ use Rattle.std.specs.Map.{keys_of, lookup}
 use Rattle.std.specs.Ordering.{MatchOrdering, nat_cmp, ordering_then}
 use Rattle.std.specs.declared.cmp.Ordering.{Ordering}
 use Rattle.std.specs.declared.cmp.Ordering.TheVariants.{Less as Lower, Equal, Greater}
-use Rattle.std.specs.declared.sync.Arc.{Arc}
 use Rattle.std.proofs.lemmas.Bool.{false_from_ne_true}
 use Rattle.std.proofs.lemmas.Cmp.{nat_list_cmp_total, tied_itself}
 use Rattle.fare_law.specs.contracts.fares.FareKeyOrd.TheImpl as fare_order
 use Rattle.fare_law.specs.declared.fares.Fare.{Fare}
 use Rattle.fare_law.specs.declared.fares.FareKey.{FareKey}
-use Rattle.fare_law.specs.declared.names.Basis.{Basis}
-use Rattle.fare_law.specs.declared.names.Carrier.{Carrier}
 use Rattle.fare_law.specs.declared.names.Place.{Place}
 use Rattle.fare_law.specs.declared.rules.Rule.{Rule}
 use Rattle.fare_law.specs.declared.sheets.SheetRow.{SheetRow}
 use Rattle.fare_law.specs.Book.{Book, live_fare, live_rule, same_key}
-use Rattle.fare_law.specs.Lists.{AllDifferent, Each, EachPair, IsIn, Matched}
-use Rattle.fare_law.specs.Order.{Less}
-use Rattle.fare_law.specs.Sheets.{IsLiveRow, IsSheet, RowBefore, Sheet, SheetOf}
+use Rattle.fare_law.specs.Lists.{AllDifferent, Each, EachPair, IsIn, Matched, Less}
+use Rattle.fare_law.specs.Sheets.{IsLiveRow, IsSheet, RowBefore, SheetOf}
 use Rattle.fare_book.specs.Keeping.{IsLive, Rules}
 use Rattle.fare_book.specs.Ready.{MakesSheet}
 use Rattle.fare_book.specs.Tables.{in_market}
@@ -31,7 +26,7 @@ use Rattle.fare_book.specs.declared.keys.RuleKey.{RuleKey}
 use Rattle.fare_book.proofs.LastActions.{live_key}
 use Rattle.fare_book.proofs.RowOrder.{words_told}
 use Rattle.fare_book.proofs.SameKeys.{same_fares_tell}
-use Rattle.fare_book.proofs.TableRows.{front_is, in_market_is, in_market_tells}
+use Rattle.fare_book.proofs.TableRows.{in_market_is, in_market_tells}
 use Rattle.fare_book.proofs.Updates.{live_some}
 
 matched_push : {X Y : Type 0} (R : X → Y → Type 0) (xs : List X) (ys : List Y) (x : X) (y : Y) → Matched R xs ys → R x y → Matched R (xs ++ x ∷ []) (ys ++ y ∷ [])
@@ -101,7 +96,7 @@ lookup_member (x ∷ es) d e (inr i) = ap (λ t. cond t (Some x.1) (lookup (same
     other (y ∷ ys) h (inl q) s = h.0 (s ∙ ap (λ (z : FareKey × Fare). z.0) q)
     other (y ∷ ys) h (inr q) s = other ys h.1 q s
 
-module _ {Z : Type 0} (rules : List (RuleKey × Arc Rule Z)) where
+module _ (rules : List (RuleKey × Rule)) where
   -- the row has the fare of the entry and its live rule
   pub record MadeOf (row : SheetRow) (entry : FareKey × Fare) : Type 0 where
     pub fare_is : row.fare ≡ entry.1

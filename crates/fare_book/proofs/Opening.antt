@@ -80,7 +80,7 @@ opening_keeps t held s = record {
   seats_are = s.each;
 }
 
-pub opening_holds : {Z : Type 0} (t : Timetable) (entries : List (Arc Filing Z)) (sheets : List (Market × Arc Sheet Z)) (rules : List (RuleKey × Arc Rule Z)) (uses : List (RuleKey × ℕ)) (given held : List (SeatKey × List ℕ))
+pub opening_holds : {Z : Type 0} (t : Timetable) (entries : List (Arc Filing Z)) (sheets : List (Market × Arc Sheet Z)) (rules : List (RuleKey × Rule)) (uses : List (RuleKey × ℕ)) (given held : List (SeatKey × List ℕ))
     → SeatsRows t.seats given → given ≡ held → entries ≡ [] → sheets ≡ [] → rules ≡ [] → uses ≡ []
     → Keeps (record { timetable = t; entries = map arc_value entries }) sheets rules uses 0 0 held
 opening_holds {Z = Z} t entries sheets rules uses given held s g e sh r u = subst (λ es. Keeps {Z = Z} (record { timetable = t; entries = map arc_value es }) sheets rules uses 0 0 held) (sym e)

@@ -1,5 +1,5 @@
 -- Sheets that are put in place of what they were, and sheets that have a changed rule.
-use Rattle.std.proofs.Common.{◌≡◌, ◌≢◌, ◌⊎◌, ◌||◌, ◌==◌, ℕ, Bool, true, false, cond, List, [], ◌∷◌, length, Option, Some, None, IsSome, IsTrue, option_map, is_some, refl, sym, ap, subst, ◌∙◌, inl, inr, arith}
+use Rattle.std.proofs.Common.{◌≡◌, ◌⊎◌, ◌||◌, Bool, true, false, cond, List, [], ◌∷◌, length, Option, Some, None, IsSome, IsTrue, option_map, is_some, refl, sym, ap, subst, ◌∙◌, inl, inr, arith}
 use Rattle.std.specs.Arc.{arc_value}
 use Rattle.std.specs.BTreeMap.{BTreeMap}
 use Rattle.std.specs.Cmp.{IsEquivalence}
@@ -8,23 +8,21 @@ use Rattle.std.specs.Map.{lookup}
 use Rattle.std.specs.Option.{MatchOption}
 use Rattle.std.specs.declared.sync.Arc.{Arc}
 use Rattle.std.proofs.lemmas.Bool.{cases_Bool, both_ways}
-use Rattle.std.proofs.lemmas.Bool.Decides.{Decides-eqb}
 use Rattle.fare_law.specs.declared.fares.Fare.{Fare}
 use Rattle.fare_law.specs.declared.fares.FareKey.{FareKey}
 use Rattle.fare_law.specs.declared.rules.Rule.{Rule}
 use Rattle.fare_law.specs.declared.sheets.SheetRow.{SheetRow}
 use Rattle.fare_law.specs.Book.{Book, live_fare, live_rule}
 use Rattle.fare_law.specs.Lists.{IsIn}
-use Rattle.fare_law.specs.Sheets.{IsLiveRow, Sheet, SheetOf}
+use Rattle.fare_law.specs.Sheets.{IsLiveRow, Sheet}
 use Rattle.fare_book.specs.contracts.keys.MarketPartialEq.TheImpl as market
 use Rattle.fare_book.specs.Keeping.{NoFare, RulesStand, sheet_at}
 use Rattle.fare_book.specs.Keys.{same_market, same_rule}
 use Rattle.fare_book.specs.Ready.{IsRight, MakesSheet, Ready}
-use Rattle.fare_book.specs.Tables.{AreKeyed, Fares, IsOldRow, LiveRules, MarketHolds, NoneOf, OldSheet, TableOf, Untouched, rule_of}
+use Rattle.fare_book.specs.Tables.{Fares, IsOldRow, LiveRules, MarketHolds, OldSheet, TableOf, Untouched, rule_of}
 use Rattle.fare_book.specs.declared.keys.Market.{Market}
 use Rattle.fare_book.specs.declared.keys.RuleKey.{RuleKey}
 use Rattle.fare_book.proofs.Finding.{flips}
-use Rattle.fare_book.proofs.LiveRows.{row_live}
 use Rattle.fare_book.proofs.SameKeys.{market_tests_agree, same_markets_tell}
 use Rattle.fare_book.proofs.TableRows.{in_market_is}
 
@@ -76,7 +74,7 @@ sheet_right b m (Some s) stand h = record {
 pub none_right : (b : Book) (m : Market) (table : List (FareKey × Fare)) → table ≡ [] → TableOf (live_fare b) m table → NoFare b m.from m.to
 none_right b m table e h key from to = sym (ap (λ t. cond t (live_fare b key) None) (in_market_is m key from to)) ∙ sym (h key) ∙ ap (lookup _) e
 
-module _ {Z : Type 0} (b : Book) (sheets : List (Market × Arc Sheet Z)) (tables : List (Market × BTreeMap FareKey Fare)) (rules : List (RuleKey × Arc Rule Z)) (ready : Ready b sheets tables rules) where
+module _ {Z : Type 0} (b : Book) (sheets : List (Market × Arc Sheet Z)) (tables : List (Market × BTreeMap FareKey Fare)) (rules : List (RuleKey × Rule)) (ready : Ready b sheets tables rules) where
   -- a market without a table
   pub untouched_right : (m : Market) → lookup (same_market m) tables ≡ None → IsRight b m (sheet_at sheets m)
   untouched_right m none = sheet_right b m (sheet_at sheets m) ready.ruled.stand (subst (λ o. MatchOption o (Untouched (live_fare b) (live_rule b) [] m (sheet_at sheets m)) (λ t. TableOf (live_fare b) m t.entries)) none (ready.markets m))

@@ -12,8 +12,7 @@ use Rattle.fare_law.specs.declared.fares.FareKey.{FareKey}
 use Rattle.fare_law.specs.declared.names.Basis.{Basis}
 use Rattle.fare_law.specs.declared.names.Carrier.{Carrier}
 use Rattle.fare_law.specs.declared.sheets.SheetRow.{SheetRow}
-use Rattle.fare_law.specs.Lists.{Each, EachPair, IsIn}
-use Rattle.fare_law.specs.Order.{Less}
+use Rattle.fare_law.specs.Lists.{Each, EachPair, IsIn, Less}
 use Rattle.fare_law.specs.Sheets.{RowBefore}
 use Rattle.fare_book.specs.Rows.{HasName, key_order}
 

@@ -1,12 +1,11 @@
 -- What a draft keeps of the rules, as one is put or dropped.
-use Rattle.std.proofs.Common.{◌≡◌, ◌≢◌, ◌⊎◌, ◌≤◌, ◌<◌, ◌+◌, ◌-◌, ◌==◌, ◌&&◌, ◌↔◌, ℕ, Bool, true, false, cond, List, [], ◌∷◌, Option, Some, None, Decides, IsSome, IsTrue, is_some, option_map, refl, sym, ap, ap₂, subst, ◌∙◌, inl, inr, arith}
-use Rattle.std.specs.Arc.{arc_value}
+use Rattle.std.proofs.Common.{◌≡◌, ◌≢◌, ◌⊎◌, ◌≤◌, ◌<◌, ◌+◌, ◌-◌, ◌==◌, ◌&&◌, ℕ, Bool, true, false, cond, List, [], ◌∷◌, Option, Some, None, Decides, IsSome, IsTrue, is_some, refl, sym, ap, subst, ◌∙◌, inl, inr, arith}
 use Rattle.std.specs.BTreeMap.{BTreeMap}
 use Rattle.std.specs.List.{list_any}
 use Rattle.std.specs.Map.{lookup}
 use Rattle.std.specs.Option.{MatchOption}
 use Rattle.std.specs.declared.sync.Arc.{Arc}
-use Rattle.std.proofs.lemmas.Bool.{both_ways, cases_Bool, false_from_ne_true}
+use Rattle.std.proofs.lemmas.Bool.{cases_Bool, false_from_ne_true}
 use Rattle.std.proofs.lemmas.Bool.Decides.{Decides-and, Decides-eqb, Decides-like}
 use Rattle.fare_law.specs.declared.fares.Fare.{Fare}
 use Rattle.fare_law.specs.declared.fares.FareKey.{FareKey}
@@ -19,12 +18,12 @@ use Rattle.fare_law.specs.Sheets.{Sheet}
 use Rattle.fare_book.specs.contracts.keys.RuleKeyPartialEq.TheImpl as rule_test
 use Rattle.fare_book.specs.Counts.{Exactly}
 use Rattle.fare_book.specs.Drafts.{FaresKept, RulesKept, Stand}
-use Rattle.fare_book.specs.Keeping.{Rules, rule_at, sheet_at, uses_at}
+use Rattle.fare_book.specs.Keeping.{Rules, rule_at, sheet_at}
 use Rattle.fare_book.specs.Keys.{same_market, same_rule}
-use Rattle.fare_book.specs.Tables.{Fares, IsOldRow, LiveRules, MarketHolds, NamesRule, OldSheet, TableOf, Untouched, rule_of}
+use Rattle.fare_book.specs.Tables.{Fares, IsOldRow, LiveRules, NamesRule, TableOf, Untouched, rule_of}
 use Rattle.fare_book.specs.declared.keys.Market.{Market}
 use Rattle.fare_book.specs.declared.keys.RuleKey.{RuleKey}
-use Rattle.fare_book.proofs.Counting.{count_same, none_counted, some_counted}
+use Rattle.fare_book.proofs.Counting.{count_same}
 use Rattle.fare_book.proofs.Finding.{rule_found}
 use Rattle.fare_book.proofs.Following.{rule_free}
 use Rattle.fare_book.proofs.SameKeys.{same_carriers_tell, same_rules_tell}
@@ -34,16 +33,12 @@ use Rattle.fare_book.proofs.Updates.{count_gone, count_new, count_old, live_some
 pub rule_zero : (b : Book) (c : Carrier) (n : ℕ) → n ≡ 0 → IsSome (live_rule b c n)
 rule_zero b c n z = live_some (live_rule b c n) free_rule (ap (live_rule b c) z ∙ rule_free b c)
 
-some_behind : {X Y : Type 0} (f : X → Y) (o : Option X) → is_some (option_map f o) ≡ is_some o
-some_behind f None = refl
-some_behind f (Some x) = refl
-
-pub known_rule : {Z : Type 0} (b : Book) (rules : List (RuleKey × Arc Rule Z)) (k : RuleKey) (t : Bool) → t ≡ is_some (lookup (rule_test.ghosts.eq k) rules) → k.number ≢ 0 → Rules b rules
+pub known_rule : (b : Book) (rules : List (RuleKey × Rule)) (k : RuleKey) (t : Bool) → t ≡ is_some (lookup (rule_test.ghosts.eq k) rules) → k.number ≢ 0 → Rules b rules
     → (IsTrue t → IsSome (live_rule b k.carrier k.number)) × (IsSome (live_rule b k.carrier k.number) → IsTrue t)
 known_rule b rules k t e n r = (λ h. sym told ∙ h, λ h. told ∙ h)
   where
     told : t ≡ is_some (live_rule b k.carrier k.number)
-    told = e ∙ ap is_some (rule_found rules k) ∙ sym (some_behind arc_value (lookup (same_rule k) rules)) ∙ ap is_some (r k n)
+    told = e ∙ ap is_some (rule_found rules k) ∙ ap is_some (r k n)
 
 -- ---- the rules, as one changes
 abbrev named : Carrier → ℕ → Carrier → ℕ → Bool
@@ -108,7 +103,7 @@ module _ (f g : LiveRules) (k : Carrier) (m : ℕ) (w : Option Rule) (proper : m
   free_stays : ((c : Carrier) → f c 0 ≡ Some free_rule) → (c : Carrier) → g c 0 ≡ Some free_rule
   free_stays h c = step c 0 ∙ h c
 
-  rules_held : {Z : Type 0} (old new : List (RuleKey × Arc Rule Z)) → ((q : RuleKey) → rule_at new q ≡ cond (same_rule q (record { carrier = k; number = m })) w (rule_at old q))
+  rules_held : (old new : List (RuleKey × Rule)) → ((q : RuleKey) → rule_at new q ≡ cond (same_rule q (record { carrier = k; number = m })) w (rule_at old q))
       → ((q : RuleKey) → q.number ≢ 0 → rule_at old q ≡ f q.carrier q.number) → (q : RuleKey) → q.number ≢ 0 → rule_at new q ≡ g q.carrier q.number
   rules_held old new puts h q n =
       puts q ∙ ap (cond (same_rule q (record { carrier = k; number = m })) w) (h q n) ∙ sym (step q.carrier q.number ∙ ap (λ t. cond t w (f q.carrier q.number)) (named_is k m q.carrier q.number n))
@@ -122,7 +117,7 @@ module _ (f g : LiveRules) (k : Carrier) (m : ℕ) (w : Option Rule) (proper : m
   here_pair : (o : Option Rule) → f k m ≡ o → nonzero f (k, m) ≡ o
   here_pair o e = ap (λ t. cond t None (f k m)) (not_zero m proper) ∙ e
 
-  module _ {Z : Type 0} (old new : List (RuleKey × Arc Rule Z)) (puts : (q : RuleKey) → rule_at new q ≡ cond (same_rule q (record { carrier = k; number = m })) w (rule_at old q)) (count : ℕ) (kept : RulesKept f old count) where
+  module _ (old new : List (RuleKey × Rule)) (puts : (q : RuleKey) → rule_at new q ≡ cond (same_rule q (record { carrier = k; number = m })) w (rule_at old q)) (count : ℕ) (kept : RulesKept f old count) where
     pub rules_new : (r : Rule) → w ≡ Some r → f k m ≡ None → count < 2000 → RulesKept g new (count + 1)
     rules_new r e none room = record {
       rules_are = rules_held old new puts kept.rules_are;

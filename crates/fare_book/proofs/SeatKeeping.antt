@@ -1,8 +1,8 @@
 -- What a draft keeps of the seats, as those of a key are put or dropped.
-use Rattle.std.proofs.Common.{◌≡◌, ◌⊎◌, ◌≤◌, ◌+◌, ℕ, Bool, true, false, cond, List, Option, Some, None, Result, Ok, Err, IsSome, refl, sym, ap, subst, ◌∙◌, inl, inr}
+use Rattle.std.proofs.Common.{◌≡◌, ℕ, cond, List, Option, Some, None, Result, Ok, Err, IsSome, refl, sym, ap, subst, ◌∙◌, inl, inr}
 use Rattle.fare_law.specs.declared.filings.SeatKey.{SeatKey}
 use Rattle.fare_law.specs.Book.{same_seat_key}
-use Rattle.fare_law.specs.Faults.{HasMany}
+use Rattle.fare_law.specs.Lists.{HasMany}
 use Rattle.fare_book.specs.Counts.{AtMost}
 use Rattle.fare_book.specs.Drafts.{SeatsKept}
 use Rattle.fare_book.specs.Tables.{LiveSeats}

@@ -1,5 +1,5 @@
 -- The fault that an action has.
-use Rattle.std.proofs.Common.{◌≡◌, ◌%◌, ◌≤◌, ℕ, List, Option, Some, None, Result, Ok, Err, IsSome, refl, sym, ap, subst, ◌∙◌, arith}
+use Rattle.std.proofs.Common.{◌≡◌, ◌%◌, ◌≤◌, ℕ, List, Option, Some, None, Result, Ok, Err, IsSome, refl, sym, subst, arith}
 use Rattle.fare_law.specs.declared.fares.Fare.{Fare}
 use Rattle.fare_law.specs.declared.fares.FareKey.{FareKey}
 use Rattle.fare_law.specs.declared.fares.FareKind.TheVariants.{R}
@@ -11,7 +11,8 @@ use Rattle.fare_law.specs.declared.filings.SeatKey.{SeatKey}
 use Rattle.fare_law.specs.declared.names.Carrier.{Carrier}
 use Rattle.fare_law.specs.declared.rules.Rule.{Rule}
 use Rattle.fare_law.specs.Book.{Book, live_fare, live_rule}
-use Rattle.fare_law.specs.Faults.{FaultOf, HasMany, Why, reason_number}
+use Rattle.fare_law.specs.Faults.{FaultOf, Why, reason_number}
+use Rattle.fare_law.specs.Lists.{HasMany}
 use Rattle.fare_book.specs.Counts.{Exactly}
 use Rattle.fare_book.specs.Drafts.{Acts, Drafts, Faultless, OnlyLimit, Places}
 use Rattle.fare_book.specs.declared.draft.Draft.{Draft}

@@ -1,5 +1,5 @@
 -- The rows of a sheet, as a table takes them.
-use Rattle.std.proofs.Common.{◌≡◌, ◌≢◌, ◌||◌, ◌&&◌, ◌+◌, ◌<◌, ℕ, suc, Bool, true, false, cond, List, [], ◌∷◌, ◌++◌, length, take, get_or, Option, Some, None, Result, Ok, Err, IfOk, option_map, refl, sym, ap, ap₂, subst, ◌∙◌, inl, inr, arith}
+use Rattle.std.proofs.Common.{◌≡◌, ◌||◌, ◌&&◌, ◌+◌, ◌<◌, ℕ, suc, Bool, true, false, cond, List, [], ◌∷◌, ◌++◌, length, take, get_or, Option, Some, None, Result, Ok, Err, IfOk, option_map, refl, sym, ap, ap₂, subst, ◌∙◌, inl, inr, arith}
 use Rattle.std.specs.Arc.{arc_value}
 use Rattle.std.specs.BTreeMap.{BTreeMap}
 use Rattle.std.specs.List.{list_any}
@@ -7,14 +7,13 @@ use Rattle.std.specs.Map.{lookup}
 use Rattle.std.specs.Option.{MatchOption}
 use Rattle.std.specs.declared.sync.Arc.{Arc}
 use Rattle.std.proofs.Math.Seq.{take-suc}
-use Rattle.std.proofs.lemmas.Bool.{both_ways}
 use Rattle.fare_law.specs.declared.fares.Fare.{Fare}
 use Rattle.fare_law.specs.declared.fares.FareKey.{FareKey}
 use Rattle.fare_law.specs.declared.sheets.SheetRow.{SheetRow}
 use Rattle.fare_law.specs.Book.{same_key, same_place}
 use Rattle.fare_law.specs.Lists.{Each, IsIn}
 use Rattle.fare_law.specs.Sheets.{Sheet}
-use Rattle.fare_book.specs.Tables.{AreKeyed, Fares, IsOldRow, LiveRules, MarketHolds, NoneOf, OldSheet, TableOf, Untouched, in_market}
+use Rattle.fare_book.specs.Tables.{AreKeyed, Fares, LiveRules, MarketHolds, NoneOf, OldSheet, TableOf, Untouched, in_market}
 use Rattle.fare_book.specs.Keeping.{sheet_at}
 use Rattle.fare_book.specs.Keys.{same_market}
 use Rattle.fare_book.specs.declared.keys.Market.{Market}

@@ -1,7 +1,7 @@
 -- What is live by key, as one key changes, and how many keys are.
-use Rattle.std.proofs.Common.{◌≡◌, ◌⊎◌, ◌≤◌, ◌<◌, ◌+◌, ℕ, Bool, true, false, cond, Option, Some, None, Decides, IsSome, is_some, refl, sym, ap, subst, ◌∙◌, inl, inr, arith}
+use Rattle.std.proofs.Common.{◌≡◌, ◌⊎◌, ◌≤◌, ◌<◌, ◌+◌, ℕ, Bool, false, cond, Option, Some, None, Decides, IsSome, is_some, refl, sym, ap, subst, ◌∙◌, inl, inr, arith}
 use Rattle.std.proofs.lemmas.Bool.{cases_Bool, cases_lt}
-use Rattle.fare_law.specs.Faults.{HasMany}
+use Rattle.fare_law.specs.Lists.{HasMany}
 use Rattle.fare_book.specs.Counts.{AtMost, Exactly}
 use Rattle.fare_book.proofs.Counting.{count_less, count_more, count_same, most_more, most_same}
 

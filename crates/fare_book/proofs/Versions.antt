@@ -1,5 +1,5 @@
 -- From a book to the next one.
-use Rattle.std.proofs.Common.{◌≡◌, ◌≢◌, ◌≤◌, ◌<◌, ◌+◌, ℕ, Bool, true, false, cond, List, [], ◌∷◌, ◌++◌, length, map, take, get_or, Global, Option, Some, None, IsSome, option_map, refl, sym, ap, subst, ◌∙◌, inl, inr, arith}
+use Rattle.std.proofs.Common.{◌≡◌, ◌<◌, ◌+◌, ℕ, Bool, true, false, cond, List, [], ◌∷◌, ◌++◌, length, map, take, get_or, Global, Option, Some, None, option_map, refl, sym, ap, subst, ◌∙◌, inl, arith}
 use Rattle.std.specs.Arc.{arc_value}
 use Rattle.std.specs.List.{AllZip}
 use Rattle.std.specs.Map.{lookup}
@@ -15,17 +15,16 @@ use Rattle.fare_law.specs.declared.fares.FareKey.{FareKey}
 use Rattle.fare_law.specs.declared.filings.Filing.{Filing}
 use Rattle.fare_law.specs.declared.filings.SeatKey.{SeatKey}
 use Rattle.fare_law.specs.declared.rules.Rule.{Rule}
-use Rattle.fare_law.specs.declared.sheets.SheetRow.{SheetRow}
 use Rattle.fare_law.specs.Book.{Book, Timetable, actions, live_fare, live_rule, live_seats}
 use Rattle.fare_law.specs.Faults.{filed}
 use Rattle.fare_law.specs.FilingLimits.{IsFiling}
-use Rattle.fare_law.specs.Lists.{Each, IsIn}
+use Rattle.fare_law.specs.Lists.{Each}
 use Rattle.fare_law.specs.Sheets.{IsLiveRow, Sheet, SheetOf}
 use Rattle.fare_book.specs.Drafts.{Drafts, FaresKept, Keeping, RulesKept, SeatsKept, drafted_seats}
-use Rattle.fare_book.specs.Keeping.{Counted, History, Keeps, NoFare, RulesStand, Sheets, rule_at, sheet_at, uses_at}
+use Rattle.fare_book.specs.Keeping.{History, Keeps, NoFare, RulesStand, Sheets, sheet_at, uses_at}
 use Rattle.fare_book.specs.Keys.{same_market, same_rule}
 use Rattle.fare_book.specs.Ready.{Ready}
-use Rattle.fare_book.specs.Tables.{IsOldRow, MarketHolds, NamesRule, NoneOf, OldSheet, Untouched}
+use Rattle.fare_book.specs.Tables.{MarketHolds, NamesRule, Untouched}
 use Rattle.fare_book.specs.Taking.{NoneStops}
 use Rattle.fare_book.specs.declared.draft.Draft.{Draft}
 use Rattle.fare_book.specs.declared.keys.Market.{Market}
@@ -52,6 +51,16 @@ copied_arcs (p ∷ ps) (q ∷ qs) a test =
     ap (λ k. option_map arc_value (cond (test k) (Some q.1) (lookup test qs))) a.0.0 ∙ by (test p.0) (copied_arcs ps qs a.1 test)
   where
     by : (t : Bool) → option_map arc_value (lookup test qs) ≡ option_map arc_value (lookup test ps) → option_map arc_value (cond t (Some q.1) (lookup test qs)) ≡ option_map arc_value (cond t (Some p.1) (lookup test ps))
+    by true h = ap Some a.0.1
+    by false h = h
+
+copied_values : {K X : Type 0} (old new : List (K × X)) → AllZip (λ p q. (q.0 ≡ p.0) × (q.1 ≡ p.1)) old new → (test : K → Bool) → lookup test new ≡ lookup test old
+copied_values [] [] a test = refl
+copied_values [] (q ∷ qs) a test = absurd a
+copied_values (p ∷ ps) [] a test = absurd a
+copied_values (p ∷ ps) (q ∷ qs) a test = ap (λ k. cond (test k) (Some q.1) (lookup test qs)) a.0.0 ∙ by (test p.0) (copied_values ps qs a.1 test)
+  where
+    by : (t : Bool) → lookup test qs ≡ lookup test ps → cond t (Some q.1) (lookup test qs) ≡ cond t (Some p.1) (lookup test ps)
     by true h = ap Some a.0.1
     by false h = h
 
@@ -82,8 +91,8 @@ filed_nothing b d k =
     subst (λ f. Keeping f (live_rule (filed b [])) (live_seats (filed b [])) d) (sym (same_fares b (filed b []) refl same))
     (subst (λ r. Keeping (live_fare b) r (live_seats (filed b [])) d) (sym (same_rules b (filed b []) refl same)) (subst (λ s. Keeping (live_fare b) (live_rule b) s d) (sym (same_seats b (filed b []) refl same)) k))
 
-pub book_drafts : {Z : Type 0} (b : Book) (sheets copied_sheets : List (Market × Arc Sheet Z)) (rules copied_rules : List (RuleKey × Arc Rule Z)) (uses copied_uses : List (RuleKey × ℕ)) (fare_count rule_count : ℕ) (held copied_held : List (SeatKey × List ℕ))
-    → Keeps b sheets rules uses fare_count rule_count held → AllZip (λ p q. (q.0 ≡ p.0) × (arc_value q.1 ≡ arc_value p.1)) sheets copied_sheets → AllZip (λ p q. (q.0 ≡ p.0) × (arc_value q.1 ≡ arc_value p.1)) rules copied_rules → copied_uses ≡ uses → copied_held ≡ held
+pub book_drafts : {Z : Type 0} (b : Book) (sheets copied_sheets : List (Market × Arc Sheet Z)) (rules copied_rules : List (RuleKey × Rule)) (uses copied_uses : List (RuleKey × ℕ)) (fare_count rule_count : ℕ) (held copied_held : List (SeatKey × List ℕ))
+    → Keeps b sheets rules uses fare_count rule_count held → AllZip (λ p q. (q.0 ≡ p.0) × (arc_value q.1 ≡ arc_value p.1)) sheets copied_sheets → AllZip (λ p q. (q.0 ≡ p.0) × (q.1 ≡ p.1)) rules copied_rules → copied_uses ≡ uses → copied_held ≡ held
     → FaresKept (live_fare b) (live_rule b) [] copied_sheets [] fare_count copied_uses × RulesKept (live_rule b) copied_rules rule_count × SeatsKept (live_seats b) copied_held
 book_drafts b sheets copied_sheets rules copied_rules uses copied_uses fare_count rule_count held copied_held k s r u h = (
   record {
@@ -94,7 +103,7 @@ book_drafts b sheets copied_sheets rules copied_rules uses copied_uses fare_coun
     keyed = live_key b;
   },
   record {
-    rules_are = λ q n. copied_arcs rules copied_rules r (same_rule q) ∙ k.rules_are q n;
+    rules_are = λ q n. copied_values rules copied_rules r (same_rule q) ∙ k.rules_are q n;
     counted = k.counted.rules;
     few = k.counted.few_rules;
     free = rule_free b;
@@ -135,8 +144,8 @@ next_keeps b filing d sheets held h few limits none k right is = record {
   seats_are = λ q. ap (λ hs. seats_at hs q) is ∙ k.seats_kept.seats_are q;
 }
 
-pub draft_keeps : (b : Book) (d : Draft) (sheets : List (Market × Arc Sheet Global)) (rules : List (RuleKey × Arc Rule Global)) (uses : List (RuleKey × ℕ)) (held : List (SeatKey × List ℕ)) → Keeps b sheets rules uses d.fare_count d.rule_count held
-    → AllZip (λ p q. (q.0 ≡ p.0) × (arc_value q.1 ≡ arc_value p.1)) sheets d.sheets.entries → AllZip (λ p q. (q.0 ≡ p.0) × (arc_value q.1 ≡ arc_value p.1)) rules d.rules.entries → d.uses.entries ≡ uses → drafted_seats d ≡ held → d.tables.entries ≡ [] → d.changed.keys ≡ []
+pub draft_keeps : (b : Book) (d : Draft) (sheets : List (Market × Arc Sheet Global)) (rules : List (RuleKey × Rule)) (uses : List (RuleKey × ℕ)) (held : List (SeatKey × List ℕ)) → Keeps b sheets rules uses d.fare_count d.rule_count held
+    → AllZip (λ p q. (q.0 ≡ p.0) × (arc_value q.1 ≡ arc_value p.1)) sheets d.sheets.entries → AllZip (λ p q. (q.0 ≡ p.0) × (q.1 ≡ p.1)) rules d.rules.entries → d.uses.entries ≡ uses → drafted_seats d ≡ held → d.tables.entries ≡ [] → d.changed.keys ≡ []
     → Drafts (filed b []) d
 draft_keeps b d sheets rules uses held k s r u h t c =
     let parts = book_drafts b sheets d.sheets.entries rules d.rules.entries uses d.uses.entries d.fare_count d.rule_count held (drafted_seats d) k s r u h in

@@ -1,6 +1,6 @@
 -- How many keys there are of a kind.
 use Rattle.std.specs.Prelude.{◌≤◌, ℕ}
-use Rattle.fare_law.specs.Faults.{HasMany}
+use Rattle.fare_law.specs.Lists.{HasMany}
 
 -- no more than so many keys are of this kind
 abbrev pub AtMost : {K : Type 0} → ℕ → (K → Type 0) → Type 0

@@ -1,9 +1,7 @@
 -- What is kept of a filing while its actions are taken one after another.
-use Rattle.std.specs.Prelude.{◌≡◌, ◌≢◌, ◌≤◌, ◌⊎◌, ℕ, Bool, ◌&&◌, cond, List, [], ◌∷◌, ◌++◌, Option, Some, None, MatchOption, IsSome, Result, Ok, Err, IsTrue}
+use Rattle.std.specs.Prelude.{◌≡◌, ◌≢◌, ◌≤◌, ℕ, List, [], ◌∷◌, ◌++◌, Option, Some, None, IsSome, Result, Ok, Err}
 use Rattle.std.specs.Arc.{arc_value}
 use Rattle.std.specs.BTreeMap.{BTreeMap}
-use Rattle.std.specs.List.{list_any}
-use Rattle.std.specs.Map.{lookup}
 use Rattle.std.specs.declared.sync.Arc.{Arc}
 use Rattle.fare_law.specs.declared.fares.Fare.{Fare}
 use Rattle.fare_law.specs.declared.fares.FareKey.{FareKey}
@@ -13,15 +11,12 @@ use Rattle.fare_law.specs.declared.filings.BookWhy.{BookWhy}
 use Rattle.fare_law.specs.declared.filings.BookWhy.TheVariants.{Limit}
 use Rattle.fare_law.specs.declared.filings.SeatKey.{SeatKey}
 use Rattle.fare_law.specs.declared.names.Carrier.{Carrier}
-use Rattle.fare_law.specs.declared.names.Place.{Place}
 use Rattle.fare_law.specs.declared.rules.Rule.{Rule}
-use Rattle.fare_law.specs.declared.sheets.SheetRow.{SheetRow}
-use Rattle.fare_law.specs.Book.{Book, actions, free_rule, live_fare, live_rule, live_seats, same_key, same_place}
+use Rattle.fare_law.specs.Book.{Book, actions, free_rule, live_fare, live_rule, live_seats}
 use Rattle.fare_law.specs.Faults.{FaultOf, Why}
-use Rattle.fare_law.specs.Lists.{EachPair, IsIn}
-use Rattle.fare_law.specs.Sheets.{RowBefore, Sheet}
+use Rattle.fare_law.specs.Sheets.{Sheet}
 use Rattle.fare_book.specs.Counts.{AtMost, Exactly}
-use Rattle.fare_book.specs.Keeping.{rule_at, sheet_at, uses_at}
+use Rattle.fare_book.specs.Keeping.{rule_at, uses_at}
 use Rattle.fare_book.specs.Tables.{AreKeyed, Fares, LiveRules, LiveSeats, MarketHolds, NamesRule}
 use Rattle.fare_book.specs.declared.draft.Draft.{Draft}
 use Rattle.fare_book.specs.declared.draft.Stop.{Stop}
@@ -61,7 +56,7 @@ pub record FaresKept {Z : Type 0} (fare : Fares) (rule : LiveRules) (changed : L
   pub keyed : AreKeyed fare
 
 -- the live rules but 0, and how many they are
-pub record RulesKept {Z : Type 0} (rule : LiveRules) (rules : List (RuleKey × Arc Rule Z)) (count : ℕ) : Type 0 where
+pub record RulesKept (rule : LiveRules) (rules : List (RuleKey × Rule)) (count : ℕ) : Type 0 where
   pub rules_are : (k : RuleKey) → k.number ≢ 0 → rule_at rules k ≡ rule k.carrier k.number
   pub counted : Exactly count (λ (k : Carrier × ℕ). (k.1 ≢ 0) × IsSome (rule k.0 k.1))
   pub few : count ≤ 2000

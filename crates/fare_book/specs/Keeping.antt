@@ -12,9 +12,8 @@ use Rattle.fare_law.specs.declared.filings.SeatKey.{SeatKey}
 use Rattle.fare_law.specs.Book.{Book, live_fare, live_rule, live_seats}
 use Rattle.fare_law.specs.Faults.{Legal}
 use Rattle.fare_law.specs.FilingLimits.{IsFiling}
-use Rattle.fare_law.specs.Limits.{IsFare}
+use Rattle.fare_law.specs.Limits.{IsFare, HasKeys}
 use Rattle.fare_law.specs.Lists.{Each}
-use Rattle.fare_law.specs.Order.{HasKeys}
 use Rattle.fare_law.specs.RuleLimits.{IsRule}
 use Rattle.fare_law.specs.Sheets.{Sheet, SheetOf}
 use Rattle.fare_book.specs.Counts.{AtMost, Exactly}
@@ -56,13 +55,13 @@ module _ {Z : Type 0} where
   abbrev pub Sheets : Book → List (Market × Arc Sheet Z) → Type 0
   Sheets b sheets = (m : Market) → MatchOption (sheet_at sheets m) (NoFare b m.from m.to) (SheetOf b m.from m.to)
 
-  -- the rule of a carrier and a number
-  abbrev pub rule_at : List (RuleKey × Arc Rule Z) → RuleKey → Option Rule
-  rule_at rules key = option_map arc_value (lookup (same_rule key) rules)
+-- the rule of a carrier and a number
+abbrev pub rule_at : List (RuleKey × Rule) → RuleKey → Option Rule
+rule_at rules key = lookup (same_rule key) rules
 
-  -- each carrier and number, not 0, has its live rule
-  abbrev pub Rules : Book → List (RuleKey × Arc Rule Z) → Type 0
-  Rules b rules = (k : RuleKey) → k.number ≢ 0 → rule_at rules k ≡ live_rule b k.carrier k.number
+-- each carrier and number, not 0, has its live rule
+abbrev pub Rules : Book → List (RuleKey × Rule) → Type 0
+Rules b rules = (k : RuleKey) → k.number ≢ 0 → rule_at rules k ≡ live_rule b k.carrier k.number
 
 -- how many fares name a rule
 abbrev pub uses_at : List (RuleKey × ℕ) → RuleKey → ℕ
@@ -85,7 +84,7 @@ pub record Counted (b : Book) (fare_count rule_count : ℕ) (use_counts : List (
   pub stand : RulesStand b
 
 -- what a book keeps beside its filings
-pub record Keeps {Z : Type 0} (b : Book) (sheets : List (Market × Arc Sheet Z)) (rules : List (RuleKey × Arc Rule Z)) (uses : List (RuleKey × ℕ)) (fare_count rule_count : ℕ) (seats : List (SeatKey × List ℕ)) : Type 0 where
+pub record Keeps {Z : Type 0} (b : Book) (sheets : List (Market × Arc Sheet Z)) (rules : List (RuleKey × Rule)) (uses : List (RuleKey × ℕ)) (fare_count rule_count : ℕ) (seats : List (SeatKey × List ℕ)) : Type 0 where
   pub history : History b
   pub sheets_are : Sheets b sheets
   pub rules_are : Rules b rules

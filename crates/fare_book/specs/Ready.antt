@@ -17,19 +17,18 @@ use Rattle.fare_book.specs.declared.keys.RuleKey.{RuleKey}
 abbrev pub IsRight : Book → Market → Option Sheet → Type 0
 IsRight b m sheet = MatchOption sheet (NoFare b m.from m.to) (SheetOf b m.from m.to)
 
-module _ {Z : Type 0} where
-  -- the rules that the live fares name are these, and there are at most 20,000 fares
-  pub record Ruled (b : Book) (rules : List (RuleKey × Arc Rule Z)) : Type 0 where
-    pub rules_are : Rules b rules
-    pub stand : RulesStand b
-    pub few : AtMost 20000 (IsLive b)
+-- the rules that the live fares name are these, and there are at most 20,000 fares
+pub record Ruled (b : Book) (rules : List (RuleKey × Rule)) : Type 0 where
+  pub rules_are : Rules b rules
+  pub stand : RulesStand b
+  pub few : AtMost 20000 (IsLive b)
 
-  -- the table has the live fares of the market
-  pub record MakesSheet (b : Book) (m : Market) (table : List (FareKey × Fare)) (rules : List (RuleKey × Arc Rule Z)) : Type 0 where
-    pub table_is : TableOf (live_fare b) m table
-    pub ruled : Ruled b rules
+-- the table has the live fares of the market
+pub record MakesSheet (b : Book) (m : Market) (table : List (FareKey × Fare)) (rules : List (RuleKey × Rule)) : Type 0 where
+  pub table_is : TableOf (live_fare b) m table
+  pub ruled : Ruled b rules
 
-  -- each market has its table or its sheet
-  pub record Ready (b : Book) (sheets : List (Market × Arc Sheet Z)) (tables : List (Market × BTreeMap FareKey Fare)) (rules : List (RuleKey × Arc Rule Z)) : Type 0 where
-    pub markets : (m : Market) → MarketHolds (live_fare b) (live_rule b) [] sheets tables m
-    pub ruled : Ruled b rules
+-- each market has its table or its sheet
+pub record Ready {Z : Type 0} (b : Book) (sheets : List (Market × Arc Sheet Z)) (tables : List (Market × BTreeMap FareKey Fare)) (rules : List (RuleKey × Rule)) : Type 0 where
+  pub markets : (m : Market) → MarketHolds (live_fare b) (live_rule b) [] sheets tables m
+  pub ruled : Ruled b rules

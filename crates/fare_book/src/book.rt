@@ -13,7 +13,7 @@ mod next;
 use crate::Timetable;
 use crate::keys::{Market, RuleKey};
 use crate::rows::row_of;
-use fare_law::{FareKey, Filing, List, MarketSheet, Mem, Place, Rule, SheetRow};
+use fare_law::{FareKey, Filing, List, MarketSheet, Mem, Place, Rule, Shared, SheetRow};
 use seat_classes::{Seats, live_rows_seat_flights};
 use std::alloc::Global;
 use std::collections::HashMap;
@@ -27,7 +27,7 @@ pub struct Book {
     timetable: Arc<Timetable>,
     entries: List<Arc<Filing>>,
     sheets: HashMap<Market, Arc<MarketSheet>>,
-    rules: HashMap<RuleKey, Arc<Rule>>,
+    rules: HashMap<RuleKey, Shared<Rule>>,
     /// How many live fares name each rule.
     uses: HashMap<RuleKey, u32>,
     seats: Arc<Seats>,

@@ -3,7 +3,7 @@ ghost use Rattle.std.specs.Prelude.{◌≡◌};
 ghost use Rattle.fare_book.specs.declared.draft.Stop.TheVariants.{Mem as OutOfMemory};
 
 use crate::keys::{Market, RuleKey};
-use fare_law::{BookWhy, Fare, FareKey, MarketSheet, Rule};
+use fare_law::{BookWhy, Fare, FareKey, MarketSheet, Rule, Shared};
 use seat_classes::Seats;
 use std::alloc::{AllocError, AllocFailed};
 use std::collections::{BTreeMap, HashMap, HashSet};
@@ -15,7 +15,7 @@ use std::sync::Arc;
 pub struct Draft {
     pub sheets: HashMap<Market, Arc<MarketSheet>>,
     pub tables: HashMap<Market, BTreeMap<FareKey, Fare>>,
-    pub rules: HashMap<RuleKey, Arc<Rule>>,
+    pub rules: HashMap<RuleKey, Shared<Rule>>,
     /// The rules that are put or dropped.
     pub changed: HashSet<RuleKey>,
     /// How many live fares name each rule.

@@ -12,10 +12,9 @@ use crate::draft::{Draft, Stop};
 use crate::keys::RuleKey;
 use crate::tables::{remove_fare, replace_fare};
 use crate::uses::{count_use, forget_use};
-use fare_law::{BookWhy, Fare, FareKey, FareKind, Rule};
+use fare_law::{BookWhy, Fare, FareKey, FareKind, Rule, Shared};
 use std::alloc::Global;
 use std::collections::HashMap;
-use std::sync::Arc;
 
 /// How many live fares there may be.
 const MOST: u32 = 20_000;
@@ -64,7 +63,7 @@ pub fn drop_fare(draft: &mut Draft, alloc: Global, key: &FareKey) -> Result<(), 
 }
 
 /// The first fault of a fare that is put, but for want of room.
-fn fare_fault(rules: &HashMap<RuleKey, Arc<Rule>>, fare: &Fare) -> Option<BookWhy>
+fn fare_fault(rules: &HashMap<RuleKey, Shared<Rule>>, fare: &Fare) -> Option<BookWhy>
     ensures { (b : Version) → Rules b rules.now.entries → MatchOption result (OnlyLimit b fare.now) (FaultOf b (PutFare fare.now)) }
 {
     if fare.key.from.is(fare.key.to) {
@@ -89,7 +88,7 @@ fn is_odd_round(fare: &Fare) -> bool
 }
 
 /// Whether a rule is live. Rule 0 is of each carrier.
-pub fn has_rule(rules: &HashMap<RuleKey, Arc<Rule>>, rule: RuleKey) -> bool
+pub fn has_rule(rules: &HashMap<RuleKey, Shared<Rule>>, rule: RuleKey) -> bool
     ensures { (b : Version) → Rules b rules.now.entries → IsTrue result ↔ IsSome (live_rule b rule.carrier rule.number) }
 {
     if rule.number == 0 {

@@ -8,6 +8,7 @@ mod draft;
 mod fare_actions;
 mod faults;
 mod keys;
+mod laws;
 mod rows;
 mod rule_actions;
 mod rules;
@@ -20,5 +21,6 @@ mod uses;
 
 pub use book::Book;
 pub use faults::BookFault;
+pub use laws::{one_fault_of_filings, one_fault_of_seats};
 pub use rules::copied_rule;
 pub use timetable::Timetable;

@@ -11,12 +11,9 @@ ghost use Rattle.fare_book.specs.declared.keys.RuleKey.{RuleKey as RuleName};
 use crate::draft::{Draft, Stop};
 use crate::fare_actions::has_rule;
 use crate::keys::RuleKey;
-use crate::rules::copied_rule;
 use crate::uses::uses_of;
-use fare_law::{BookWhy, Carrier, Mem, Rule};
-use std::alloc::Global;
+use fare_law::{BookWhy, Carrier, Mem, Rule, Shared};
 use std::collections::{HashMap, HashSet};
-use std::sync::Arc;
 
 /// How many live rules there may be.
 const MOST: u32 = 2_000;
@@ -24,23 +21,22 @@ const MOST: u32 = 2_000;
 /// Puts a rule in place of that of its carrier and number.
 pub fn put_rule(
     draft: &mut Draft,
-    alloc: Global,
     carrier: Carrier,
     number: u16,
-    rule: &Rule,
+    rule: &Shared<Rule>,
 ) -> Result<(), Stop>
     requires { IsAction (PutRule carrier number rule.now) }
     ensures { Acts (PutRule carrier number rule.now) draft.old draft.new result }
 {
     let key = RuleKey { carrier, number };
     if has_rule(&draft.rules, key) {
-        set_rule(alloc, &mut draft.rules, &mut draft.changed, key, rule)?;
+        set_rule(&mut draft.rules, &mut draft.changed, key, rule)?;
         return Ok(());
     }
     if draft.rule_count >= MOST {
         return Err(Stop::Fault(BookWhy::Limit));
     }
-    set_rule(alloc, &mut draft.rules, &mut draft.changed, key, rule)?;
+    set_rule(&mut draft.rules, &mut draft.changed, key, rule)?;
     draft.rule_count += 1;
     Ok(())
 }
@@ -63,23 +59,22 @@ pub fn drop_rule(draft: &mut Draft, carrier: Carrier, number: u16) -> Result<(),
 }
 
 fn set_rule(
-    alloc: Global,
-    rules: &mut HashMap<RuleKey, Arc<Rule>>,
+    rules: &mut HashMap<RuleKey, Shared<Rule>>,
     changed: &mut HashSet<RuleKey>,
     key: RuleKey,
-    rule: &Rule,
+    rule: &Shared<Rule>,
 ) -> Result<(), Mem>
     ensures rules { OnOk result ((q : RuleName) → rule_at rules.new.entries q ≡ (if same_rule q key then Some rule.now else rule_at rules.old.entries q)) }
     ensures changed { OnOk result ((q : RuleName) → list_any (same_rule q) changed.new.keys ≡ (if same_rule q key then true else list_any (same_rule q) changed.old.keys)) }
 {
-    let rule = Arc::new(alloc, copied_rule(rule))?;
+    let rule = rule.share()?;
     rules.insert(key, rule)?;
     changed.insert(key)?;
     Ok(())
 }
 
 fn unset_rule(
-    rules: &mut HashMap<RuleKey, Arc<Rule>>,
+    rules: &mut HashMap<RuleKey, Shared<Rule>>,
     changed: &mut HashSet<RuleKey>,
     key: RuleKey,
 ) -> Result<(), Mem>

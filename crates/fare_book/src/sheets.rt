@@ -13,9 +13,8 @@ ghost use Rattle.fare_book.specs.declared.keys.RuleKey.{RuleKey as RuleName};
 
 use crate::fare_actions::rule_of;
 use crate::keys::{Market, RuleKey};
-use crate::rules::copied_rule;
 use crate::tables::take_table;
-use fare_law::{Fare, FareKey, List, MarketSheet, Mem, Rule, SheetRow};
+use fare_law::{Fare, FareKey, List, MarketSheet, Mem, Rule, Shared, SheetRow};
 use std::alloc::Global;
 use std::collections::{BTreeMap, HashMap, HashSet};
 use std::sync::Arc;
@@ -81,7 +80,7 @@ pub fn place_tables(
     alloc: Global,
     sheets: &mut HashMap<Market, Arc<MarketSheet>>,
     tables: &HashMap<Market, BTreeMap<FareKey, Fare>>,
-    rules: &HashMap<RuleKey, Arc<Rule>>,
+    rules: &HashMap<RuleKey, Shared<Rule>>,
 ) -> Result<(), Mem>
     requires { (b : Version) × Ready b sheets.old.entries tables.now.entries rules.now.entries }
     ensures { OnOk result ((b : Version) → Ready b sheets.old.entries tables.now.entries rules.now.entries → Sheets b sheets.new.entries) }
@@ -98,7 +97,7 @@ fn place_table(
     sheets: &mut HashMap<Market, Arc<MarketSheet>>,
     market: Market,
     table: &BTreeMap<FareKey, Fare>,
-    rules: &HashMap<RuleKey, Arc<Rule>>,
+    rules: &HashMap<RuleKey, Shared<Rule>>,
 ) -> Result<(), Mem>
     requires { (b : Version) × MakesSheet b market table.now.entries rules.now.entries }
     ensures right { OnOk result ((b : Version) → MakesSheet b market table.now.entries rules.now.entries → IsRight b market (sheet_at sheets.new.entries market)) }
@@ -119,15 +118,16 @@ fn sheet_of(
     alloc: Global,
     market: Market,
     table: &BTreeMap<FareKey, Fare>,
-    rules: &HashMap<RuleKey, Arc<Rule>>,
+    rules: &HashMap<RuleKey, Shared<Rule>>,
 ) -> Result<MarketSheet, Mem>
     requires some { table.now.entries ≢ [] }
     requires made { (b : Version) × MakesSheet b market table.now.entries rules.now.entries }
     ensures { IfOk result (λ s. (b : Version) → MakesSheet b market table.now.entries rules.now.entries → SheetOf b market.from market.to s) }
 {
+    let free = Shared::new(alloc, free_rule())?;
     let mut rows = List::new(alloc);
     for (_, fare) in table {
-        let rule = rule_for(rules, fare);
+        let rule = rule_for(rules, &free, fare).share()?;
         rows.push(SheetRow {
             fare: fare.copied(),
             rule,
@@ -136,16 +136,21 @@ fn sheet_of(
     MarketSheet::of(alloc, market.from, market.to, rows)
 }
 
-/// The live rule of a live fare.
-fn rule_for(rules: &HashMap<RuleKey, Arc<Rule>>, fare: &Fare) -> Rule
-    ensures { (b : Version) → Rules b rules.now.entries → IsSome (live_rule b fare.now.key.carrier fare.now.rule) → live_rule b fare.now.key.carrier fare.now.rule ≡ Some result }
+/// The live rule of a live fare, where the rule with no category is given.
+fn rule_for<'a>(
+    rules: &'a HashMap<RuleKey, Shared<Rule>>,
+    free: &'a Shared<Rule>,
+    fare: &Fare,
+) -> &'a Shared<Rule>
+    requires { free.now ≡ free_rule }
+    ensures { (b : Version) → Rules b rules.now.entries → IsSome (live_rule b fare.now.key.carrier fare.now.rule) → live_rule b fare.now.key.carrier fare.now.rule ≡ Some result.now }
 {
     if fare.rule == 0 {
-        return free_rule();
+        return free;
     }
     match rules.get(&rule_of(fare)) {
-        Some(rule) => copied_rule(rule),
-        None => free_rule(),
+        Some(rule) => rule,
+        None => free,
     }
 }
 

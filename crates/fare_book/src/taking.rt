@@ -49,7 +49,7 @@ fn act(draft: &mut Draft, alloc: Global, action: &Action) -> Result<(), Stop>
     match action {
         Action::PutFare(fare) => put_fare(draft, alloc, fare),
         Action::DropFare(key) => drop_fare(draft, alloc, key),
-        Action::PutRule(carrier, number, rule) => put_rule(draft, alloc, *carrier, *number, rule),
+        Action::PutRule(carrier, number, rule) => put_rule(draft, *carrier, *number, rule),
         Action::DropRule(carrier, number) => drop_rule(draft, *carrier, *number),
         Action::PutSeats(key, seats) => put_seats(draft, alloc, key, seats),
         Action::DropSeats(key) => drop_seats(draft, alloc, key),

@@ -8,7 +8,7 @@ use Rattle.fare_law.specs.Sheets.{Sheet}
 use Rattle.fare_component.specs.declared.offer.Offer.{Offer}
 use Rattle.fare_component.specs.declared.offer.OfferRows.{OfferRows}
 use Rattle.fare_component.specs.Keys.{asked}
-use Rattle.fare_component.specs.Offers.{HasOneList, SameOffers, StandsBefore}
+use Rattle.fare_component.specs.Offers.{HasNoOffers, HasOneList, OffersNothing, SameOffers, StandsBefore}
 use Rattle.fare_component.proofs.Listed.{each_in, each_weaker}
 
 -- all further offers stand behind the first
@@ -59,3 +59,6 @@ same_offers one other e offers h = record {
   ascending = h.ascending;
   exact = λ o. (λ i. offer_moved one other e o.place o.price ((h.exact o).0 i), λ i. (h.exact o).1 (offer_moved other one (sym e) o.place o.price i));
 }
+
+pub no_offers : (key : OfferKey) → OffersNothing key → HasNoOffers (asked key)
+no_offers key none other e place price h = none place price (offer_moved other key e place price h)

@@ -5,7 +5,7 @@ use Rattle.fare_law.specs.Lists.{EachPair, IsIn}
 use Rattle.fare_law.specs.Offers.{IsOffer}
 use Rattle.fare_component.specs.declared.offer.Offer.{Offer}
 use Rattle.fare_component.specs.declared.offer.OfferRows.{OfferRows}
-use Rattle.fare_component.specs.Keys.{IsKey, asked}
+use Rattle.fare_component.specs.Keys.{Asked, IsKey, asked}
 
 abbrev pub StandsBefore : Offer → Offer → Type 0
 StandsBefore one other = one.place < other.place
@@ -26,3 +26,11 @@ SameOffers one other = asked one ≡ asked other → (offers : OfferRows) → Ar
 -- no price is above the greatest amount with the greatest charges
 abbrev pub HasLowPrices : OfferKey → Type 0
 HasLowPrices key = IsKey key → (place price : ℕ) → IsOffer key place price → price ≤ 1035000000
+
+-- the key has no offer
+abbrev pub OffersNothing : OfferKey → Type 0
+OffersNothing key = (place price : ℕ) → IsOffer key place price → ⊥
+
+-- no key that asks for this has an offer
+abbrev pub HasNoOffers : Asked → Type 0
+HasNoOffers a = (key : OfferKey) → asked key ≡ a → OffersNothing key

@@ -8,11 +8,9 @@ mod laws;
 mod list;
 mod offer;
 mod source;
-#[cfg(test)]
-mod tests;
 
 pub use component::is_offered;
-pub use laws::{one_list, prices_are_low, same_offers};
+pub use laws::{no_offers, one_list, prices_are_low, same_offers};
 pub use list::offers;
 pub use offer::{Offer, OfferRows};
 pub use source::{OfferSource, Plain};

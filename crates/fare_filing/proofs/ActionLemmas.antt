@@ -8,8 +8,8 @@ use Rattle.fare_law.specs.Lists.{Each}
 use Rattle.fare_law.specs.declared.filings.Action.{Action}
 use Rattle.rule_text.specs.Members.{item_count}
 use Rattle.fare_filing.specs.declared.fault.FilingFault.{FilingFault}
-use Rattle.fare_filing.specs.declared.fault.FilingFault.TheVariants.{Shape}
-use Rattle.fare_filing.specs.Reading.{action_spelled, actions_from, few_actions, then_rest}
+use Rattle.fare_filing.specs.declared.fault.FilingFault.TheVariants.{Syntax, Shape, Rule, Mem}
+use Rattle.fare_filing.specs.Reading.{Tells, action_spelled, actions_from, few_actions, then_rest}
 
 -- actions that stand before the others
 abbrev pub after : List Action → Result (List Action) FilingFault → Result (List Action) FilingFault
@@ -38,11 +38,19 @@ actions_more front a vs i n d l item at e h =
     subst (λ k. after (front ++ a ∷ []) (left vs k) ≡ left vs 0) (sym (add-one i))
     (after_push front a (left vs (suc i)) ∙ ap (after front) (ap (λ r. then_rest r (left vs (suc i))) (sym one) ∙ sym (left_is vs i d l)) ∙ h)
 
-pub actions_bad : (front : List Action) (fault : FilingFault) (vs : List Value) (i n : ℕ) (d : Value) → i < length vs → n ≡ i + 1 → action_spelled n (view (get_or vs i d)) ≡ Err fault
+actions_bad : (front : List Action) (fault : FilingFault) (vs : List Value) (i n : ℕ) (d : Value) → i < length vs → n ≡ i + 1 → action_spelled n (view (get_or vs i d)) ≡ Err fault
     → after front (left vs i) ≡ left vs 0 → left vs 0 ≡ Err fault
 actions_bad front fault vs i n d l at e h =
     let one = subst (λ k. action_spelled k (view (get_or vs i d)) ≡ Err fault) (at ∙ add-one i) e in
     sym h ∙ ap (after front) (left_is vs i d l ∙ ap (λ r. then_rest r (left vs (suc i))) one)
+
+-- a fault of one action, or want of memory, is what is told
+pub actions_stop : (front : List Action) (fault : FilingFault) (vs : List Value) (i n : ℕ) (d : Value) → i < length vs → n ≡ i + 1 → Tells {A = Action} (Err fault) (action_spelled n (view (get_or vs i d)))
+    → after front (left vs i) ≡ left vs 0 → Tells {A = List Action} (Err fault) (left vs 0)
+actions_stop front Mem vs i n d l at e h = tt
+actions_stop front Syntax vs i n d l at e h = actions_bad front Syntax vs i n d l at e h
+actions_stop front (Shape action) vs i n d l at e h = actions_bad front (Shape action) vs i n d l at e h
+actions_stop front (Rule action fault) vs i n d l at e h = actions_bad front (Rule action fault) vs i n d l at e h
 
 pub actions_all : (front : List Action) (vs : List Value) (i : ℕ) → length vs ≤ i → after front (left vs i) ≡ left vs 0 → left vs 0 ≡ Ok front
 actions_all front vs i l h = sym h ∙ ap (λ ys. after front (actions_from (suc i) (items_view ys))) (drop_all i vs l) ∙ ap Ok (append-nil front)
@@ -52,7 +60,15 @@ pub each_more : {A : Type 0} (P : A → Type 0) (front : List A) (a : A) → Eac
 each_more P [] a h p = (p, tt)
 each_more P (x ∷ xs) a h p = (h.0, each_more P xs a h.1 p)
 
-pub ruleset action_steps = (after_none, actions_more, actions_bad, actions_all, each_more)
+pub ruleset action_steps = (after_none, actions_more, actions_stop, actions_all, each_more)
+
+-- what is told as it is
+pub told_is : {A : Type 0} (r told : Result A FilingFault) → told ≡ r → Tells r told
+told_is (Ok a) told e = e
+told_is (Err Mem) told e = tt
+told_is (Err Syntax) told e = e
+told_is (Err (Shape action)) told e = e
+told_is (Err (Rule action fault)) told e = e
 
 -- how many actions there are
 

@@ -10,7 +10,7 @@ use Rattle.serde_json.specs.Read.{read}
 use Rattle.fare_law.specs.FilingLimits.{IsAction, IsFiling, IsRuleNumber}
 use Rattle.fare_law.specs.Limits.{AreSeats, IsFare, IsFareKey, IsSeatKey}
 use Rattle.fare_law.specs.Lists.{Each}
-use Rattle.fare_law.specs.Order.{IsCarrier}
+use Rattle.fare_law.specs.Names.{IsCarrier}
 use Rattle.fare_law.specs.declared.fares.Fare.{Fare}
 use Rattle.fare_law.specs.declared.fares.FareKey.{FareKey}
 use Rattle.fare_law.specs.declared.fares.FareKind.{FareKind}

@@ -5,9 +5,10 @@ ghost use Rattle.fare_law.specs.FilingLimits.{IsAction, IsRuleNumber};
 ghost use Rattle.fare_law.specs.Limits.{IsSeatKey};
 ghost use Rattle.fare_filing.specs.Actions as Actions;
 ghost use Rattle.fare_filing.specs.Reading as Reading;
+ghost use Rattle.fare_filing.specs.Reading.{Tells};
 
 use crate::FilingFault;
-use fare_law::{Action, SeatKey};
+use fare_law::{Action, SeatKey, Shared};
 use json_form::{between_at, carrier_at, has_members, place_at, read_fare, read_fare_key, text_at};
 use name_text::{seat_day_of, seats_of};
 use rule_text::read_rule;
@@ -15,8 +16,9 @@ use serde_json::Value;
 use std::alloc::Global;
 
 /// The action that a value spells, or its fault under the action's number.
+#[tactic(auto, using(crate::proofs::ActionLemmas::told_is))]
 pub fn read_action(alloc: Global, value: &Value, action: u32) -> Result<Action, FilingFault>
-    ensures action { result ≡ Reading.action_spelled action (view value.now) }
+    ensures action { Tells result (Reading.action_spelled action (view value.now)) }
     ensures limits { IfOk result IsAction }
 {
     let shape = FilingFault::Shape { action };
@@ -31,14 +33,17 @@ pub fn read_action(alloc: Global, value: &Value, action: u32) -> Result<Action, 
 
 // The action that puts a rule. A bad carrier or number comes before the rule's own faults.
 fn put_rule(alloc: Global, value: &Value, action: u32) -> Result<Action, FilingFault>
-    ensures action { result ≡ Reading.put_rule action (view value.now) }
+    ensures action { Tells result (Reading.put_rule action (view value.now)) }
     ensures limits { IfOk result IsAction }
 {
     let shape = FilingFault::Shape { action };
     let carrier = carrier_at(value, "carrier").ok_or(shape)?;
     let number = rule_number(value).ok_or(shape)?;
     match read_rule(alloc, value) {
-        Ok(rule) => Ok(Action::PutRule(carrier, number, rule)),
+        Ok(rule) => {
+            let rule = Shared::new(alloc, rule)?;
+            Ok(Action::PutRule(carrier, number, rule))
+        }
         Err(fault) => Err(FilingFault::Rule { action, fault }),
     }
 }

@@ -10,8 +10,6 @@ mod reading;
 mod rows;
 mod rules;
 mod seats;
-#[cfg(test)]
-mod tests;
 mod text;
 mod values;
 

@@ -2,7 +2,7 @@
 ghost use Rattle.std.specs.Prelude.{◌≡◌, IfOk};
 ghost use Rattle.serde_json.specs.View.{view};
 ghost use Rattle.fare_law.specs.FilingLimits.{IsRuleNumber};
-ghost use Rattle.fare_law.specs.Order.{IsCarrier};
+ghost use Rattle.fare_law.specs.Names.{IsCarrier};
 ghost use Rattle.fare_law.specs.RuleLimits.{IsRule};
 ghost use Rattle.fare_filing.specs.Text as Text;
 ghost use Rattle.fare_filing.specs.Text.{WritesRule};

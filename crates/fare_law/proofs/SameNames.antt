@@ -1,20 +1,15 @@
--- Equality of places, carriers and fare bases is what their derived test says.
+-- Equality of places and carriers is what their derived test says.
 use Rattle.std.proofs.Common.{◌≡◌, ap}
 use Rattle.std.specs.Bool.{Decides}
 use Rattle.std.proofs.lemmas.Bool.Decides.{Decides-like}
 use Rattle.std.proofs.lemmas.Slice.Eq.{bytes_eq-Decides}
 use Rattle.fare_law.specs.declared.names.Place.{Place}
 use Rattle.fare_law.specs.declared.names.Carrier.{Carrier}
-use Rattle.fare_law.specs.declared.names.Basis.{Basis}
 use Rattle.fare_law.specs.contracts.names.PlacePartialEq.TheImpl as place
 use Rattle.fare_law.specs.contracts.names.CarrierPartialEq.TheImpl as carrier
-use Rattle.fare_law.specs.contracts.names.BasisPartialEq.TheImpl as basis
 
 pub place_tells : (a b : Place) → Decides (place.ghosts.eq a b) (a ≡ b)
 place_tells a b = Decides-like _ (λ h. ap {B = Place} (λ x. record { 0 = x }) h) (λ e. ap (λ p. p.0) e) (bytes_eq-Decides a.0 b.0)
 
 pub carrier_tells : (a b : Carrier) → Decides (carrier.ghosts.eq a b) (a ≡ b)
 carrier_tells a b = Decides-like _ (λ h. ap {B = Carrier} (λ x. record { 0 = x }) h) (λ e. ap (λ p. p.0) e) (bytes_eq-Decides a.0 b.0)
-
-pub basis_tells : (a b : Basis) → Decides (basis.ghosts.eq a b) (a ≡ b)
-basis_tells a b = Decides-like _ (λ h. ap {B = Basis} (λ x. record { 0 = x }) h) (λ e. ap (λ p. p.0) e) (bytes_eq-Decides a.0 b.0)

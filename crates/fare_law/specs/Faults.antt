@@ -10,11 +10,7 @@ use Rattle.fare_law.specs.declared.fares.FareKey.{FareKey}
 use Rattle.fare_law.specs.declared.fares.FareKind.TheVariants.{R}
 use Rattle.fare_law.specs.declared.filings.Filing.{Filing}
 use Rattle.fare_law.specs.Book.{Book, Timetable, live_fare, live_rule, live_seats}
-use Rattle.fare_law.specs.Lists.{Each, AllDifferent}
-
--- a book has at least n live things of a kind: n keys that are all different, each live
-abbrev pub HasMany : {K : Type 0} → ℕ → (K → Type 0) → Type 0
-HasMany {K} n Live = (keys : List K) × (length keys ≡ n) × AllDifferent keys × Each Live keys
+use Rattle.fare_law.specs.Lists.{HasMany}
 
 -- the reason that an action has in this book, with those before it tested first
 abbrev pub Why : Book → Action → BookWhy → Type 0

@@ -6,7 +6,7 @@ use Rattle.fare_law.specs.declared.filings.Action.TheVariants.{PutFare, DropFare
 use Rattle.fare_law.specs.declared.filings.Filing.{Filing}
 use Rattle.fare_law.specs.Limits.{AreSeats, IsFare, IsFareKey, IsSeatKey}
 use Rattle.fare_law.specs.Lists.{Each}
-use Rattle.fare_law.specs.Order.{IsCarrier}
+use Rattle.fare_law.specs.Names.{IsCarrier}
 use Rattle.fare_law.specs.RuleLimits.{IsRule}
 
 -- the number of a rule that may be put and dropped: 1 to 9999

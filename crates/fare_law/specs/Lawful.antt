@@ -1,28 +1,15 @@
 -- A lawful ticket.
 use Rattle.std.specs.Prelude.{◌≡◌, ◌≢◌, ◌⊎◌, ℕ, suc, Bool, true, false, ◌||◌, ◌==◌, ◌≤◌, ◌<◌, List, [], ◌∷◌, ◌++◌, map, flat_map, filter, IfSome}
-use Rattle.fare_law.specs.declared.tickets.Component.{Component}
 use Rattle.fare_law.specs.declared.rules.EndOnEnd.{EndOnEnd}
 use Rattle.fare_law.specs.declared.rules.EndOnEnd.TheVariants.{Free, SameCarrier, Never}
-use Rattle.fare_law.specs.declared.flights.Flight.{Flight}
 use Rattle.fare_law.specs.declared.tickets.Piece.{Piece}
 use Rattle.fare_law.specs.declared.requests.Request.{Request}
 use Rattle.fare_law.specs.declared.tickets.Ticket.{Ticket}
 use Rattle.fare_law.specs.Book.{Book}
 use Rattle.fare_law.specs.Journey.{Itinerary}
 use Rattle.fare_law.specs.Lists.{Each, Matched}
-use Rattle.fare_law.specs.Parts.{Numbers, StandsFor, ComponentLawful}
+use Rattle.fare_law.specs.Parts.{Part, IsPart, ComponentLawful}
 use Rattle.fare_law.specs.Units.{UnitLawful}
-
--- a component with its flights, what it is to its unit, and the label of that
-pub record Part : Type 0 where
-  pub flights : List Flight
-  pub piece : Piece
-  pub unit : ℕ
-
-pub record IsPart (b : Book) (q : Request) (c : Component) (part : Part) : Type 0 where
-  pub flights : Numbers b c.flights part.flights
-  pub stands : StandsFor b q.sale c.fare part.flights part.piece
-  pub unit : part.unit ≡ c.unit
 
 -- whether the label u stands among these
 abbrev pub comes_in : ℕ → List ℕ → Bool

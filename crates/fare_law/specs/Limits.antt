@@ -1,5 +1,5 @@
 -- The characters and numbers of names, of a timetable's rows, of fares and of requests.
-use Rattle.std.specs.Prelude.{◌≢◌, ℕ, ◌≤◌, ◌≡◌, List, length, slice_index, IfSome}
+use Rattle.std.specs.Prelude.{◌≢◌, ℕ, ◌≤◌, ◌≡◌, List, length, slice_index, IfSome, Some}
 use Rattle.std.specs.Int.{IsInRange}
 use Rattle.fare_law.specs.declared.fares.Fare.{Fare}
 use Rattle.fare_law.specs.declared.fares.FareKey.{FareKey}
@@ -11,10 +11,10 @@ use Rattle.fare_law.specs.declared.requests.Slice.{Slice}
 use Rattle.fare_law.specs.declared.rows.FlightRow.{FlightRow}
 use Rattle.fare_law.specs.declared.rows.PlaceRow.{PlaceRow}
 use Rattle.fare_law.specs.declared.rows.SeatRow.{SeatRow}
-use Rattle.fare_law.specs.Book.{row_key}
+use Rattle.fare_law.specs.Book.{Book, live_fare, row_key}
 use Rattle.fare_law.specs.Days.{IsCalendarDay, IsInstant, IsMinute, IsOffset, IsShift}
 use Rattle.fare_law.specs.Lists.{Each}
-use Rattle.fare_law.specs.Order.{IsBasis, IsCarrier}
+use Rattle.fare_law.specs.Names.{IsBasis, IsCarrier}
 
 abbrev pub IsCapital : ℕ → Type 0
 IsCapital c = (65 ≤ c) × (c ≤ 90)
@@ -37,6 +37,10 @@ pub record IsFareKey (key : FareKey) : Type 0 where
   pub from : IsPlace key.from
   pub to : IsPlace key.to
   pub basis : IsBasis key.basis
+
+-- the keys of the live fares are of their forms
+abbrev pub HasKeys : Book → Type 0
+HasKeys b = (key : FareKey) (fare : Fare) → live_fare b key ≡ Some fare → IsCarrier key.carrier × IsBasis key.basis
 
 -- a fare within its limits
 pub record IsFare (fare : Fare) : Type 0 where

@@ -1,12 +1,28 @@
--- The moves of a ticket, and the code of moves.
-use Rattle.std.specs.Prelude.{ℕ, cond, List, [], ◌∷◌, ◌++◌, length, map}
+-- The moves of a ticket.
+use Rattle.std.specs.Prelude.{ℕ, zero, suc, ◌&&◌, cond, List, [], ◌∷◌, ◌++◌, map, count_by}
 use Rattle.fare_law.specs.declared.moves.Move.{Move}
 use Rattle.fare_law.specs.declared.moves.Role.{Role}
 use Rattle.fare_law.specs.declared.moves.Role.TheVariants.{Alone, Opens, GoesOn, Closes}
 use Rattle.fare_law.specs.declared.tickets.Component.{Component}
 use Rattle.fare_law.specs.declared.tickets.Ticket.{Ticket}
 use Rattle.fare_law.specs.Lawful.{comes_in}
-use Rattle.fare_law.specs.Order.{slot_number, carrier_number, basis_number}
+
+-- the labels 1 to n
+abbrev pub upto : ℕ → List ℕ
+upto zero = []
+upto (suc n) = upto n ++ suc n ∷ []
+
+-- the labels smaller than this one
+abbrev pub labels_below : ℕ → List ℕ
+labels_below zero = []
+labels_below (suc k) = upto k
+
+-- how many units with a smaller label have a component before and one after
+abbrev pub open_below : List ℕ → ℕ → List ℕ → ℕ
+open_below before l after = count_by (λ u. comes_in u before && comes_in u after) (labels_below l)
+
+abbrev pub slot_number : List ℕ → ℕ → List ℕ → ℕ
+slot_number before l after = cond (comes_in l before) (open_below before l after) 0
 
 -- the role and the slot of a component, with the labels before it and after it
 abbrev pub role_of : List ℕ → ℕ → List ℕ → Role
@@ -22,16 +38,3 @@ moves_after before (c ∷ cs) = move_of before c (map (λ d. d.unit) cs) ∷ mov
 
 abbrev pub moves_of : Ticket → List Move
 moves_of t = moves_after [] t.components
-
-abbrev pub role_code : Role → ℕ
-role_code Alone = 0
-role_code Opens = 1
-role_code GoesOn = 2
-role_code Closes = 3
-
-abbrev pub move_code : Move → List ℕ
-move_code m = length m.flights ∷ [] ++ m.flights ++ carrier_number m.carrier ∷ basis_number m.basis ∷ role_code m.role ∷ m.slot ∷ []
-
-abbrev pub run_code : List Move → List ℕ
-run_code [] = []
-run_code (m ∷ ms) = move_code m ++ run_code ms

@@ -1,5 +1,5 @@
 -- Offers: the fares of a sheet that are lawful on the legs of a component, by the tests that look at the component alone.
-use Rattle.std.specs.Prelude.{◌≡◌, ◌⊎◌, ℕ, ◌+◌, List, map, slice_get, All, IsBitSet, Some}
+use Rattle.std.specs.Prelude.{◌≡◌, ◌⊎◌, ℕ, List, map, slice_get, All, IsBitSet, Some}
 use Rattle.fare_law.specs.declared.fares.FareKey.{FareKey}
 use Rattle.fare_law.specs.declared.flights.Flight.{Flight}
 use Rattle.fare_law.specs.declared.market.OfferKey.{OfferKey}
@@ -7,7 +7,7 @@ use Rattle.fare_law.specs.declared.names.Place.{Place}
 use Rattle.fare_law.specs.declared.sheets.Leg.{Leg}
 use Rattle.fare_law.specs.declared.sheets.SheetRow.{SheetRow}
 use Rattle.fare_law.specs.Lists.{OnFirst, OnLast}
-use Rattle.fare_law.specs.Parts.{DayTimeHolds, FlightsHold, StopoversHold, TransfersHold, share, stopover_charge, surcharges}
+use Rattle.fare_law.specs.Parts.{DayTimeHolds, FlightsHold, StopoversHold, TransfersHold, fare_price}
 
 -- the fare is filed from the one place to the other, or the other way round
 abbrev pub FiledBetween : FareKey → Place → Place → Type 0
@@ -31,7 +31,7 @@ pub record IsOffered (legs : List Leg) (row : SheetRow) : Type 0 where
 
 -- what a component of these flights costs with the row's fare
 abbrev pub row_price : List Flight → SheetRow → ℕ
-row_price fs row = share row.fare.kind row.fare.amount + stopover_charge row.rule fs + surcharges row.rule.cat12 fs
+row_price fs row = fare_price fs row.fare row.rule
 
 -- An offer of a key: the place of a row that is offered, counted from 0, and its price.
 pub record IsOffer (key : OfferKey) (place price : ℕ) : Type 0 where

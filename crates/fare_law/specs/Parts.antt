@@ -1,11 +1,14 @@
 -- One component: what it stands for in the book, and the rules that look at it alone.
 use Rattle.std.specs.Prelude.{◌≡◌, ℕ, ℤ, Bool, true, pos, ◌+◌, ◌*◌, ◌/◌, ◌≤◌, ◌+ℤ◌, List, [], ◌∷◌, length, sum_by, All, Any, Contains, IfSome, MatchOption, Option, Some, None, option_map, unwrap_or, MatchBool, cond, int_lt, int_le, nat_le, ◌&&◌}
 use Rattle.fare_law.specs.declared.names.Carrier.{Carrier}
+use Rattle.fare_law.specs.declared.fares.Fare.{Fare}
 use Rattle.fare_law.specs.declared.fares.FareKey.{FareKey}
 use Rattle.fare_law.specs.declared.fares.FareKind.{FareKind}
 use Rattle.fare_law.specs.declared.fares.FareKind.TheVariants.{O, R, S}
 use Rattle.fare_law.specs.declared.flights.Flight.{Flight}
 use Rattle.fare_law.specs.declared.rules.FlightRange.{FlightRange}
+use Rattle.fare_law.specs.declared.requests.Request.{Request}
+use Rattle.fare_law.specs.declared.tickets.Component.{Component}
 use Rattle.fare_law.specs.declared.tickets.Piece.{Piece}
 use Rattle.fare_law.specs.declared.rules.Rule.{Rule}
 use Rattle.fare_law.specs.declared.rules.Surcharge.{Surcharge}
@@ -36,6 +39,17 @@ pub record StandsFor (b : Book) (sale : ℤ) (key : FareKey) (fs : List Flight) 
 -- the flights of these numbers
 abbrev pub Numbers : Book → List ℕ → List Flight → Type 0
 Numbers b ns fs = Matched (λ n f. flight_at b n ≡ Some f) ns fs
+
+-- a component with its flights, what it is to its unit, and the label of that
+pub record Part : Type 0 where
+  pub flights : List Flight
+  pub piece : Piece
+  pub unit : ℕ
+
+pub record IsPart (b : Book) (q : Request) (c : Component) (part : Part) : Type 0 where
+  pub flights : Numbers b c.flights part.flights
+  pub stands : StandsFor b q.sale c.fare part.flights part.piece
+  pub unit : part.unit ≡ c.unit
 
 abbrev pub Seated : Book → ℕ → ℕ → List Flight → Type 0
 Seated b party class fs = All (λ f. party ≤ seats b f class) fs
@@ -101,5 +115,8 @@ abbrev pub surcharges : Option (List Surcharge) → List Flight → ℕ
 surcharges None fs = 0
 surcharges (Some ss) fs = sum_by (λ f. sum_by (λ s. cond (fits s f) s.amount 0) ss) fs
 
+abbrev pub fare_price : List Flight → Fare → Rule → ℕ
+fare_price fs fare rule = share fare.kind fare.amount + stopover_charge rule fs + surcharges rule.cat12 fs
+
 abbrev pub price_of : List Flight → Piece → ℕ
-price_of fs p = share p.fare.kind p.fare.amount + stopover_charge p.rule fs + surcharges p.rule.cat12 fs
+price_of fs p = fare_price fs p.fare p.rule

@@ -4,7 +4,7 @@ use Rattle.std.specs.Int.{IsInRange}
 use Rattle.fare_law.specs.Days.{IsCalendarDay}
 use Rattle.fare_law.specs.Limits.{IsPlace}
 use Rattle.fare_law.specs.Lists.{Each, EachPair}
-use Rattle.fare_law.specs.Order.{IsCarrier}
+use Rattle.fare_law.specs.Names.{IsCarrier}
 use Rattle.fare_law.specs.declared.rules.CombineRule.{CombineRule}
 use Rattle.fare_law.specs.declared.rules.DayRange.{DayRange}
 use Rattle.fare_law.specs.declared.rules.DayTime.{DayTime}

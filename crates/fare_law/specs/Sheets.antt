@@ -4,8 +4,7 @@ use Rattle.fare_law.specs.declared.names.Place.{Place}
 use Rattle.fare_law.specs.declared.rules.DayTime.{DayTime}
 use Rattle.fare_law.specs.declared.sheets.SheetRow.{SheetRow}
 use Rattle.fare_law.specs.Book.{Book, live_fare, live_rule}
-use Rattle.fare_law.specs.Lists.{Each, EachPair, IsIn}
-use Rattle.fare_law.specs.Order.{Less}
+use Rattle.fare_law.specs.Lists.{Each, EachPair, IsIn, Less}
 
 -- the fares that are filed from one place to another
 pub record Sheet : Type 0 where

@@ -1,5 +1,5 @@
 //! Filings: what changes the fares, rules and seats of a book.
-use crate::{Carrier, Fare, FareKey, List, Place, Rule};
+use crate::{Carrier, Fare, FareKey, List, Place, Rule, Shared};
 
 /// What names a seat row: a flight number and, for a dated row, its day.
 #[derive(Clone, Copy, PartialEq, Eq, Hash, Debug)]
@@ -16,7 +16,7 @@ pub struct SeatKey {
 pub enum Action {
     PutFare(Fare),
     DropFare(FareKey),
-    PutRule(Carrier, u16, Rule),
+    PutRule(Carrier, u16, Shared<Rule>),
     DropRule(Carrier, u16),
     /// At most 9 seats in each class, and 0 from the 27th place on.
     PutSeats(SeatKey, [u8; 32]),

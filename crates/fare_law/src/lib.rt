@@ -8,6 +8,7 @@ mod fares;
 mod filings;
 mod flights;
 mod gate;
+mod laws;
 mod list;
 mod market;
 mod mem;
@@ -16,6 +17,7 @@ mod names;
 mod requests;
 mod rows;
 mod rules;
+mod shared;
 mod sheets;
 mod tickets;
 
@@ -24,18 +26,18 @@ pub use fares::{Fare, FareKey, FareKind};
 pub use filings::{Action, BookWhy, Filing, Refused, SeatKey};
 pub use flights::Flight;
 pub use gate::{Gate, NoGate};
+pub use laws::requests_are_judged;
 pub use list::List;
 pub use market::{MarketSheet, OfferKey};
 pub use mem::Mem;
 pub use moves::{Code, Move, Role};
-pub use names::{
-    Basis, Carrier, Class, Place, bases_tell_equal, carriers_tell_equal, places_tell_equal,
-};
+pub use names::{Basis, Carrier, Class, Place};
 pub use requests::{Request, Slice, Why};
 pub use rows::{FlightRow, PlaceRow, SeatRow, TextLine};
 pub use rules::{
     CombineRule, DayRange, DayTime, EndOnEnd, FlightRange, FlightRule, MinStay, Partners, Rule,
     StopRule, Surcharge, TransferRule, TravelRule, UnitKind,
 };
+pub use shared::Shared;
 pub use sheets::{Leg, SheetRow};
 pub use tickets::{Component, Piece, Priced, Ticket};

@@ -1,6 +1,5 @@
 //! Names of the trade: places, carriers, fare bases and booking classes.
 ghost use Rattle.std.specs.Prelude.{◌≡◌, ◌↔◌, IsTrue};
-ghost use Rattle.fare_law.specs.Equality.{TellsEqual};
 
 use crate::ArrayVec;
 
@@ -45,18 +44,3 @@ impl Basis {
         Basis(self.0.copied())
     }
 }
-
-/// `==` tells whether two places are equal.
-pub fn places_tell_equal()
-    ensures { TellsEqual ⟦<Place as PartialEq>⟧.eq }
-{}
-
-/// `==` tells whether two carriers are equal.
-pub fn carriers_tell_equal()
-    ensures { TellsEqual ⟦<Carrier as PartialEq>⟧.eq }
-{}
-
-/// `==` tells whether two bases are equal.
-pub fn bases_tell_equal()
-    ensures { TellsEqual ⟦<Basis as PartialEq>⟧.eq }
-{}

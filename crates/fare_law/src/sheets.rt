@@ -1,11 +1,11 @@
 //! What a sheet has for each fare, and what an offer is asked by.
-use crate::{Fare, Flight, Rule};
+use crate::{Fare, Flight, Rule, Shared};
 
 /// A live fare with its rule.
 #[derive(PartialEq, Eq, Debug, Drop)]
 pub struct SheetRow {
     pub fare: Fare,
-    pub rule: Rule,
+    pub rule: Shared<Rule>,
 }
 
 /// A flight of a component, with the classes that have seats for the party.

@@ -69,11 +69,12 @@ impl Clerk {
     }
 
     /// Files, and publishes the book with this filing more; the receipt is for it. A filing with a fault is
-    /// refused whole. After either fault what is published is as it was.
+    /// refused whole. After either fault what is published is as it was. A publish that fails for want of
+    /// memory ends filing: each later call answers `Mem`.
     pub fn file<R: Wait>(
         &mut self,
-        alloc: Global,
         rt: &R,
+        alloc: Global,
         filing: Arc<Filing>,
     ) -> Result<Receipt, FileFault>
         requires { IsFiling (arc_value filing) }

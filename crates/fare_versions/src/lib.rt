@@ -9,8 +9,6 @@ mod faults;
 mod opening;
 mod receipt;
 mod store;
-#[cfg(test)]
-mod tests;
 mod watch;
 
 pub use clerk::Clerk;

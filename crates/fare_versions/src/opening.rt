@@ -20,8 +20,8 @@ const MOST_WATCHES: usize = 8;
 /// A clerk who has published this book, and watches that have seen it: one at least, and as many as are wanted
 /// where all of them find a place.
 pub fn begin<R: Wait>(
-    alloc: Global,
     rt: &R,
+    alloc: Global,
     book: Book,
     wanted: u32,
 ) -> Result<(Clerk, List<Watch>), Mem>
@@ -35,7 +35,7 @@ pub fn begin<R: Wait>(
         return Err(Mem);
     };
     let edition = Edition::new(Arc::new(alloc, book)?, log.front());
-    let mut writer = writer_of(alloc, rt, edition)?;
+    let mut writer = writer_of(rt, alloc, edition)?;
     match watches(alloc, &mut writer, wanted) {
         Ok(watches) if watches.len() > 0 => Ok((Clerk::new(writer, log), watches)),
         _ => {
@@ -47,7 +47,7 @@ pub fn begin<R: Wait>(
 
 /// The writer of a store that shows this edition. It was published twice, so that the store has room for what
 /// a clerk publishes, and no filing fails for want of it.
-fn writer_of<R: Wait>(alloc: Global, rt: &R, edition: Edition) -> Result<EditionWriter, Mem>
+fn writer_of<R: Wait>(rt: &R, alloc: Global, edition: Edition) -> Result<EditionWriter, Mem>
     ensures shown { IfOk result (λ w. shown w ≡ edition) }
     ensures pending { IfOk result (λ w. pending w ≡ []) }
     ensures seen { IfOk result (λ w. last_seen w ≡ Some edition) }

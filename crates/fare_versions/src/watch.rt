@@ -51,9 +51,12 @@ impl Watch {
         }
     }
 
-    /// The book that is published now: a version of the history that has all that this watch saw and was told
-    /// of. It holds up no one, neither here nor while the book is in use. Once the clerk has ended it answers
-    /// `Mem`.
+    /// Looks once. The book is then the one that this watch saw last: a version of its house's history over
+    /// the same timetable, with all entries that the watch had seen and all that it was told of. After `Mem`
+    /// it may have seen more than before, never less.
+    ///
+    /// No clause says that the book is the one published last, nor that `Mem` comes once the clerk has ended.
+    /// The call takes no `Wait`, and holds up no one while the book is in use.
     pub fn look(&mut self) -> Result<Arc<Book>, Mem>
         ensures seen { Grows (seen_by self.old) (seen_by self.new) }
         ensures told { self.new.told ≡ self.old.told }

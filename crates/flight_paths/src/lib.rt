@@ -14,5 +14,3 @@ pub use paths::{component_paths, root_position, slice_paths};
 pub use positions::{Path, Position};
 pub use single::path_of;
 
-#[cfg(test)]
-mod tests;

@@ -2,7 +2,7 @@
 ghost use Rattle.std.specs.Prelude.{◌≡◌, option_map, IfSome};
 ghost use Rattle.serde_json.specs.View.{view, items_view};
 ghost use Rattle.std.specs.Int.{IsInRange};
-ghost use Rattle.fare_law.specs.Order.{IsBasis, IsCarrier};
+ghost use Rattle.fare_law.specs.Names.{IsBasis, IsCarrier};
 ghost use Rattle.market_time.specs.Dates.{IsInCentury};
 ghost use Rattle.json_form.specs.Members as Members;
 ghost use Rattle.fare_law.specs.Limits.{IsClass, IsPlace};

@@ -9,5 +9,3 @@ mod seats;
 pub use rows::between;
 pub use seats::at_least;
 
-#[cfg(test)]
-mod tests;

@@ -1,7 +1,7 @@
 -- The text of a case's answer.
 use Rattle.std.specs.Prelude.{◌≡◌, ℕ, List, ◌++◌, codes}
 use Rattle.fare_law.specs.declared.tickets.Ticket.{Ticket}
-use Rattle.fare_law.specs.Order.{Best}
+use Rattle.fare_law.specs.Best.{Best}
 use Rattle.answer_text.specs.Answer.{AnswerText}
 use Rattle.one_way.specs.declared.cases.OneWayCase.{OneWayCase}
 use Rattle.one_way.specs.OneWay.{book_of}

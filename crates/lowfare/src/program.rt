@@ -4,7 +4,7 @@ ghost use Rattle.std.specs.Io.KnownBytes.{Appends};
 ghost use Rattle.fare_io.specs.Counts.{Rose};
 ghost use Rattle.fare_io.specs.Streams.{AppendsFront, GivesAtMost};
 ghost use Rattle.fare_law.specs.declared.tickets.Ticket.{Ticket};
-ghost use Rattle.fare_law.specs.Order.{Best};
+ghost use Rattle.fare_law.specs.Best.{Best};
 ghost use Rattle.market_time.specs.Dates.{IsInCentury};
 ghost use Rattle.answer_text.specs.Answer.{AnswerText};
 ghost use Rattle.one_way.specs.OneWay.{IsOneWay, book_of, tickets_in};

@@ -4,7 +4,7 @@ use Rattle.std.specs.Char.{is_ascii_digit, is_ascii_uppercase}
 use Rattle.std.specs.List.{list_all}
 use Rattle.std.proofs.lemmas.Bool.Decides.{nat_tests}
 use Rattle.fare_law.specs.Lists.{Each}
-use Rattle.fare_law.specs.Order.{IsCharacter}
+use Rattle.fare_law.specs.Names.{IsCharacter}
 use Rattle.name_text.specs.Names.{is_character}
 use Rattle.fare_law.specs.Limits.{IsCapital}
 

@@ -7,7 +7,7 @@ use Rattle.std.proofs.lemmas.Bool.Decides.{nat_tests}
 use Rattle.std.proofs.lemmas.Str.{IsUtf8-from_ascii}
 use Rattle.fare_law.specs.Lists.{Each}
 use Rattle.fare_law.specs.Limits.{IsCapital, IsClass, IsPlace}
-use Rattle.fare_law.specs.Order.{IsBasis, IsCarrier, IsCharacter}
+use Rattle.fare_law.specs.Names.{IsBasis, IsCarrier, IsCharacter}
 use Rattle.fare_law.specs.declared.names.Basis.{Basis}
 use Rattle.fare_law.specs.declared.names.Carrier.{Carrier}
 use Rattle.fare_law.specs.declared.names.Place.{Place}

@@ -1,7 +1,7 @@
 -- Names that are written are read again.
 use Rattle.std.specs.Prelude.{◌≡◌, ◌+◌, ℕ, [], ◌∷◌, Some}
 use Rattle.fare_law.specs.Limits.{IsClass, IsPlace}
-use Rattle.fare_law.specs.Order.{IsBasis, IsCarrier}
+use Rattle.fare_law.specs.Names.{IsBasis, IsCarrier}
 use Rattle.fare_law.specs.declared.names.Basis.{Basis}
 use Rattle.fare_law.specs.declared.names.Carrier.{Carrier}
 use Rattle.fare_law.specs.declared.names.Place.{Place}

@@ -3,7 +3,7 @@ ghost use Rattle.std.specs.Prelude.{◌≡◌, ◌≤◌, length, IfSome, IsTrue
 ghost use Rattle.std.specs.Char.{is_ascii_uppercase};
 ghost use Rattle.std.specs.List.{list_all};
 ghost use Rattle.fare_law.specs.Lists.{Each};
-ghost use Rattle.fare_law.specs.Order.{IsBasis, IsCarrier, IsCharacter};
+ghost use Rattle.fare_law.specs.Names.{IsBasis, IsCarrier, IsCharacter};
 ghost use Rattle.name_text.specs.Names as Names;
 ghost use Rattle.fare_law.specs.Limits.{IsCapital, IsClass, IsPlace};
 

@@ -2,7 +2,7 @@
 ghost use Rattle.std.specs.Prelude.{◌≡◌, ◌+◌, [], ◌∷◌};
 ghost use Rattle.std.specs.Str.{IsAscii};
 ghost use Rattle.fare_law.specs.Limits.{IsClass, IsPlace};
-ghost use Rattle.fare_law.specs.Order.{IsBasis, IsCarrier};
+ghost use Rattle.fare_law.specs.Names.{IsBasis, IsCarrier};
 ghost use Rattle.name_text.specs.Again.{NamesReadAgain};
 
 use fare_law::{Basis, Carrier, Class, Place};

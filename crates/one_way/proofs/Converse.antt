@@ -13,10 +13,10 @@ use Rattle.fare_law.specs.declared.rules.UnitKind.TheVariants.{OneWay}
 use Rattle.fare_law.specs.declared.tickets.Ticket.{Ticket}
 use Rattle.fare_law.specs.Book.{live_fare, live_rule, seats, free_rule, same_key, fare_put}
 use Rattle.fare_law.specs.Journey.{FliesSlice, FliesFrom}
-use Rattle.fare_law.specs.Lawful.{IsPart, Lawful, AtMostTwoStraddle}
+use Rattle.fare_law.specs.Lawful.{Lawful, AtMostTwoStraddle}
+use Rattle.fare_law.specs.Parts.{IsPart, price_of, share}
 use Rattle.fare_law.specs.Lists.{Matched, OnFirst}
-use Rattle.fare_law.specs.Order.{Best, Costs}
-use Rattle.fare_law.specs.Parts.{price_of, share}
+use Rattle.fare_law.specs.Best.{Best, Costs}
 use Rattle.fare_law.specs.Units.{MayStand}
 use Rattle.one_way.specs.declared.cases.OneWayCase.{OneWayCase}
 use Rattle.one_way.specs.OneWay.{book_of, IsOneWay, HasTicket, ticket_of, Sells, part_of}

@@ -19,9 +19,9 @@ use Rattle.fare_law.specs.declared.tickets.Piece.{Piece}
 use Rattle.fare_law.specs.declared.tickets.Ticket.{Ticket}
 use Rattle.fare_law.specs.Book.{Book, live_fare, live_rule, seats, free_rule, same_carrier, same_place, same_key, fare_put}
 use Rattle.fare_law.specs.Journey.{FliesSlice, FliesFrom}
-use Rattle.fare_law.specs.Lawful.{Part, IsPart, Lawful, PartsLawful, Numbered, unit_of}
+use Rattle.fare_law.specs.Lawful.{Lawful, PartsLawful, Numbered, unit_of}
+use Rattle.fare_law.specs.Parts.{Part, IsPart, ComponentLawful, Seated, TransfersHold}
 use Rattle.fare_law.specs.Lists.{Each, OnFirst, OnLast, Matched}
-use Rattle.fare_law.specs.Parts.{ComponentLawful, Seated, TransfersHold}
 use Rattle.fare_law.specs.Units.{UnitLawful, IsUnit, Forward}
 use Rattle.one_way.specs.declared.cases.OneWayCase.{OneWayCase}
 use Rattle.one_way.specs.OneWay.{book_of, IsOneWay, ticket_of, Sells}

@@ -11,7 +11,7 @@ use Rattle.fare_law.specs.declared.tickets.Priced.{Priced}
 use Rattle.fare_law.specs.declared.tickets.Ticket.{Ticket}
 use Rattle.fare_law.specs.Book.{Book, seats, free_rule, same_carrier, same_place}
 use Rattle.fare_law.specs.Journey.{InWindow}
-use Rattle.fare_law.specs.Lawful.{Part}
+use Rattle.fare_law.specs.Parts.{Part}
 use Rattle.fare_law.specs.Lists.{OnFirst}
 use Rattle.one_way.specs.declared.cases.OneWayCase.{OneWayCase}
 

@@ -1,6 +1,6 @@
 //! The one ticket.
 ghost use Rattle.std.specs.Prelude.{◌≡◌, ◌↔◌, IsTrue, IfSome, OnSome, length, slice_index, cond};
-ghost use Rattle.fare_law.specs.Order.{Best, Costs};
+ghost use Rattle.fare_law.specs.Best.{Best, Costs};
 ghost use Rattle.fare_law.specs.Book.{seats as seats_in};
 ghost use Rattle.fare_law.specs.Journey.{InWindow};
 ghost use Rattle.one_way.specs.OneWay.{IsOneWay, Sells, HasTicket, book_of, ticket_of, tickets_in, names_flight, names_day};

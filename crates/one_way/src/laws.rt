@@ -1,8 +1,7 @@
 //! A law for callers' proofs: what the one ticket's component is. It is a function with no code.
 ghost use Rattle.std.specs.Prelude.{◌≡◌, [], ◌∷◌};
-ghost use Rattle.fare_law.specs.Lawful.{IsPart};
+ghost use Rattle.fare_law.specs.Parts.{IsPart, price_of};
 ghost use Rattle.fare_law.specs.Lists.{Matched};
-ghost use Rattle.fare_law.specs.Parts.{price_of};
 ghost use Rattle.one_way.specs.declared.cases.OneWayCase.{OneWayCase};
 ghost use Rattle.one_way.specs.OneWay.{IsOneWay, HasTicket, book_of, ticket_of, part_of};
 

@@ -1,4 +1,4 @@
--- The roles "goes on" and "closes" from what the fares of a unit with one more component allow.
+-- The roles "goes on" and "closes" from what the fares of a unit with one more component allow. Given on to the crates above.
 use Rattle.std.proofs.Common.{◌≡◌, ◌≢◌, ◌⊎◌, ℕ, ℤ, true, false, cond, ◌+◌, sym, ap, ◌∙◌, subst, arith}
 use Rattle.fare_law.specs.declared.names.Carrier.{Carrier}
 use Rattle.fare_law.specs.declared.tickets.Piece.{Piece}

@@ -8,8 +8,6 @@ mod joined;
 mod kinds;
 mod marks;
 mod roles;
-#[cfg(test)]
-mod tests;
 mod units;
 
 pub use fare_law::Piece;

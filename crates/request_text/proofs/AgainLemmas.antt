@@ -1,12 +1,9 @@
 -- A request within its limits that was written is read again as itself.
-use Rattle.std.proofs.Common.{◌≡◌, ◌≤◌, ℕ, max, pos, nat_le, eq-eqb, Bool, true, false, ◌||◌, List, [], ◌∷◌, length, map, Some, Ok, refl, arith, sym, subst, ap}
+use Rattle.std.proofs.Common.{◌≡◌, ◌≤◌, ℕ, max, pos, nat_le, eq-eqb, true, false, ◌||◌, List, [], ◌∷◌, length, map, Some, Ok, refl, arith, sym, subst, ap, ◌∙◌}
 use Rattle.std.specs.Char.{is_ascii_uppercase}
-use Rattle.std.specs.Int.{IsInRange}
-use Rattle.std.specs.List.{list_all, list_any}
+use Rattle.std.specs.List.{list_all}
 use Rattle.std.specs.Str.{IsUtf8}
 use Rattle.std.proofs.lemmas.Bool.Decides.{nat_tests}
-use Rattle.std.proofs.lemmas.List.{length-map}
-use Rattle.std.proofs.lemmas.Slice.Eq.{bytes_eq-Decides}
 use Rattle.std.proofs.lemmas.Str.{is_utf8-from_IsUtf8}
 use Rattle.serde_json.specs.Data.{Data, Items, no_items, item, depth, items_depth}
 use Rattle.serde_json.specs.Read.{read, max_depth}
@@ -22,8 +19,10 @@ use Rattle.json_form.specs.Spelled.{spelled}
 use Rattle.request_text.specs.declared.asked.Asked.{Asked}
 use Rattle.request_text.specs.declared.asked.AskedSlice.{AskedSlice}
 use Rattle.request_text.specs.Form.{asked, slice_form}
-use Rattle.request_text.specs.Limits.{allowed, between, each_windowed, stays}
-use Rattle.fare_law.specs.Limits.{IsSlice, EndsDiffer, IsRequest}
+use Rattle.fare_law.specs.Requests.{judged_alone}
+use Rattle.fare_law.proofs.Judged.{within_judged}
+use Rattle.request_text.specs.Limits.{allowed, or_refused, request_asked, slice_asked}
+use Rattle.fare_law.specs.Limits.{IsSlice, IsRequest}
 use Rattle.request_text.specs.Reading.{request_of, request_spelled}
 use Rattle.request_text.specs.Text.{WritesSlice, WritesSlices, WritesRequest}
 
@@ -40,9 +39,6 @@ capitals_again (c ∷ cs) h = rw (capital_again c h.0) (capitals_again cs h.1)
 place_again : (p : Place) → IsPlace p → place_of p.0 ≡ Some p
 unfolding place_of
 place_again p h = rw (eq-eqb (length p.0) 3 h.0, capitals_again p.0 h.1) refl
-
-between_again : (low high n : ℕ) → IsInRange low high n → between low high (pos n) ≡ Some n
-between_again low high n h = rw (le_true low n h.0, le_true n high h.1) refl
 
 -- a slice and a request as they are asked for
 
@@ -69,35 +65,16 @@ asked_again q d h w =
     let P = λ (x : Data). asked x ≡ Some (all_asked q) in
     subst P (sym w.written) (rw (w.day, slices_again q.slices w.items h.windows w.slices) refl)
 
-windows_again : (ss : List Slice) → Each IsSlice ss → each_windowed (map as_asked ss) ≡ Some ss
-windows_again [] h = refl
-windows_again (s ∷ ss) h = rw (le_true 1 s.days h.0.days.0, le_true s.days 7 h.0.days.1, windows_again ss h.1) refl
+slices_are : (ss : List Slice) → map slice_asked (map as_asked ss) ≡ ss
+slices_are [] = refl
+slices_are (s ∷ ss) = ap (λ xs. s ∷ xs) (slices_are ss)
 
-not_true : (b : Bool) → (b ≡ true → ⊥) → b ≡ false
-not_true true h = absurd (h refl)
-not_true false h = refl
-
-leaves : (s : Slice) → EndsDiffer s → stays s ≡ false
-leaves s h = not_true (stays s) (λ e. h (ap {B = Place} (λ x. record { 0 = x }) ((bytes_eq-Decides s.from.0 s.to.0).0 e)))
-
-none_stays : (ss : List Slice) → Each EndsDiffer ss → list_any stays ss ≡ false
-none_stays [] h = refl
-none_stays (s ∷ ss) h = rw (leaves s h.0) (none_stays ss h.1)
+asked_is : (q : Request) → request_asked (all_asked q) ≡ q
+asked_is q = ap {B = Request} (λ ss. record q { slices = ss }) (slices_are q.slices)
 
 allowed_again : (q : Request) → IsRequest q → allowed (all_asked q) ≡ Ok q
 unfolding allowed
-allowed_again q h =
-    rw (
-      length-map,
-      le_true 1 (length q.slices) h.count.0,
-      le_true (length q.slices) 6 h.count.1,
-      le_true 1 q.party h.party.0,
-      le_true q.party 9 h.party.1,
-      le_true 1 q.best h.best.0,
-      le_true q.best 1000 h.best.1,
-      windows_again q.slices h.windows,
-      none_stays q.slices h.departs,
-    ) refl
+allowed_again q h = ap (λ x. or_refused x (judged_alone x)) (asked_is q) ∙ ap (or_refused q) (within_judged q h)
 
 request_again : (q : Request) (d : Data) → IsRequest q → WritesRequest q d → request_spelled d ≡ Ok q
 request_again q d h w = rw (asked_again q d h w, allowed_again q h) refl

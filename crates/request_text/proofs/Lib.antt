@@ -1,3 +1,4 @@
+pub mod TurnLemmas
 pub mod WindowLemmas
 pub mod TextLemmas
 pub mod AgainLemmas

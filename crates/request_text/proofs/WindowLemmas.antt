@@ -7,7 +7,7 @@ use Rattle.std.specs.List.{list_any}
 use Rattle.std.proofs.lemmas.Slice.Eq.{bytes_eq-Decides}
 use Rattle.fare_law.specs.Lists.{Each}
 use Rattle.request_text.specs.Form.{IsAskedSlice}
-use Rattle.request_text.specs.Limits.{windowed, each_windowed, stays}
+use Rattle.request_text.specs.Steps.{windowed, each_windowed, stays}
 use Rattle.fare_law.specs.Limits.{IsSlice, EndsDiffer}
 
 -- slices that stand before the others

@@ -1,4 +1,5 @@
 pub mod Form
 pub mod Limits
+pub mod Steps
 pub mod Reading
 pub mod Text

@@ -1,42 +1,29 @@
--- The limits of a request.
-use Rattle.std.specs.Prelude.{ℕ, ℤ, pos, negsuc, Bool, nat_le, ◌&&◌, List, [], ◌∷◌, length, if◌then◌else◌, Option, Some, None, option_map, option_and_then, Result, Ok, Err, ok_or}
-use Rattle.std.specs.List.{list_any}
-use Rattle.fare_law.specs.Book.{same_place}
+-- What is asked as a request, and its judgement by the law.
+use Rattle.std.specs.Prelude.{ℕ, ℤ, pos, negsuc, map, Option, Some, None, Result, Ok, Err}
 use Rattle.fare_law.specs.declared.requests.Request.{Request}
 use Rattle.fare_law.specs.declared.requests.Slice.{Slice}
 use Rattle.fare_law.specs.declared.requests.Why.{Why}
-use Rattle.fare_law.specs.declared.requests.Why.TheVariants.{Slices, Party, Best, Window, SamePlace}
+use Rattle.fare_law.specs.Requests.{judged_alone}
 use Rattle.request_text.specs.declared.asked.Asked.{Asked}
 use Rattle.request_text.specs.declared.asked.AskedSlice.{AskedSlice}
 
--- the number, if it lies from low to high
-abbrev pub between : ℕ → ℕ → ℤ → Option ℕ
-between low high (pos n) = if nat_le low n && nat_le n high then Some n else None
-between low high (negsuc n) = None
+-- the number; one below 0 is read as 0, which is in no range
+abbrev pub counted : ℤ → ℕ
+counted (pos n) = n
+counted (negsuc n) = 0
 
--- the slice, if its window has 1 to 7 days
-abbrev pub windowed : AskedSlice → Option Slice
-windowed s = option_map (λ days. record { from = s.from; to = s.to; first = s.first; days = days }) (between 1 7 s.days)
+abbrev pub slice_asked : AskedSlice → Slice
+slice_asked s = record { from = s.from; to = s.to; first = s.first; days = counted s.days }
 
--- each slice, if each has such a window
-abbrev pub each_windowed : List AskedSlice → Option (List Slice)
-each_windowed [] = Some []
-each_windowed (s ∷ ss) = option_and_then (λ x. option_map (λ xs. x ∷ xs) (each_windowed ss)) (windowed s)
+-- the request of the numbers that are asked for
+abbrev pub request_asked : Asked → Request
+request_asked a = record { sale = a.terms.sale; party = counted a.terms.party; best = counted a.terms.best; slices = map slice_asked a.slices }
 
-abbrev pub stays : Slice → Bool
-stays s = same_place s.from s.to
+-- the request, if there is no reason to refuse it
+abbrev pub or_refused : Request → Option Why → Result Request Why
+or_refused q None = Ok q
+or_refused q (Some why) = Err why
 
--- from one judgement to the next, up to the first reason
-infixl 10 ◌>>=◌
-abbrev pub ◌>>=◌ : {A B E : Type 0} → Result A E → (A → Result B E) → Result B E
-(Ok a) >>= f = f a
-(Err e) >>= f = Err e
-
--- the request that is asked for, or the first reason for which it is refused
+-- the request that is asked for, or the first reason for which it is refused whatever places are known
 unfoldable pub allowed : Asked → Result Request Why
-allowed a = if nat_le 1 (length a.slices) && nat_le (length a.slices) 6 then (do
-  party ← ok_or (between 1 9 a.terms.party) Party
-  best ← ok_or (between 1 1000 a.terms.best) Best
-  slices ← ok_or (each_windowed a.slices) Window
-  if list_any stays slices then Err SamePlace
-      else Ok (record { sale = a.terms.sale; party = party; best = best; slices = slices })) else Err Slices
+allowed a = or_refused (request_asked a) (judged_alone (request_asked a))

@@ -8,7 +8,13 @@ use Rattle.request_text.specs.declared.asked.Asked.{Asked}
 use Rattle.request_text.specs.declared.fault.RequestFault.{RequestFault}
 use Rattle.request_text.specs.declared.fault.RequestFault.TheVariants.{Syntax, Shape, BadRequest, Mem}
 use Rattle.request_text.specs.Form.{asked}
-use Rattle.request_text.specs.Limits.{◌>>=◌, allowed}
+use Rattle.request_text.specs.Limits.{allowed}
+
+-- from one judgement to the next, up to the first fault
+infixl 10 ◌>>=◌
+abbrev pub ◌>>=◌ : {A B E : Type 0} → Result A E → (A → Result B E) → Result B E
+(Ok a) >>= f = f a
+(Err e) >>= f = Err e
 
 -- a reason for refusal, as a fault
 abbrev pub with_reason : Result Request Why → Result Request RequestFault

@@ -5,16 +5,26 @@ ghost use Rattle.std.specs.List.{list_any};
 ghost use Rattle.fare_law.specs.Limits.{IsRequest, IsSlice};
 ghost use Rattle.fare_law.specs.Lists.{Each};
 ghost use Rattle.request_text.specs.Form.{IsAsked, IsAskedSlice};
-ghost use Rattle.request_text.specs.Limits as Limits;
+ghost use Rattle.request_text.specs.Limits.{allowed};
+ghost use Rattle.request_text.specs.Steps as Steps;
 
 use crate::asked::{Asked, AskedSlice};
 use fare_law::{ArrayVec, Request, Slice, Why};
 
 /// The request that is asked for, or the first reason for which it is refused.
-#[tactic(auto, unfolding(crate::specs::Limits::allowed), using(crate::proofs::WindowLemmas::all_depart))]
 pub fn allowed(asked: &Asked) -> Result<Request, Why>
     requires { IsAsked asked.now }
-    ensures value { result ≡ Limits.allowed asked.now }
+    ensures value { result ≡ allowed asked.now }
+    ensures limits { IfOk result IsRequest }
+{
+    in_turn(asked)
+}
+
+// The same, number by number.
+#[tactic(auto, unfolding(crate::specs::Steps::in_turn), using(crate::proofs::WindowLemmas::all_depart))]
+fn in_turn(asked: &Asked) -> Result<Request, Why>
+    requires { IsAsked asked.now }
+    ensures value { result ≡ Steps.in_turn asked.now }
     ensures limits { IfOk result IsRequest }
 {
     let slices = asked.slices.as_slice();
@@ -37,7 +47,7 @@ pub fn allowed(asked: &Asked) -> Result<Request, Why>
 
 // The number, if it lies from `low` to `high`.
 fn between(number: i128, low: u16, high: u16) -> Option<u16>
-    ensures value { result ≡ Limits.between low high number }
+    ensures value { result ≡ Steps.between low high number }
     ensures within { IfSome result (IsInRange low high) }
 {
     let number = u16::try_from(number).ok()?;
@@ -53,7 +63,7 @@ fn between(number: i128, low: u16, high: u16) -> Option<u16>
 fn windowed_each(slices: &[AskedSlice]) -> Option<ArrayVec<Slice, 6>>
     requires few { length slices.now ≤ 6 }
     requires each { Each IsAskedSlice slices.now }
-    ensures value { result ≡ Limits.each_windowed slices.now }
+    ensures value { result ≡ Steps.each_windowed slices.now }
     ensures windows { IfSome result (Each IsSlice) }
     ensures count { IfSome result (λ found. length found ≡ length slices.now) }
 {
@@ -67,7 +77,7 @@ fn windowed_each(slices: &[AskedSlice]) -> Option<ArrayVec<Slice, 6>>
 // The slice, if its window has 1 to 7 days.
 fn windowed(slice: &AskedSlice) -> Option<Slice>
     requires { IsAskedSlice slice.now }
-    ensures value { result ≡ Limits.windowed slice.now }
+    ensures value { result ≡ Steps.windowed slice.now }
     ensures window { IfSome result IsSlice }
 {
     let days = between(slice.days, 1, 7)?;
@@ -81,7 +91,7 @@ fn windowed(slice: &AskedSlice) -> Option<Slice>
 
 // Whether some slice ends where it begins.
 fn some_stays(slices: &[Slice]) -> bool
-    ensures { result ≡ list_any Limits.stays slices.now }
+    ensures { result ≡ list_any Steps.stays slices.now }
 {
     slices.iter().any(|slice| slice.from == slice.to)
 }

@@ -7,15 +7,11 @@ use Rattle.fare_law.specs.Book.{Book}
 use Rattle.fare_law.specs.Lists.{Each, Matched, OnFirst, OnLast}
 use Rattle.fare_law.specs.Offers.{flights_of}
 use Rattle.fare_law.specs.Parts.{Numbers}
+use Rattle.flight_paths.proofs.Fitting.{within}
 
 -- what stands for a flight past the end of a list
 abbrev pub no_flight : Flight
 no_flight = record { carrier = record { 0 = [] }; number = 0; from = record { 0 = [] }; to = record { 0 = [] }; day = pos 0; minute = 0; dep = pos 0; arr = pos 0 }
-
-pub got_within : {X : Type 0} (xs : List X) (n : ℕ) (x : X) → slice_get xs n ≡ Some x → n < length xs
-got_within [] n x h = cc
-got_within (y ∷ xs) zero x h = omega arith
-got_within (y ∷ xs) (suc n) x h = omega (arith, got_within xs n x h)
 
 got_is : {X : Type 0} (xs : List X) (n : ℕ) (x d : X) → slice_get xs n ≡ Some x → get_or xs n d ≡ x
 got_is [] n x d h = cc
@@ -25,7 +21,7 @@ got_is (y ∷ xs) (suc n) x d h = got_is xs n x d h
 pub number_within : (b : Book) (ns : List ℕ) (fs : List Flight) (i : ℕ) → Numbers b ns fs → i < length ns → get_or ns i 0 < length b.timetable.flights
 number_within b [] fs i h lt = absurd (omega arith)
 number_within b (n ∷ ns) [] i h lt = absurd h
-number_within b (n ∷ ns) (f ∷ fs) zero h lt = got_within b.timetable.flights n f h.0
+number_within b (n ∷ ns) (f ∷ fs) zero h lt = within b.timetable.flights n f h.0
 number_within b (n ∷ ns) (f ∷ fs) (suc i) h lt = number_within b ns fs i h.1 (omega arith)
 
 -- the flights so far and one more
@@ -68,7 +64,7 @@ on_last_to P Q (x ∷ []) h to = to x h
 on_last_to P Q (x ∷ y ∷ ys) h to = on_last_to P Q (y ∷ ys) h to
 
 -- flights of a list whose elements are within limits are too
-got_holds : {X : Type 0} (P : X → Type 0) (xs : List X) (n : ℕ) (x : X) → Each P xs → slice_get xs n ≡ Some x → P x
+pub got_holds : {X : Type 0} (P : X → Type 0) (xs : List X) (n : ℕ) (x : X) → Each P xs → slice_get xs n ≡ Some x → P x
 got_holds P [] n x h e = cc
 got_holds P (y ∷ xs) zero x h e = let same : y ≡ x = cc in subst P same h.0
 got_holds P (y ∷ xs) (suc n) x h e = got_holds P xs n x h.1 e

@@ -1,5 +1,5 @@
 -- What is reached fits the request, and what leads on from there is a path.
-use Rattle.std.proofs.Common.{◌≡◌, ℕ, zero, suc, ◌≤◌, ◌<◌, ◌↔◌, Bool, true, false, cond, ◌==◌, List, [], ◌∷◌, length, map, slice_get, Option, Some, None, IsSome, IfSome, is_some, ◌≢◌, sym, refl, ap, ◌∙◌, subst, inl, inr, arith, eq-eqb, ne_eqb, ℤ}
+use Rattle.std.proofs.Common.{◌≡◌, ℕ, zero, suc, ◌≤◌, ◌↔◌, Bool, true, false, cond, ◌==◌, List, [], ◌∷◌, length, map, slice_get, Option, Some, None, IsSome, IfSome, is_some, ◌≢◌, sym, refl, ap, ◌∙◌, subst, inl, inr, arith, eq-eqb, ne_eqb, ℤ}
 use Rattle.std.proofs.lemmas.Bool.{cases_eq, true≢false}
 use Rattle.fare_law.specs.declared.flights.Flight.{Flight}
 use Rattle.fare_law.specs.declared.moves.Move.{Move}
@@ -11,6 +11,7 @@ use Rattle.fare_law.specs.Lists.{Each}
 use Rattle.fare_law.specs.Parts.{Shape}
 use Rattle.flight_paths.specs.declared.positions.Position.{Position}
 use Rattle.flight_paths.specs.Positions.{via_after, position_inside, Fits, KeepsOff, IsPath, via_places, Flies, LeadsTo, before_slice, start_of_range, end_of_range, before_first, is_zero, fits_before, fits_inside}
+use Rattle.flight_paths.proofs.Fitting.{within}
 use Rattle.residual_keys.specs.Residuals.{State, LeadsFrom, begins, part_with, no_part}
 use Rattle.residual_keys.specs.Searches.{Reached}
 
@@ -41,11 +42,6 @@ end_low t (f ∷ fs) = go (t f) (end_of_range t fs) (length fs) (end_low t fs)
     go false zero n h = omega arith
     go fits (suc r) n h = omega (arith, h)
 
-pub get_within : {X : Type 0} (xs : List X) (i : ℕ) (x : X) → slice_get xs i ≡ Some x → i < length xs
-get_within [] i x h = cc
-get_within (y ∷ xs) zero x h = omega arith
-get_within (y ∷ xs) (suc i) x h = omega (arith, get_within xs i x h)
-
 -- at the end, or at a position that fits
 abbrev pub FitsEnd : Book → List Slice → Option Position → Type 0
 FitsEnd b sl None = Unit {0}
@@ -54,7 +50,7 @@ FitsEnd b sl (Some at) = Fits b sl at
 before_fits : (b : Book) (sl : List Slice) (i : ℕ) (o : Option Slice) (arrival : Option ℤ) → slice_get sl i ≡ o → FitsEnd b sl (before_slice b i o arrival)
 before_fits b sl i None arrival e = tt
 before_fits b sl i (Some s) arrival e = record {
-  slice = get_within sl i s e;
+  slice = within sl i s e;
   leg = omega arith;
   via = (λ h. absurd (true≢false (sym h)), λ h. absurd (never h));
   range = start_low (fits_before b s arrival) b.timetable.flights;
@@ -70,10 +66,10 @@ via_fits l p = elim (cases_eq l 1) [
   | inr ne ↦ subst (λ t. IsSome (cond t (Some p) None) ↔ (suc l ≡ 2)) (sym (ne_eqb l 1 ne)) (λ h. absurd (true≢false (sym h)), λ h. absurd (ne (omega (arith, h))))
 ]
 
-leads_fits : (b : Book) (sl : List Slice) (s : Slice) (at : Position) (f : Flight) (next : Option Position) → slice_get sl at.slice ≡ Some s → LeadsTo b sl s at f next → FitsEnd b sl next
+pub leads_fits : (b : Book) (sl : List Slice) (s : Slice) (at : Position) (f : Flight) (next : Option Position) → slice_get sl at.slice ≡ Some s → LeadsTo b sl s at f next → FitsEnd b sl next
 leads_fits b sl s at f next is (inl h) = subst (FitsEnd b sl) (sym h.1) (before_fits b sl (suc at.slice) (slice_get sl (suc at.slice)) (Some f.arr) refl)
 leads_fits b sl s at f next is (inr h) = subst (FitsEnd b sl) (sym h.2) (record {
-  slice = get_within sl at.slice s is;
+  slice = within sl at.slice s is;
   leg = omega (arith, h.1);
   via = via_fits at.leg at.place;
   range = start_low (fits_inside b f.to f.arr) b.timetable.flights;

@@ -2,7 +2,7 @@
 use Rattle.std.proofs.Common.{◌≡◌, ℕ, ◌-◌, ◌⊎◌, List, [], ◌∷◌, sym, ap₂, ◌∙◌, refl, subst, inl, inr, arith}
 use Rattle.fare_law.specs.Lists.{Each, EachPair, IsIn, KLeast}
 
-weaken : {X : Type 0} (P Q : X → Type 0) → ((x : X) → P x → Q x) → (xs : List X) → Each P xs → Each Q xs
+pub weaken : {X : Type 0} (P Q : X → Type 0) → ((x : X) → P x → Q x) → (xs : List X) → Each P xs → Each Q xs
 weaken P Q f [] h = tt
 weaken P Q f (x ∷ xs) h = (f x h.0, weaken P Q f xs h.1)
 
@@ -10,16 +10,16 @@ both : {X : Type 0} (P Q : X → Type 0) (xs : List X) → Each P xs → Each Q 
 both P Q [] h k = tt
 both P Q (x ∷ xs) h k = ((h.0, k.0), both P Q xs h.1 k.1)
 
-in_each : {X : Type 0} (P : X → Type 0) (x : X) (xs : List X) → Each P xs → IsIn x xs → P x
+pub in_each : {X : Type 0} (P : X → Type 0) (x : X) (xs : List X) → Each P xs → IsIn x xs → P x
 in_each P x [] h i = absurd i
 in_each P x (y ∷ xs) h (inl e) = subst P (sym e) h.0
 in_each P x (y ∷ xs) h (inr i) = in_each P x xs h.1 i
 
-pairs_rest : {X : Type 0} (R : X → X → Type 0) (x : X) (xs : List X) → EachPair R (x ∷ xs) → EachPair R xs
+pub pairs_rest : {X : Type 0} (R : X → X → Type 0) (x : X) (xs : List X) → EachPair R (x ∷ xs) → EachPair R xs
 pairs_rest R x [] h = tt
 pairs_rest R x (y ∷ ys) h = h.1
 
-below_all : {X : Type 0} (Below : X → X → Type 0) → ((x y z : X) → Below x y → Below y z → Below x z) → (x : X) (xs : List X) → EachPair Below (x ∷ xs) → Each (Below x) xs
+pub below_all : {X : Type 0} (Below : X → X → Type 0) → ((x y z : X) → Below x y → Below y z → Below x z) → (x : X) (xs : List X) → EachPair Below (x ∷ xs) → Each (Below x) xs
 below_all Below trans x [] h = tt
 below_all Below trans x (y ∷ ys) h = (h.0, weaken (Below y) (Below x) (λ z k. trans x y z h.0 k) ys (below_all Below trans y ys h.1))
 

@@ -2,8 +2,6 @@ pub mod Known
 pub mod FareFacts
 pub mod Marks
 pub mod OneUnit
-pub mod Ranges
-pub mod Journeys
 pub mod TicketParts
 pub mod Wholes
 pub mod Fitting
@@ -35,3 +33,6 @@ pub mod WordFacts
 pub mod WordsAgain
 pub mod ResidualAgain
 pub mod ResidualRead
+pub mod NamesKept
+pub mod CodesOfRuns
+pub mod Sizes

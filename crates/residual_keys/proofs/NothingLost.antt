@@ -1,22 +1,18 @@
 -- The runs from the root are the moves of the lawful tickets, with their price and code.
-use Rattle.std.proofs.Common.{◌≡◌, ◌≢◌, ℕ, suc, ◌+◌, Bool, true, false, cond, nat_le, List, [], ◌∷◌, ◌++◌, length, map, flat_map, find, reverse, sum_by, slice_get, Option, Some, None, sym, refl, ap, ap₂, ◌∙◌, subst, inl, inr, arith, option_and_then}
-use Rattle.std.proofs.lemmas.Bool.{cases_Bool, and_parts}
+use Rattle.std.proofs.Common.{◌≡◌, ◌≢◌, ℕ, suc, ◌+◌, Bool, true, false, cond, nat_le, List, [], ◌∷◌, ◌++◌, length, map, flat_map, sum_by, slice_get, Option, Some, None, sym, refl, ap, ap₂, ◌∙◌, subst, arith}
 use Rattle.std.proofs.lemmas.List.Sums.{sum_by-cons}
-use Rattle.std.specs.Cmp.Lexicographic.{bytes_decides}
-use Rattle.fare_law.specs.declared.filings.Action.{Action}
-use Rattle.fare_law.specs.declared.filings.Action.TheVariants.{PutFare, DropFare, PutRule, DropRule, PutSeats, DropSeats}
 use Rattle.fare_law.specs.declared.tickets.Component.{Component}
-use Rattle.fare_law.specs.declared.fares.Fare.{Fare}
 use Rattle.fare_law.specs.declared.fares.FareKey.{FareKey}
 use Rattle.fare_law.specs.declared.flights.Flight.{Flight}
 use Rattle.fare_law.specs.declared.tickets.Piece.{Piece}
 use Rattle.fare_law.specs.declared.requests.Request.{Request}
 use Rattle.fare_law.specs.declared.tickets.Ticket.{Ticket}
 use Rattle.fare_law.specs.Book.{Book, actions, same_key, names_fare, last_that, fare_put, live_fare}
-use Rattle.fare_law.specs.Lawful.{Part, IsPart, comes_in, PartsLawful, Lawful}
+use Rattle.fare_law.specs.Lawful.{comes_in, PartsLawful, Lawful}
+use Rattle.fare_law.specs.Parts.{Part, IsPart, Numbers, StandsFor, ComponentLawful, price_of}
 use Rattle.fare_law.specs.Lists.{Each, Matched}
-use Rattle.fare_law.specs.Order.{Costs, code_after, role_number, slot_number, carrier_number, basis_number, open_below}
-use Rattle.fare_law.specs.Parts.{Numbers, StandsFor, ComponentLawful, price_of}
+use Rattle.fare_law.specs.Best.{Costs}
+use Rattle.fare_law.specs.Moves.{slot_number, open_below, role_of, move_of, moves_after, moves_of}
 use Rattle.fare_law.specs.declared.moves.Move.{Move}
 use Rattle.flight_paths.specs.declared.positions.Position.{Position}
 use Rattle.fare_law.specs.declared.moves.Role.{Role}
@@ -24,10 +20,10 @@ use Rattle.fare_law.specs.declared.moves.Role.TheVariants.{Alone, Opens, GoesOn,
 use Rattle.open_unit.specs.OpenUnits.{unit_steps}
 use Rattle.flight_paths.specs.Positions.{Flies, before_slice}
 use Rattle.residual_keys.specs.Residuals.{State, begins, no_part, Run, RunFromRoot}
-use Rattle.fare_law.specs.Moves.{role_of, role_code, move_of, moves_after, moves_of, run_code}
 use Rattle.residual_keys.proofs.Marks.{same_carrier_is}
+use Rattle.fare_law.specs.Moves.{role_of, move_of, moves_after, moves_of}
+use Rattle.fare_law.specs.Codes.{role_code, run_code}
 use Rattle.fare_law.specs.Flights.{Ascending}
-use Rattle.residual_keys.proofs.Ranges.{same_place_is}
 use Rattle.residual_keys.proofs.Runs.{Item, mark, ZeroSlot, ItemOf, mark_of, total, Sides, run_sides, sides_run}
 use Rattle.residual_keys.proofs.TicketParts.{PartRun, is_new, news}
 use Rattle.residual_keys.proofs.Wholes.{labels, pieces, flights, same_count, Machines, machines_lawful, lawful_machines}
@@ -35,45 +31,7 @@ use Rattle.unit_labels.specs.Labels.{LawfulLabels, LabelRun, part_of, parts_of, 
 use Rattle.unit_labels.specs.UnitRuns.{UnitRun, EachAccepted}
 use Rattle.residual_keys.proofs.Fitting.{root_fits}
 use Rattle.residual_keys.proofs.Known.{Known}
-
--- the live fare of a key has that key
-
-find_passes : {X : Type 0} (t : X → Bool) (xs : List X) (x : X) → find t xs ≡ Some x → t x ≡ true
-find_passes t [] x h = cc
-find_passes t (y ∷ xs) x h = elim (cases_Bool (t y)) [
-  | inl e ↦ let s : y ≡ x = some_same (sym (ap (λ b. cond b (Some y) (find t xs)) e) ∙ h) in subst (λ z. t z ≡ true) s e
-  | inr f ↦ find_passes t xs x (sym (ap (λ b. cond b (Some y) (find t xs)) f) ∙ h)
-]
-  where
-    some_same : Some y ≡ Some x → y ≡ x
-    some_same e = cc
-
-key_is : (k l : FareKey) → same_key k l ≡ true → k ≡ l
-key_is k l h =
-    let x = and_parts _ _ h in
-    let y = and_parts _ _ x.0 in
-    let z = and_parts _ _ y.0 in
-    let c : k.carrier ≡ l.carrier = same_carrier_is k.carrier l.carrier z.0 in
-    let f : k.from ≡ l.from = same_place_is k.from l.from z.1 in
-    let t : k.to ≡ l.to = same_place_is k.to l.to y.1 in
-    let b : k.basis.0 ≡ l.basis.0 = (bytes_decides k.basis.0 l.basis.0).0 x.1 in
-    λ i. record { carrier = c i; from = f i; to = t i; basis = record { 0 = b i } }
-
-put_key : (key : FareKey) (a : Action) (fare : Fare) → names_fare key a ≡ true → fare_put a ≡ Some fare → fare.key ≡ key
-put_key key (PutFare g) fare h e = let s : g ≡ fare = cc in subst (λ x. x.key ≡ key) s (sym (key_is key g.key h))
-put_key key (DropFare other) fare h e = cc
-put_key key (PutRule c n r) fare h e = cc
-put_key key (DropRule c n) fare h e = cc
-put_key key (PutSeats k s) fare h e = cc
-put_key key (DropSeats k) fare h e = cc
-
-pub live_key : (b : Book) (key : FareKey) (fare : Fare) → live_fare b key ≡ Some fare → fare.key ≡ key
-unfolding live_fare
-live_key b key fare h = go (last_that (names_fare key) b) refl h
-  where
-    go : (o : Option Action) → last_that (names_fare key) b ≡ o → option_and_then fare_put o ≡ Some fare → fare.key ≡ key
-    go None e k = cc
-    go (Some a) e k = put_key key a fare (find_passes (names_fare key) (reverse (actions b)) a e) k
+use Rattle.ticket_order.proofs.LiveKeys.{live_key}
 
 -- the part of a component in its unit, as its code has it
 abbrev between : List ℕ → ℕ → List ℕ → Mark
@@ -402,20 +360,6 @@ ticket_run known b q t (ps, m, law, some) =
     let s = ticket_sides known b q t ps m law some in
     (total (items ps), (s.at, s.root, sides_run b q (record { at = s.at; units = []; part = no_part }) (moves_of t) (items ps) (root_fits b q s.at s.root) s.sides), (ps, m, items_cost ps))
 
--- Its code is that of its moves.
-role_codes : (before : List ℕ) (l : ℕ) (after : List ℕ) → role_number before l after ≡ role_code (role_of before l after)
-role_codes before l after = go (comes_in l before) (comes_in l after)
-  where
-    go : (x y : Bool) → cond x (cond y 2 3) (cond y 1 0) ≡ role_code (cond x (cond y GoesOn Closes) (cond y Opens Alone))
-    go true true = refl
-    go true false = refl
-    go false true = refl
-    go false false = refl
-
-pub codes : (before : List ℕ) (cs : List Component) → code_after before cs ≡ run_code (moves_after before cs)
-codes before [] = refl
-codes before (c ∷ cs) =
-    let after = map (λ d. d.unit) cs in
-    ap₂ (λ x y. x ++ y)
-    (ap (λ r. length c.flights ∷ [] ++ c.flights ++ carrier_number c.fare.carrier ∷ basis_number c.fare.basis ∷ r ∷ slot_number before c.unit after ∷ []) (role_codes before c.unit after))
-    (codes (before ++ c.unit ∷ []) cs)
+pub moves_many : (before : List ℕ) (cs : List Component) → length (moves_after before cs) ≡ length cs
+moves_many before [] = refl
+moves_many before (c ∷ cs) = ap suc (moves_many (before ++ c.unit ∷ []) cs)

@@ -13,10 +13,9 @@ use Rattle.fare_law.specs.declared.requests.Request.{Request}
 use Rattle.fare_law.specs.declared.sheets.Leg.{Leg}
 use Rattle.fare_law.specs.declared.sheets.SheetRow.{SheetRow}
 use Rattle.fare_law.specs.Book.{Book}
-use Rattle.fare_law.specs.Lists.{EachPair, IsIn}
+use Rattle.fare_law.specs.Lists.{EachPair, IsIn, Less}
 use Rattle.fare_law.specs.Limits.{IsFare}
 use Rattle.fare_law.specs.Offers.{IsOffered, flights_of, row_price}
-use Rattle.fare_law.specs.Order.{Less}
 use Rattle.fare_law.specs.RuleLimits.{IsRule}
 use Rattle.fare_law.specs.Sheets.{IsLiveRow, RowBefore, Sheet, SheetOf}
 use Rattle.flight_paths.specs.declared.positions.Path.{Path}
@@ -26,7 +25,8 @@ use Rattle.residual_keys.specs.Gathered.{Adds, AreLegs, FiledOver, IsChosenFiled
 use Rattle.residual_keys.specs.Residuals.{State}
 use Rattle.residual_keys.specs.Steps.{KeyOn, MarketOver}
 use Rattle.residual_keys.proofs.Adding.{adds_like, adds_none, adds_then, in_either, in_left, in_right}
-use Rattle.residual_keys.proofs.Components.{got_within, on_last_to}
+use Rattle.flight_paths.proofs.Fitting.{within}
+use Rattle.residual_keys.proofs.Components.{on_last_to}
 use Rattle.residual_keys.proofs.OneNext.{last_one, some_one}
 use Rattle.residual_keys.proofs.Sheeted.{got_in, place_of, places_apart}
 use Rattle.residual_keys.proofs.StepFacts.{moves_key}
@@ -167,7 +167,7 @@ module _ (b : Book) (q : Request) (r : State) (path : Path) (fs : List Flight) (
       ((limited.fares row.fare.key row.fare live.fare).1, limited.rules row.fare.key.carrier row.fare.rule row.rule live.rule)
 
   pub place_within : (o : Offer) → IsIn o offers → o.place < length sheet.rows
-  place_within o i = got_within sheet.rows o.place ((on.exact o).0 i).row ((on.exact o).0 i).stands
+  place_within o i = within sheet.rows o.place ((on.exact o).0 i).row ((on.exact o).0 i).stands
 
 -- offers before one stand at earlier places
 pub offers_behind : (offers : List Offer) (i : ℕ) (d o : Offer) → EachPair StandsBefore offers → i < length offers → IsIn o (take i offers) → o.place < (get_or offers i d).place

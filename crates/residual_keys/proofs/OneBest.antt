@@ -6,11 +6,13 @@ use Rattle.fare_law.specs.declared.requests.Request.{Request}
 use Rattle.fare_law.specs.declared.tickets.Component.{Component}
 use Rattle.fare_law.specs.declared.tickets.Ticket.{Ticket}
 use Rattle.fare_law.specs.Book.{Book, live_fare, live_rule}
-use Rattle.fare_law.specs.Lawful.{Part, IsPart, Lawful}
+use Rattle.fare_law.specs.Lawful.{Lawful}
+use Rattle.fare_law.specs.Parts.{Part, IsPart, price_of, share, stopover_charge, surcharges}
 use Rattle.fare_law.specs.Lists.{Each, Matched}
-use Rattle.fare_law.specs.Moves.{moves_of, run_code}
-use Rattle.fare_law.specs.Order.{Before, Best, Cheaper, Costs, HasKeys, code}
-use Rattle.fare_law.specs.Parts.{price_of, share, stopover_charge, surcharges}
+use Rattle.fare_law.specs.Moves.{moves_of}
+use Rattle.fare_law.specs.Codes.{run_code, code}
+use Rattle.fare_law.specs.Best.{Before, Best, Cheaper, Costs}
+use Rattle.fare_law.specs.Limits.{HasKeys}
 use Rattle.residual_keys.specs.Searches.{Drawn, IsDrawn, DrawnBefore, BestRuns}
 use Rattle.residual_keys.proofs.Known.{Known}
 use Rattle.residual_keys.proofs.LeastOne.{k_least_one}

@@ -6,7 +6,8 @@ use Rattle.fare_law.specs.declared.requests.Request.{Request}
 use Rattle.fare_law.specs.declared.requests.Slice.{Slice}
 use Rattle.fare_law.specs.Book.{Book, live_fare, live_rule}
 use Rattle.fare_law.specs.Lists.{Each, OnFirst, OnLast}
-use Rattle.fare_law.specs.Order.{HasKeys, IsCarrier, IsBasis}
+use Rattle.fare_law.specs.Limits.{HasKeys}
+use Rattle.fare_law.specs.Names.{IsCarrier, IsBasis}
 use Rattle.fare_law.specs.Parts.{Numbers, Filed, StandsFor, price_of}
 use Rattle.fare_law.specs.declared.moves.Move.{Move}
 use Rattle.open_unit.specs.declared.units.OpenUnit.{OpenUnit}

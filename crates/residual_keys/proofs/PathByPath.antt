@@ -5,8 +5,9 @@ use Rattle.fare_law.specs.declared.flights.Flight.{Flight}
 use Rattle.fare_law.specs.declared.market.OfferKey.{OfferKey}
 use Rattle.fare_law.specs.declared.requests.Request.{Request}
 use Rattle.fare_law.specs.Book.{Book}
-use Rattle.fare_law.specs.Lists.{Each, EachPair, IsIn}
-use Rattle.fare_law.specs.Order.{HasKeys, IsBasis, IsCarrier, Less}
+use Rattle.fare_law.specs.Lists.{Each, EachPair, IsIn, Less}
+use Rattle.fare_law.specs.Limits.{HasKeys}
+use Rattle.fare_law.specs.Names.{IsBasis, IsCarrier}
 use Rattle.ticket_order.specs.Coding.{Coded}
 use Rattle.flight_paths.specs.declared.positions.Path.{Path}
 use Rattle.flight_paths.specs.Paths.{ArePaths, Precedes}

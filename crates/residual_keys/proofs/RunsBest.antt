@@ -5,12 +5,13 @@ use Rattle.fare_law.specs.declared.tickets.Ticket.{Ticket}
 use Rattle.fare_law.specs.Book.{Book}
 use Rattle.fare_law.specs.Lawful.{Lawful}
 use Rattle.fare_law.specs.Lists.{Each, EachPair, Matched, IsIn}
-use Rattle.fare_law.specs.Order.{Before, Cheaper, Best, code}
+use Rattle.fare_law.specs.Best.{Before, Cheaper, Best}
+use Rattle.fare_law.specs.Codes.{code, run_code}
 use Rattle.fare_law.specs.Flights.{Ascending}
-use Rattle.fare_law.specs.Moves.{moves_of, run_code}
+use Rattle.fare_law.specs.Moves.{moves_of}
 use Rattle.residual_keys.specs.Searches.{Drawn, IsDrawn, DrawnBefore, BestRuns, TicketOf}
 use Rattle.residual_keys.proofs.Known.{Known}
-use Rattle.residual_keys.proofs.NothingLost.{run_ticket, ticket_run, codes}
+use Rattle.residual_keys.proofs.NothingLost.{run_ticket, ticket_run}
 use Rattle.residual_keys.proofs.OneTicket.{ticket_one}
 
 -- each drawn run has its ticket
@@ -22,7 +23,7 @@ tickets_of known b q asc (d ∷ ds) h =
     (t.0 ∷ r.0, ((t.1, t.2, t.3), r.1))
 
 code_is : (b : Book) (q : Request) (d : Drawn) (t : Ticket) → TicketOf b q d t → run_code d.moves ≡ code t
-code_is b q d t h = ap run_code (sym h.1) ∙ sym (codes [] t.components)
+code_is b q d t h = ap run_code (sym h.1)
 
 pub cheaper : (b : Book) (q : Request) (d e : Drawn) (t u : Ticket) → TicketOf b q d t → TicketOf b q e u → DrawnBefore d e → Cheaper b q t u
 cheaper b q d e t u h k w = (d.price, e.price, h.2, k.2, subst (λ z. Before d.price z e.price (code u)) (code_is b q d t h) (subst (λ z. Before d.price (run_code d.moves) e.price z) (code_is b q e u k) w))

@@ -13,8 +13,7 @@ use Rattle.fare_law.specs.declared.fares.FareKey.{FareKey}
 use Rattle.fare_law.specs.declared.names.Place.{Place}
 use Rattle.fare_law.specs.declared.sheets.SheetRow.{SheetRow}
 use Rattle.fare_law.specs.Book.{Book, live_fare, live_rule}
-use Rattle.fare_law.specs.Lists.{AllDifferent, Each, EachPair, IsIn, KLeast}
-use Rattle.fare_law.specs.Order.{Less}
+use Rattle.fare_law.specs.Lists.{AllDifferent, Each, EachPair, IsIn, KLeast, Less}
 use Rattle.fare_law.specs.Sheets.{IsLiveRow, IsSheet, RowBefore, Sheet, SheetOf}
 use Rattle.residual_keys.proofs.LeastOne.{k_least_one}
 use Rattle.residual_keys.proofs.Needed.{each_from}

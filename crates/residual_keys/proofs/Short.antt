@@ -11,7 +11,7 @@ use Rattle.flight_paths.specs.declared.positions.Position.{Position}
 use Rattle.flight_paths.specs.Positions.{IsPath, Flies, LeadsTo, before_slice}
 use Rattle.open_unit.specs.declared.units.OpenUnit.{OpenUnit}
 use Rattle.residual_keys.specs.Residuals.{State, Moves, Run, RunFromRoot, begins, part_with, no_part}
-use Rattle.residual_keys.proofs.Fitting.{get_within}
+use Rattle.flight_paths.proofs.Fitting.{within}
 use Rattle.residual_keys.specs.Short.{flights_before, Earlier}
 
 -- how many flights lead on
@@ -26,7 +26,7 @@ leads_on b q s at f next is le (inl h) =
     subst (λ z. (suc (flights_before q (Some at)) ≤ flights_before q z) × LegEnd z) (sym h.1) (go (slice_get q.slices (suc at.slice)))
   where
     go : (o : Option Slice) → (suc (flights_before q (Some at)) ≤ flights_before q (before_slice b (suc at.slice) o (Some f.arr))) × LegEnd (before_slice b (suc at.slice) o (Some f.arr))
-    go None = (omega (arith, le, get_within q.slices at.slice s is), tt)
+    go None = (omega (arith, le, within q.slices at.slice s is), tt)
     go (Some t) = (omega (arith, le), omega arith)
 leads_on b q s at f next is le (inr h) =
     subst (λ z. (suc (flights_before q (Some at)) ≤ flights_before q z) × LegEnd z) (sym h.2) (omega (arith, h.1), omega (arith, h.1))

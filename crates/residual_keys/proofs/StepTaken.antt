@@ -19,7 +19,7 @@ use Rattle.residual_keys.specs.declared.residual.Next.{Next}
 use Rattle.residual_keys.specs.Residuals.{Moves, PartAllows, State, UnitStep, begins, closes, part_with}
 use Rattle.residual_keys.specs.Steps.{IsChosen, IsLiveOn, KeyOn, Leaves, StepsTo, left_at}
 use Rattle.residual_keys.specs.AskedKeys.{IsLeg}
-use Rattle.residual_keys.proofs.Components.{got_within}
+use Rattle.flight_paths.proofs.Fitting.{within}
 use Rattle.residual_keys.proofs.OneNext.{direction, flies_one, numbers_one, piece_one, some_one}
 use Rattle.residual_keys.proofs.Runs.{flies_numbers}
 use Rattle.residual_keys.proofs.StepFacts.{IsOver, key_directed, keys_one, lawful_offered, moves_key, row_stands}
@@ -140,7 +140,7 @@ path_known b q r ns fs next h = go ns fs h.some h.flies
     go : (ns : List ℕ) (fs : List Flight) → (ns ≡ [] → ⊥) → Flies b q.slices (Some r.at) ns fs next → r.at.slice < length q.slices
     go [] fs some h = absurd (some refl)
     go (n ∷ ns) [] some h = absurd h
-    go (n ∷ ns) (f ∷ fs) some h = got_within q.slices r.at.slice h.0 h.1
+    go (n ∷ ns) (f ∷ fs) some h = within q.slices r.at.slice h.0 h.1
 
 pub slice_known : (b : Book) (q : Request) (r : State) (m : Move) (next : Next) → StepsTo b q r m next → r.at.slice < length q.slices
 slice_known b q r m next (price, c) = path_known b q r m.flights c.flights c.after c.moves.path

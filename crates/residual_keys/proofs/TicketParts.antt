@@ -68,7 +68,7 @@ unfolding units_code
 code_zero = refl
 
 -- sums of the two asks
-with_small : (e : EndOnEnd) (k : ℕ) → k ≤ 3 → with_end e k ≤ 3
+pub with_small : (e : EndOnEnd) (k : ℕ) → k ≤ 3 → with_end e k ≤ 3
 with_small Free k h = h
 with_small SameCarrier zero h = omega arith
 with_small SameCarrier (suc zero) h = omega arith

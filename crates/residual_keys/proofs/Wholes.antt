@@ -8,16 +8,16 @@ use Rattle.fare_law.specs.declared.flights.Flight.{Flight}
 use Rattle.fare_law.specs.declared.tickets.Piece.{Piece}
 use Rattle.fare_law.specs.declared.requests.Request.{Request}
 use Rattle.fare_law.specs.Book.{Book}
-use Rattle.fare_law.specs.Lawful.{Part, comes_in, Numbered, unit_of, EndOnEndOf, EndOnEndHolds, PartsLawful}
+use Rattle.fare_law.specs.Lawful.{comes_in, Numbered, unit_of, EndOnEndOf, EndOnEndHolds, PartsLawful}
+use Rattle.fare_law.specs.Parts.{Part, Numbers, ComponentLawful}
 use Rattle.fare_law.specs.Lists.{Each}
-use Rattle.fare_law.specs.Parts.{Numbers, ComponentLawful}
 use Rattle.fare_law.specs.Units.{UnitLawful}
 use Rattle.unit_labels.specs.Labels.{LawfulLabels}
 use Rattle.unit_labels.specs.UnitRuns.{pick, Accepted, EachAccepted}
 use Rattle.open_unit.specs.OpenUnits.{unit_steps}
 use Rattle.flight_paths.specs.Positions.{Flies, before_slice}
 use Rattle.residual_keys.specs.Residuals.{no_part}
-use Rattle.residual_keys.proofs.Journeys.{flies_itinerary, itinerary_flies}
+use Rattle.flight_paths.proofs.Itineraries.{flies_itinerary, itinerary_flies}
 use Rattle.residual_keys.proofs.Marks.{OfCarrier}
 use Rattle.residual_keys.proofs.OneUnit.{accepted_lawful, lawful_accepted}
 use Rattle.fare_law.specs.Flights.{Ascending}

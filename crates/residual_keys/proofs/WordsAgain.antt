@@ -13,7 +13,7 @@ use Rattle.fare_law.specs.declared.names.Carrier.{Carrier}
 use Rattle.fare_law.specs.declared.names.Place.{Place}
 use Rattle.fare_law.specs.Limits.{IsCapital, IsPlace}
 use Rattle.fare_law.specs.Lists.{Each}
-use Rattle.fare_law.specs.Order.{IsCarrier, IsCharacter}
+use Rattle.fare_law.specs.Names.{IsCarrier, IsCharacter}
 use Rattle.name_text.specs.Names.{place_of, carrier_of, is_character}
 use Rattle.open_unit.specs.declared.marks.CarrierMark.{CarrierMark}
 use Rattle.open_unit.specs.declared.marks.CarrierMark.TheVariants.{NotYet, One, Mixed}

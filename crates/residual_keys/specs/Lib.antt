@@ -11,3 +11,4 @@ pub mod WaysOf
 pub mod AskedKeys
 pub mod ResidualText
 pub mod ResidualReading
+pub mod Written

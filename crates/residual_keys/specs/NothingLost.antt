@@ -5,8 +5,8 @@ use Rattle.fare_law.specs.declared.requests.Request.{Request}
 use Rattle.fare_law.specs.declared.tickets.Ticket.{Ticket}
 use Rattle.fare_law.specs.Book.{Book}
 use Rattle.fare_law.specs.Lawful.{Lawful}
-use Rattle.fare_law.specs.Moves.{moves_of, run_code}
-use Rattle.fare_law.specs.Order.{Costs, code}
+use Rattle.fare_law.specs.Moves.{moves_of}
+use Rattle.fare_law.specs.Best.{Costs}
 use Rattle.residual_keys.specs.Residuals.{State, RunFromRoot, RootLeadsTo}
 
 -- A run from the root is the moves of a lawful ticket, which costs what the run does.
@@ -16,10 +16,6 @@ RunsAreTickets b q = (ms : List Move) (price : ℕ) → RunFromRoot b q ms price
 -- The moves of a lawful ticket are a run from the root, which costs what the ticket does.
 abbrev pub TicketsAreRuns : Book → Request → Type 0
 TicketsAreRuns b q = (t : Ticket) → Lawful t b q → (price : ℕ) × RunFromRoot b q (moves_of t) price × Costs t b q price
-
--- Nothing is lost: the runs from the root are the moves of the lawful tickets, and price and code are the ticket's.
-abbrev pub NothingLost : Book → Request → Type 0
-NothingLost b q = RunsAreTickets b q × TicketsAreRuns b q × ((t : Ticket) → code t ≡ run_code (moves_of t))
 
 -- A list of moves is that of one lawful ticket.
 abbrev pub OneTicket : Book → Request → Type 0

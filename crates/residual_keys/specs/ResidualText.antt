@@ -4,7 +4,7 @@ use Rattle.std.specs.Fmt.{signed_decimal}
 use Rattle.std.specs.List.{join_with_byte}
 use Rattle.fare_law.specs.Limits.{IsPlace}
 use Rattle.fare_law.specs.Lists.{Each}
-use Rattle.fare_law.specs.Order.{IsCarrier}
+use Rattle.fare_law.specs.Names.{IsCarrier}
 use Rattle.fare_law.specs.declared.names.Place.{Place}
 use Rattle.flight_paths.specs.declared.positions.Position.{Position}
 use Rattle.open_unit.specs.declared.marks.CarrierMark.{CarrierMark}

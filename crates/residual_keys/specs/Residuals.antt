@@ -18,6 +18,7 @@ use Rattle.fare_law.specs.declared.moves.Role.TheVariants.{Alone, Opens, GoesOn,
 use Rattle.residual_keys.specs.declared.parts.TicketPart.{TicketPart}
 use Rattle.open_unit.specs.OpenUnits.{carrier_with, OneCarrierMark, MayAlone, MayOpen, opened, MayGoOn, gone_on, MayClose}
 use Rattle.flight_paths.specs.Positions.{IsPath, before_slice}
+pub use Rattle.ticket_order.specs.Tickets.{begins}
 
 -- what the rest of a search depends on
 pub record State : Type 0 where
@@ -33,12 +34,6 @@ with_end Never ends = cond (nat_le 2 ends) ends (ends + 2)
 abbrev pub ends_with : Option CombineRule → ℕ → ℕ
 ends_with None ends = ends
 ends_with (Some c) ends = with_end c.end_on_end ends
-
-abbrev pub begins : Role → Bool
-begins Alone = true
-begins Opens = true
-begins GoesOn = false
-begins Closes = false
 
 -- whether a component in this role has a fare that is filed from its end to its beginning
 abbrev pub closes : Role → Bool

@@ -1,15 +1,16 @@
 -- What a search finds: the states that are needed, their least prices, the certificate of a search.
-use Rattle.std.specs.Prelude.{◌≡◌, ◌↔◌, ℕ, ◌≤◌, List, length, Option, MatchOption}
+use Rattle.std.specs.Prelude.{◌≡◌, ◌↔◌, ℕ, suc, ◌≤◌, List, length, Option, MatchOption}
 use Rattle.fare_law.specs.declared.requests.Request.{Request}
 use Rattle.fare_law.specs.declared.tickets.Ticket.{Ticket}
 use Rattle.fare_law.specs.Book.{Book}
-use Rattle.fare_law.specs.Lists.{EachPair, IsIn, KLeast}
+use Rattle.fare_law.specs.Lists.{HasMany, EachPair, IsIn, KLeast}
 use Rattle.fare_law.specs.Lawful.{Lawful}
-use Rattle.fare_law.specs.Order.{Before, Costs}
+use Rattle.fare_law.specs.Best.{Before, Costs}
 use Rattle.fare_law.specs.declared.moves.Move.{Move}
 use Rattle.residual_keys.specs.ResidualOrder.{StateBefore}
 use Rattle.residual_keys.specs.Residuals.{State, Run, RunFromRoot, RootLeadsTo}
-use Rattle.fare_law.specs.Moves.{moves_of, run_code}
+use Rattle.fare_law.specs.Moves.{moves_of}
+use Rattle.fare_law.specs.Codes.{run_code}
 
 abbrev pub Reached : Book → Request → State → Type 0
 Reached b q x = (ms : List Move) × RootLeadsTo b q ms x
@@ -22,6 +23,10 @@ pub record AreNeeded (Smaller : State → State → Type 0) (b : Book) (q : Requ
 -- how many states a search needs, in the order of residuals
 abbrev pub IsSize : Book → Request → ℕ → Type 0
 IsSize b q n = (need : List State) × AreNeeded StateBefore b q need × (n ≡ length need)
+
+-- More than n states are reached: so many different ones there are.
+abbrev pub ReachesMoreThan : ℕ → Book → Request → Type 0
+ReachesMoreThan n b q = HasMany (suc n) (Reached b q)
 
 -- the least price of a run from the state
 abbrev pub IsLeast : Book → Request → State → ℕ → Type 0

@@ -5,16 +5,19 @@ ghost use Rattle.fare_component.specs.Keys.{Asked, asked};
 ghost use Rattle.fare_law.specs.declared.flights.Flight.{Flight as DatedFlight};
 ghost use Rattle.fare_law.specs.declared.market.OfferKey.{OfferKey as Key};
 ghost use Rattle.fare_law.specs.Limits.{IsRequest};
-ghost use Rattle.fare_law.specs.Lists.{AllDifferent, Each, EachPair};
-ghost use Rattle.fare_law.specs.Moves.{move_code};
-ghost use Rattle.fare_law.specs.Order.{Less};
+ghost use Rattle.fare_law.specs.Lists.{AllDifferent, Each, EachPair, Less};
+ghost use Rattle.fare_law.specs.Codes.{move_code};
 ghost use Rattle.residual_keys.specs.AskedKeys.{KeyOf};
 ghost use Rattle.residual_keys.specs.Gathered.{Adds};
+ghost use Rattle.residual_keys.specs.ResidualText.{IsWritten};
 ghost use Rattle.residual_keys.specs.Steps.{AreMoves, IsChosen};
+ghost use Rattle.residual_keys.specs.Written.{IsWrittenNext};
 ghost use Rattle.ticket_order.specs.Coding.{Coded};
 
 use crate::component::schedule_of;
 use crate::gathering::add_path;
+use crate::laws::reached_is_written;
+use crate::limits::book_limits;
 use crate::{Chosen, Residual};
 use fare_book::Book;
 use fare_component::OfferSource;
@@ -25,7 +28,7 @@ use ticket_order::{codes_tell, move_code, order_laws};
 
 /// The moves of a residual with their prices and what they leave, each once, ascending by code. After
 /// `Ok` whatever the keys of the residual ask for is settled with the source. A residual whose slice
-/// isn't one of the request has no move.
+/// isn't one of the request has no move. What is left has a text where the residual has one.
 pub fn moves<O: OfferSource>(
     alloc: Global,
     book: &Book,
@@ -35,12 +38,14 @@ pub fn moves<O: OfferSource>(
 ) -> Result<List<Chosen>, Mem>
     requires { IsRequest request.now }
     ensures moves { IfOk result (AreMoves book.now request.now residual.now) }
+    ensures written { IsWritten residual.now → IfOk result (Each (λ c. IsWrittenNext c.next)) }
     ensures base { O.base offers.new ≡ O.base offers.old }
     ensures stays { (a : Asked) → O.settled offers.old a → O.settled offers.new a }
     ensures asked { OnOk result ((key : Key) → KeyOf book.now request.now residual.now key → O.settled offers.new (asked key)) }
 {
     let found = gathered(alloc, book, request, residual, offers)?;
-    book.limits();
+    book_limits(book);
+    reached_is_written();
     let mut found = found.into_vec();
     put_in_order(found.as_mut_slice());
     Ok(List::from_vec(found))

@@ -5,9 +5,10 @@ ghost use Rattle.fare_law.specs.declared.requests.Request.{Request};
 ghost use Rattle.fare_law.specs.declared.tickets.Ticket.{Ticket};
 ghost use Rattle.fare_law.specs.Book.{Book};
 ghost use Rattle.fare_law.specs.Lawful.{Lawful};
+ghost use Rattle.fare_law.specs.Limits.{IsRequest};
 ghost use Rattle.fare_law.specs.Lists.{Matched};
-ghost use Rattle.fare_law.specs.Moves.{moves_of, run_code};
-ghost use Rattle.fare_law.specs.Order.{Best, Cheaper, HasKeys, code};
+ghost use Rattle.fare_law.specs.Best.{Best, Cheaper};
+ghost use Rattle.fare_law.specs.Limits.{HasKeys};
 ghost use Rattle.fare_law.specs.Flights.{Ascending};
 ghost use Rattle.open_unit.specs.OpenUnits.{unit_steps};
 ghost use Rattle.residual_keys.specs.Kept.{IsResidual};
@@ -15,14 +16,16 @@ ghost use Rattle.residual_keys.specs.NothingLost.{OneTicket, RunsAreTickets, Sam
 ghost use Rattle.residual_keys.specs.OneNext.{MoveLeavesOne, MovesLeadToOne, RunGoesOn, RunHasKeys};
 ghost use Rattle.residual_keys.specs.Residuals.{RunFromRoot, State};
 ghost use Rattle.residual_keys.specs.ResidualOrder.{IsStrictOrder, StateBefore};
-ghost use Rattle.residual_keys.specs.Searches.{AreNeeded, BestRuns, Drawn, TicketOf};
+ghost use Rattle.residual_keys.specs.Searches.{AreNeeded, BestRuns, Drawn, IsSize, ReachesMoreThan, TicketOf};
 ghost use Rattle.residual_keys.specs.Short.{FliesFew, MoveGoesOn, ReachedFits, RootRunIsShort, RunIsShort};
+ghost use Rattle.residual_keys.specs.Written.{InLimits, MovesKeepTexts, ReachedIsWritten, RootIsWritten, RunsHaveCodes};
 ghost use Rattle.std.specs.declared.cmp.Ordering.TheVariants.{Equal, Less};
-ghost use Rattle.std.specs.Prelude.{List, length, ℕ, ◌≡◌, ◌≤◌, ◌↔◌, ◌⊎◌};
+ghost use Rattle.std.specs.Prelude.{List, length, ℕ, ◌≡◌, ◌≤◌, ◌<◌, ◌↔◌, ◌⊎◌};
 
 use crate::Residual;
 use fare_law::Piece;
 use open_unit::OpenUnit;
+use rule_unit::rules_stay_in_range;
 use ticket_order::{codes_tell, order_laws};
 use unit_labels::{UnitSteps, label_laws, unit_laws};
 
@@ -35,14 +38,14 @@ impl UnitSteps<Piece, OpenUnit> for FareUnits {
 
 /// Nothing is lost: where the timetable's flights stand in the order of their departures, a list of
 /// moves is a run from the root exactly where it is the moves of a lawful ticket, and then of one,
-/// with the run's price; the code of its moves is the ticket's code. Where two lists of moves lead
-/// to one residual, what completes the one completes the other.
+/// with the run's price. Where two lists of moves lead to one residual, what completes the one
+/// completes the other. A lawful ticket of at most six slices has at most 18 components.
 pub fn nothing_lost()
     ensures runs { (b : Book) (q : Request) → Ascending b.timetable.flights → RunsAreTickets b q }
     ensures tickets { (b : Book) (q : Request) → TicketsAreRuns b q }
-    ensures codes { (t : Ticket) → code t ≡ run_code (moves_of t) }
     ensures one { (b : Book) (q : Request) → OneTicket b q }
     ensures same { (b : Book) (q : Request) → Ascending b.timetable.flights → SameCompletions b q }
+    ensures few { (b : Book) (q : Request) (t : Ticket) → length q.slices ≤ 6 → Lawful t b q → length t.components ≤ 18 }
 {
     label_laws();
     unit_laws::<Piece, OpenUnit, FareUnits>();
@@ -101,3 +104,22 @@ pub fn runs_are_short()
     ensures six { (b : Book) (q : Request) (ms : List Move) (price : ℕ) → length q.slices ≤ 6 → RunFromRoot b q ms price → length ms ≤ 18 }
     ensures fits { (b : Book) (q : Request) → ReachedFits b q }
 {}
+
+/// The size of a search is one number, and more residuals than n are reached exactly where it is
+/// greater than n.
+pub fn one_size()
+    ensures one { (b : Book) (q : Request) (m n : ℕ) → IsSize b q m → IsSize b q n → m ≡ n }
+    ensures more { (b : Book) (q : Request) (size n : ℕ) → IsSize b q size → ReachesMoreThan n b q ↔ (n < size) }
+{}
+
+/// What a search reaches has a text, and the code of a run from the root is that of its moves alone:
+/// where the book and the request are within their limits, names have their characters, and numbers
+/// fit their fields.
+pub fn reached_is_written()
+    ensures root { (b : Book) (q : Request) → InLimits b → IsRequest q → RootIsWritten b q }
+    ensures moves { (b : Book) (q : Request) → InLimits b → IsRequest q → MovesKeepTexts b q }
+    ensures reached { (b : Book) (q : Request) → InLimits b → IsRequest q → ReachedIsWritten b q }
+    ensures codes { (b : Book) (q : Request) → InLimits b → length q.slices ≤ 6 → RunsHaveCodes b q }
+{
+    rules_stay_in_range();
+}

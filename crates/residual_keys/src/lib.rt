@@ -12,20 +12,23 @@ mod gathering;
 mod kept;
 mod laws;
 mod leaving;
+mod limits;
 mod open_units;
 mod parts;
 mod reading;
 mod residual;
 mod stepping;
-#[cfg(test)]
-mod tests;
 mod text;
 mod way;
 mod words;
 
 pub use beginning::root;
 pub use choosing::moves;
-pub use laws::{best_runs, nothing_lost, one_best, one_next, residual_order, runs_are_short};
+pub use laws::{
+    best_runs, nothing_lost, one_best, one_next, one_size, reached_is_written, residual_order,
+    runs_are_short,
+};
+pub use limits::book_limits;
 pub use parts::TicketPart;
 pub use reading::{one_residual_text, read_residual};
 pub use residual::{Chosen, Next, Residual};

@@ -5,18 +5,35 @@ ghost use Rattle.fare_law.specs.Limits.{IsFare, IsFlight, IsRequest};
 ghost use Rattle.fare_law.specs.RuleLimits.{IsRule};
 ghost use Rattle.flight_paths.specs.Positions.{IsPath};
 ghost use Rattle.residual_keys.specs.declared.residual.Next.{Next as After};
+ghost use Rattle.residual_keys.specs.ResidualText.{IsWritten};
 ghost use Rattle.residual_keys.specs.Steps.{IsLiveOn, StepsTo};
+ghost use Rattle.residual_keys.specs.Written.{IsWrittenNext};
 
 use crate::component::{closes, flights_of, key_on, legs_of, piece_over, schedule_of};
+use crate::laws::reached_is_written;
 use crate::leaving::next_after;
+use crate::limits::book_limits;
 use crate::{Next, Residual};
 use fare_book::Book;
 use fare_component::is_offered;
 use fare_law::{Flight, Move, Request, SheetRow};
 use flight_paths::{Position, path_of};
 
-/// What a move of a residual leaves. None exactly where it is no move of the residual.
+/// What a move of a residual leaves. None exactly where it is no move of the residual. It has a text
+/// where the residual has one.
 pub fn step(book: &Book, request: &Request, residual: &Residual, mv: &Move) -> Option<Next>
+    requires { IsRequest request.now }
+    ensures some { IfSome result (StepsTo book.now request.now residual.now mv.now) }
+    ensures none { IfNone result ((next : After) → StepsTo book.now request.now residual.now mv.now next → ⊥) }
+    ensures written { IsWritten residual.now → IfSome result IsWrittenNext }
+{
+    book_limits(book);
+    reached_is_written();
+    next_by(book, request, residual, mv)
+}
+
+/// What a move of a residual leaves. None exactly where it is no move of the residual.
+fn next_by(book: &Book, request: &Request, residual: &Residual, mv: &Move) -> Option<Next>
     requires { IsRequest request.now }
     ensures some { IfSome result (StepsTo book.now request.now residual.now mv.now) }
     ensures none { IfNone result ((next : After) → StepsTo book.now request.now residual.now mv.now next → ⊥) }

@@ -5,8 +5,6 @@
 
 mod departure;
 mod first_day;
-#[cfg(test)]
-mod tests;
 
 pub use departure::day_time_ok;
 pub use first_day::{advance_ok, season_ok, travel_ok};

@@ -1,5 +1,4 @@
 pub mod Neighbours
 pub mod StopPlaces
 pub mod Sums
-pub mod Timed
 pub mod WithinLimits

@@ -7,8 +7,6 @@ mod connections;
 mod extras;
 mod laws;
 mod named_flights;
-#[cfg(test)]
-mod tests;
 
 pub use connections::{stopovers, stopovers_ok, transfers_ok};
 pub use extras::{charge, surcharge};

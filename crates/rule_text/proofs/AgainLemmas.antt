@@ -7,7 +7,7 @@ use Rattle.std.proofs.lemmas.Int.{ints}
 use Rattle.serde_json.specs.Data.{Data, Items, no_items, item, array, number, unsigned, string, items_depth}
 use Rattle.serde_json.specs.Written.{items_have_float}
 use Rattle.fare_law.specs.Lists.{Each, EachPair}
-use Rattle.fare_law.specs.Order.{IsCarrier, IsCharacter}
+use Rattle.fare_law.specs.Names.{IsCarrier, IsCharacter}
 use Rattle.fare_law.specs.declared.names.Carrier.{Carrier}
 use Rattle.fare_law.specs.declared.names.Place.{Place}
 use Rattle.fare_law.specs.declared.rules.CombineRule.{CombineRule}
@@ -24,11 +24,10 @@ use Rattle.market_time.specs.Dates.{day_spelled}
 use Rattle.name_text.specs.Names.{place_of, carrier_of, is_character}
 use Rattle.fare_law.specs.Limits.{IsCapital, IsPlace}
 use Rattle.rule_text.specs.declared.fault.RuleFault.{RuleFault}
-use Rattle.fare_law.specs.RuleLimits.{IsListOf, IsWeekday, IsDays, IsDayRange, IsDayTime, IsFlightRange, IsMinStay, IsSurcharge, IsTransferRule, IsCombineRule}
+use Rattle.fare_law.specs.RuleLimits.{IsListOf, IsWeekday, IsDays, IsDayRange, IsDayTime, IsFlightRange, IsMinStay, IsSurcharge, IsTransferRule, IsCombineRule, rank_of_kind}
 use Rattle.rule_text.specs.Members.{each_of, item_count, list_of}
 use Rattle.rule_text.specs.Parts.{ascend, ascend_from, date_of, day_range_of, days_of, flight_range_of, place_form, weekday_of}
 use Rattle.rule_text.specs.Rules.{combine_rule_of, day_time_of, end_on_end_spelled, flight_rule_of, min_stay_of, partners_spelled, surcharge_of, transfer_rule_of, unit_kind_of, unit_kind_spelled}
-use Rattle.fare_law.specs.RuleLimits.{rank_of_kind}
 use Rattle.rule_text.specs.Written.{Spells, SpellsEach, combine_rule_data, day_range_data, day_time_data, flight_range_data, flight_rule_data, min_stay_data, surcharge_data, transfer_rule_data}
 
 le_true : (a b : ℕ) → a ≤ b → nat_le a b ≡ true

@@ -13,8 +13,6 @@ mod part;
 mod ranges;
 mod reading;
 mod singles;
-#[cfg(test)]
-mod tests;
 mod texts;
 mod writing;
 

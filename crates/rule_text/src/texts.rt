@@ -3,7 +3,7 @@ ghost use Rattle.std.specs.Prelude.{◌≡◌, ◌+◌, ◌/◌, ◌%◌, ◌<�
 ghost use Rattle.std.specs.Str.{IsAscii};
 ghost use Rattle.market_time.specs.Clock.{minute_spelled};
 ghost use Rattle.market_time.specs.Digits.{digits_of};
-ghost use Rattle.fare_law.specs.Order.{IsCarrier};
+ghost use Rattle.fare_law.specs.Names.{IsCarrier};
 ghost use Rattle.fare_law.specs.Limits.{IsPlace};
 
 use fare_law::{Carrier, Place};

@@ -1,4 +1,4 @@
--- Days of return and last days: where two demands hold, and what categories 6, 7 and 14 say.
+-- Days of return and last days: where two demands hold, and what categories 6, 7 and 14 say. Given on to the crates above.
 use Rattle.std.proofs.Common.{◌≡◌, ℕ, ℤ, pos, ◌+ℤ◌, ◌≤ℤ◌, Bool, true, false, cond, Option, Some, None, IfSome, sym, ap, ◌∙◌, arith}
 use Rattle.std.specs.Bool.{OnTrue}
 use Rattle.std.specs.Int.{int_max, int_min}

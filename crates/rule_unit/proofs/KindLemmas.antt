@@ -1,4 +1,4 @@
--- Sums of kinds: which kinds a sum has, the common kinds, and the kinds that category 10 lists.
+-- Sums of kinds: which kinds a sum has, the common kinds, and the kinds that category 10 lists. Given on to the crates above.
 use Rattle.std.proofs.Common.{◌≡◌, ℕ, zero, suc, ◌+◌, ◌*◌, ◌<◌, ◌≤◌, ◌^◌, Bool, true, false, cond, ◌||◌, not, min, List, [], ◌∷◌, length, Option, Some, None, Contains, IfSome, sym, refl, ap, ◌∙◌, inl, inr, arith, bit_and, eqb, eq-eqb, eqb-true, get_or}
 use Rattle.std.specs.Int.{bit_at}
 use Rattle.std.specs.List.{list_any}

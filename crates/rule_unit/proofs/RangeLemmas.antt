@@ -1,4 +1,4 @@
--- Demands of rules, and those that two demands meet in, stay in their ranges.
+-- Demands of rules, and those that two demands meet in, stay in their ranges. Given on to the crates above.
 use Rattle.std.proofs.Common.{IfSome, ◌≡◌, ℕ, ℤ, pos, ◌≤◌, ◌+ℤ◌, Bool, true, false, cond, Option, Some, None, sym, subst, ◌-◌, ◌%◌, arith}
 use Rattle.std.specs.Int.{int_max, int_min}
 use Rattle.std.proofs.lemmas.Int.{ints}

@@ -6,8 +6,6 @@
 mod demand;
 mod kinds;
 mod laws;
-#[cfg(test)]
-mod tests;
 
 pub use demand::UnitDemand;
 pub use laws::{demands_are_rules, rules_stay_in_range};

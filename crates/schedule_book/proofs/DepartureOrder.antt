@@ -15,8 +15,7 @@ use Rattle.std.specs.List.Sorted.{IsPartitionedBy, IsSorted}
 use Rattle.std.specs.Ordering.{MatchOrdering, is_lt, nat_cmp, ordering_index, ordering_then}
 use Rattle.fare_law.specs.declared.flights.Flight.{Flight}
 use Rattle.fare_law.specs.declared.names.Place.{Place}
-use Rattle.fare_law.specs.Lists.{EachPair, IsIn}
-use Rattle.fare_law.specs.Order.{Less}
+use Rattle.fare_law.specs.Lists.{EachPair, IsIn, Less}
 use Rattle.schedule_book.specs.Departures.{AreDepartures, DepartsFrom, Indexes, origin_cmp, origins}
 use Rattle.schedule_book.proofs.Sorting.{words_told}
 

@@ -10,3 +10,5 @@ pub mod Building
 pub mod Lower
 pub mod DepartureOrder
 pub mod Limited
+pub mod OneFault
+pub mod OneList

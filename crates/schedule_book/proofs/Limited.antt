@@ -7,7 +7,7 @@ use Rattle.fare_law.specs.Days.{IsCalendarDay, IsInstant, IsMinute, IsOffset, Is
 use Rattle.fare_law.specs.Flights.{AreFlights, Ascending, Dated, Earlier, instant}
 use Rattle.fare_law.specs.Limits.{IsFlight, IsFlightNumber, IsFlightRow, IsPlace}
 use Rattle.fare_law.specs.Lists.{Each, EachPair, IsIn}
-use Rattle.fare_law.specs.Order.{IsCarrier}
+use Rattle.fare_law.specs.Names.{IsCarrier}
 use Rattle.schedule_book.specs.LocalDays.{KeepsDay}
 use Rattle.schedule_book.proofs.Lower.{before_le}
 

@@ -8,7 +8,8 @@ use Rattle.fare_law.specs.contracts.names.PlacePartialEq.TheImpl as place
 use Rattle.std.proofs.lemmas.Slice.Eq.{bytes_eq-Decides}
 use Rattle.std.proofs.lemmas.Bool.Decides.{same_from_decides}
 use Rattle.std.specs.Cmp.Lexicographic.{bytes_decides}
-use Rattle.fare_law.specs.Lists.{IsIn}
+use Rattle.fare_law.specs.Limits.{IsPlace, IsPlaceRow}
+use Rattle.fare_law.specs.Lists.{Each, IsIn}
 use Rattle.schedule_book.specs.Connects.{connect_of}
 use Rattle.schedule_book.specs.Faults.{IsKnown, PlacesDiffer, PlaceFault}
 use Rattle.schedule_book.specs.declared.faults.SchedFault.TheVariants.{PlaceTwice}
@@ -113,3 +114,9 @@ known_decided q rows = by (connect_of rows q) refl
     by : (o : Option ℕ) → connect_of rows q ≡ o → IsKnown q rows ⊎ (IsKnown q rows → ⊥)
     by None e = inr (λ k. known_some q rows k e)
     by (Some n) e = inl (some_known q rows n e)
+
+-- a known place is of its form, where all rows are
+pub known_formed : (rows : List PlaceRow) → Each IsPlaceRow rows → (place : Place) → IsKnown place rows → IsPlace place
+known_formed [] f place k = absurd k.1
+known_formed (r ∷ rows) f place (row, inl e, same) = subst IsPlace (ap (λ x. x.place) (sym e) ∙ same) f.0.place
+known_formed (r ∷ rows) f place (row, inr i, same) = known_formed rows f.1 place (row, i, same)

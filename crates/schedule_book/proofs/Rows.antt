@@ -1,4 +1,4 @@
--- Rows one after another: splits of a list, and the rows before one.
+-- Rows one after another: splits of a list, and the rows before one. Given on to the crates above.
 use Rattle.std.proofs.Common.{◌≡◌, ℕ, suc, ◌+◌, ◌<◌, ◌⊎◌, List, [], ◌∷◌, ◌++◌, length, take, drop, get_or, refl, sym, ap, ap₂, ◌∙◌, inl, inr, arith}
 use Rattle.std.proofs.Math.Seq.{drop-cons, take-suc}
 use Rattle.std.proofs.lemmas.List.{take-append-drop}
@@ -34,6 +34,26 @@ split_push (y ∷ ys) x (b ∷ bs) r after e = elim (split_push ys x bs r after 
     head q = cc
 
     tail : y ∷ (ys ++ x ∷ []) ≡ b ∷ (bs ++ r ∷ after) → ys ++ x ∷ [] ≡ bs ++ r ∷ after
+    tail q = cc
+
+-- a list that is split twice is split at one place, or the one place stands before the other
+pub splits : {X : Type 0} (xs : List X) (x : X) (xt ys : List X) (y : X) (yt : List X) → xs ++ x ∷ xt ≡ ys ++ y ∷ yt
+    → ((xs ≡ ys) × (x ≡ y)) ⊎ (((rest : List X) × (xs ≡ ys ++ y ∷ rest)) ⊎ ((rest : List X) × (ys ≡ xs ++ x ∷ rest)))
+splits [] x xt [] y yt e = inl (refl, cc)
+splits [] x xt (b ∷ ys) y yt e = inr (inr (ys, cc))
+splits (a ∷ xs) x xt [] y yt e = inr (inl (xs, cc))
+splits (a ∷ xs) x xt (b ∷ ys) y yt e = elim (splits xs x xt ys y yt (tail e)) [
+  | inl s ↦ inl (ap₂ (λ z zs. z ∷ zs) (head e) s.0, s.1)
+  | inr o ↦ elim o [
+    | inl s ↦ inr (inl (s.0, ap₂ (λ z zs. z ∷ zs) (head e) s.1))
+    | inr s ↦ inr (inr (s.0, ap₂ (λ z zs. z ∷ zs) (sym (head e)) s.1))
+  ]
+]
+  where
+    head : a ∷ (xs ++ x ∷ xt) ≡ b ∷ (ys ++ y ∷ yt) → a ≡ b
+    head q = cc
+
+    tail : a ∷ (xs ++ x ∷ xt) ≡ b ∷ (ys ++ y ∷ yt) → xs ++ x ∷ xt ≡ ys ++ y ∷ yt
     tail q = cc
 
 pub split_none : {X : Type 0} (before : List X) (r : X) (after : List X) → [] ≡ before ++ r ∷ after → ⊥

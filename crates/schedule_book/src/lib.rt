@@ -14,8 +14,6 @@ mod row_faults;
 mod schedule;
 
 pub use faults::SchedFault;
-pub use laws::ordered_flights_ascend;
+pub use laws::{one_fault_of_rows, one_list_of_flights, ordered_flights_ascend};
 pub use schedule::Schedule;
 
-#[cfg(test)]
-mod tests;

@@ -1,11 +1,12 @@
 //! The schedule of a timetable.
 ghost use Rattle.std.specs.Prelude.{◌≡◌, ◌≤◌, int_lt, count_by, length, IfErr, IfOk, OnOk};
 ghost use Rattle.fare_law.specs.Flights.{AreFlights, Ascending, Earlier};
-ghost use Rattle.fare_law.specs.Limits.{IsFlight, IsFlightRow, IsPlaceRow};
+ghost use Rattle.fare_law.specs.Limits.{IsFlight, IsFlightRow, IsPlace, IsPlaceRow};
+ghost use Rattle.fare_law.specs.declared.names.Place.{Place as PlaceName};
 ghost use Rattle.fare_law.specs.Lists.{Each, EachPair};
 ghost use Rattle.schedule_book.specs.Connects.{connect_of};
 ghost use Rattle.schedule_book.specs.Departures.{AreDepartures};
-ghost use Rattle.schedule_book.specs.Faults.{HasCause, PlacesDiffer, RowsRight};
+ghost use Rattle.schedule_book.specs.Faults.{HasCause, IsKnown, PlacesDiffer, RowsRight};
 ghost use Rattle.schedule_book.specs.LocalDays.{KeepsDay};
 
 use crate::SchedFault;
@@ -29,7 +30,7 @@ pub struct Schedule {
 impl Model for Schedule {
     ghost use Rattle.std.specs.Prelude.{◌≤◌, length};
     ghost use Rattle.fare_law.specs.Flights.{Earlier};
-    ghost use Rattle.fare_law.specs.Limits.{IsFlight};
+    ghost use Rattle.fare_law.specs.Limits.{IsFlight, IsPlaceRow};
     ghost use Rattle.fare_law.specs.Lists.{Each, EachPair};
     ghost use Rattle.schedule_book.specs.Departures.{Indexes};
     ghost use Rattle.schedule_book.specs.LocalDays.{KeepsDay};
@@ -39,7 +40,7 @@ impl Model for Schedule {
 
     ghost view = { λ s. record { places = s.places; flights = s.flights } };
 
-    ghost invariant = { λ s. (EachPair Earlier s.flights) × (length s.flights ≤ 200000) × Indexes s.flights s.departures.keys.items s.departures.numbers.items × Each IsFlight s.flights × Each KeepsDay s.flights };
+    ghost invariant = { λ s. (EachPair Earlier s.flights) × (length s.flights ≤ 200000) × Indexes s.flights s.departures.keys.items s.departures.numbers.items × Each IsFlight s.flights × Each KeepsDay s.flights × Each IsPlaceRow s.places };
 }
 
 impl Schedule {
@@ -105,5 +106,12 @@ impl Schedule {
         ensures { result ≡ count_by (λ f. int_lt f.dep at) self.now.flights }
     {
         self.flights.as_slice().partition_point(|f| f.dep < at) as u32
+    }
+    /// Tells that the places are within their limits: each is of three capital letters.
+    pub fn limits(&self)
+        ensures places { Each IsPlaceRow self.now.places }
+        ensures known { (place : PlaceName) → IsKnown place self.now.places → IsPlace place }
+    {
+        let _ = &self.places;
     }
 }

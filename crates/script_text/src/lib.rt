@@ -8,8 +8,6 @@ mod laws;
 mod lines;
 mod numbers;
 mod reading;
-#[cfg(test)]
-mod tests;
 
 pub use faults::ScriptFault;
 pub use laws::one_reading;

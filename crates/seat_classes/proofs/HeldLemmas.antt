@@ -9,8 +9,7 @@ use Rattle.std.proofs.lemmas.Bool.{both_ways, false_from_ne_true, or_cases}
 use Rattle.fare_law.specs.contracts.filings.SeatKeyPartialEq.TheImpl as seat
 use Rattle.fare_law.specs.declared.filings.SeatKey.{SeatKey}
 use Rattle.fare_law.specs.Book.{same_seat_key}
-use Rattle.fare_law.specs.Faults.{HasMany}
-use Rattle.fare_law.specs.Lists.{AllDifferent, Each, IsIn}
+use Rattle.fare_law.specs.Lists.{HasMany, AllDifferent, Each, IsIn}
 use Rattle.seat_classes.specs.Held.{Changes, Counts, HasNoRoom, HasRow, seats_at}
 use Rattle.seat_classes.proofs.SeatKeys.{same_equivalence, same_flips, same_keys_tell, tests_agree}
 

@@ -4,7 +4,7 @@ use Rattle.std.specs.Map.{lookup}
 use Rattle.fare_law.specs.declared.filings.SeatKey.{SeatKey}
 use Rattle.fare_law.specs.declared.flights.Flight.{Flight}
 use Rattle.fare_law.specs.Book.{same_seat_key, or_else}
-use Rattle.fare_law.specs.Faults.{HasMany}
+use Rattle.fare_law.specs.Lists.{HasMany}
 
 -- the seats of a key, where it has a row
 abbrev pub seats_at : List (SeatKey × List ℕ) → SeatKey → Option (List ℕ)

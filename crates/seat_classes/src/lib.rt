@@ -12,5 +12,3 @@ pub use faults::{SeatFault, SeatPut};
 pub use laws::{live_rows_seat_flights, rows_begin_a_book};
 pub use seats::Seats;
 
-#[cfg(test)]
-mod tests;

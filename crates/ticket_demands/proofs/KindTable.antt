@@ -1,28 +1,22 @@
--- The kind that is told from stretches is the only kind of their unit.
+-- The kind that is told from stretches is that of their unit.
 use Rattle.std.proofs.Common.{◌≡◌, ◌∙◌, ◌&&◌, ◌≤◌, Bool, true, false, not, cond, List, [], ◌∷◌, Option, Some, None, MatchOption, map, length, refl, sym, subst, inl, inr, arith}
 use Rattle.std.specs.Bool.{Decides}
 use Rattle.fare_law.specs.declared.rules.UnitKind.{UnitKind}
 use Rattle.fare_law.specs.declared.rules.UnitKind.TheVariants.{OneWay, RoundTrip, OpenJaw, Circle}
 use Rattle.fare_law.specs.declared.tickets.Piece.{Piece}
 use Rattle.fare_law.specs.Book.{same_place}
-use Rattle.fare_law.specs.Lawful.{Part}
+use Rattle.fare_law.specs.Parts.{Part}
 use Rattle.std.proofs.lemmas.Bool.Decides.{Decides-and, Decides-like}
 use Rattle.fare_law.specs.Lists.{OnFirst, OnLast}
 use Rattle.fare_law.specs.Units.{IsUnit}
 use Rattle.ticket_demands.specs.declared.stretch.Stretch.{Stretch}
 use Rattle.ticket_demands.specs.declared.units.UnitFacts.{UnitFacts}
+use Rattle.ticket_demands.specs.Kinds.{HasNoKind}
 use Rattle.ticket_demands.specs.Stretches.{stretch_of, only_if, kind_of_ends, facts_from, facts_of}
 use Rattle.ticket_demands.proofs.Neighbours.{places_told}
 
-abbrev pub NoKind : List Piece → Type 0
-NoKind ps = (kind : UnitKind) → IsUnit kind ps → ⊥
-
-pub record OnlyKind (ps : List Piece) (kind : UnitKind) : Type 0 where
-  pub is : IsUnit kind ps
-  pub only : (other : UnitKind) → IsUnit other ps → other ≡ kind
-
 abbrev pub KindTold : Option UnitKind → List Piece → Type 0
-KindTold o ps = MatchOption o (NoKind ps) (OnlyKind ps)
+KindTold o ps = MatchOption o (HasNoKind ps) (λ kind. IsUnit kind ps)
 
 not_one : (p q : Piece) (ps : List Piece) → IsUnit OneWay (p ∷ q ∷ ps) → ⊥
 not_one p q ps h = absurd (omega (arith, h.0))
@@ -31,16 +25,7 @@ no_circle_below : (ps : List Piece) → length ps ≤ 2 → IsUnit Circle ps →
 no_circle_below ps le h = absurd (omega (arith, h.0, le))
 
 one_told : (p : Piece) (r : Bool) → p.reverse ≡ r → KindTold (only_if (not r) OneWay) (p ∷ [])
-one_told p false e = record {
-  is = (refl, e);
-  only = λ k h. one_only k h;
-}
-  where
-    one_only : (k : UnitKind) → IsUnit k (p ∷ []) → k ≡ OneWay
-    one_only OneWay h = refl
-    one_only RoundTrip h = absurd (omega (arith, h.0))
-    one_only OpenJaw h = absurd (omega (arith, h.0))
-    one_only Circle h = absurd (omega (arith, h.0))
+one_told p false e = (refl, e)
 one_told p true e = one_not
   where
     one_not : (k : UnitKind) → IsUnit k (p ∷ []) → ⊥
@@ -69,7 +54,7 @@ circle_only OpenJaw ps le h = absurd (omega (arith, h.0, le))
 circle_only Circle ps le h = refl
 
 circle_told : (t : Bool) (ps : List Piece) → 3 ≤ length ps → Decides t (IsUnit Circle ps) → KindTold (only_if t Circle) ps
-circle_told true ps le d = record { is = d.0 refl; only = λ k h. circle_only k ps le h }
+circle_told true ps le d = d.0 refl
 circle_told false ps le d = λ k h. let w : false ≡ true = d.1 (subst (λ x. IsUnit x ps) (circle_only k ps le h) h) in cc
 
 three_told : (p q r : Piece) → KindTold (only_if (not p.reverse && (not q.reverse && (r.reverse && (same_place q.begin p.end && (same_place r.begin q.end && same_place p.begin r.end))))) Circle) (p ∷ q ∷ r ∷ [])
@@ -86,34 +71,16 @@ four_told p q r s =
     (λ u. (u.2.0, (u.2.1.0, (u.2.1.1.0, (u.2.1.1.1, (u.3.0, (u.3.1.0, (u.3.1.1.0, sym u.4))))))))
     (Decides-and _ _ (forward_told p) (Decides-and _ _ (forward_told q) (Decides-and _ _ (forward_told r) (Decides-and _ _ (reverse_told s) (Decides-and _ _ (joins_told q p) (Decides-and _ _ (joins_told r q) (Decides-and _ _ (joins_told s r) (joins_told p s)))))))))
 
-not_two : (p q : Piece) → ((p.reverse ≡ false) × (q.reverse ≡ true) → ⊥) → NoKind (p ∷ q ∷ [])
+not_two : (p q : Piece) → ((p.reverse ≡ false) × (q.reverse ≡ true) → ⊥) → HasNoKind (p ∷ q ∷ [])
 not_two p q wrong OneWay h = absurd (omega (arith, h.0))
 not_two p q wrong RoundTrip h = wrong (h.1.0, h.1.1)
 not_two p q wrong OpenJaw h = wrong (h.1.0, h.1.1)
 not_two p q wrong Circle h = absurd (omega (arith, h.0))
 
 ends_told : (p q : Piece) (f n : Bool) → p.reverse ≡ false → q.reverse ≡ true → Decides f (q.begin ≡ p.end) → Decides n (p.begin ≡ q.end) → KindTold (kind_of_ends f n) (p ∷ q ∷ [])
-ends_told p q true true a b df dn = record { is = (refl, (a, b), ((df.0 refl, sym (dn.0 refl)), tt)); only = only }
-  where
-    only : (k : UnitKind) → IsUnit k (p ∷ q ∷ []) → k ≡ RoundTrip
-    only OneWay h = absurd (omega (arith, h.0))
-    only RoundTrip h = refl
-    only OpenJaw h = elim h.2.0 [ inl x ↦ absurd (x.1 (sym (dn.0 refl))) | inr y ↦ absurd (y.0 (df.0 refl)) ]
-    only Circle h = absurd (omega (arith, h.0))
-ends_told p q true false a b df dn = record { is = (refl, (a, b), (inl (df.0 refl, λ e. let w = dn.1 (sym e) in cc), tt)); only = only }
-  where
-    only : (k : UnitKind) → IsUnit k (p ∷ q ∷ []) → k ≡ OpenJaw
-    only OneWay h = absurd (omega (arith, h.0))
-    only RoundTrip h = let w = dn.1 (sym h.2.0.1) in absurd (cc)
-    only OpenJaw h = refl
-    only Circle h = absurd (omega (arith, h.0))
-ends_told p q false true a b df dn = record { is = (refl, (a, b), (inr (λ e. let w = df.1 e in cc, sym (dn.0 refl)), tt)); only = only }
-  where
-    only : (k : UnitKind) → IsUnit k (p ∷ q ∷ []) → k ≡ OpenJaw
-    only OneWay h = absurd (omega (arith, h.0))
-    only RoundTrip h = let w = df.1 h.2.0.0 in absurd (cc)
-    only OpenJaw h = refl
-    only Circle h = absurd (omega (arith, h.0))
+ends_told p q true true a b df dn = (refl, (a, b), ((df.0 refl, sym (dn.0 refl)), tt))
+ends_told p q true false a b df dn = (refl, (a, b), (inl (df.0 refl, λ e. let w = dn.1 (sym e) in cc), tt))
+ends_told p q false true a b df dn = (refl, (a, b), (inr (λ e. let w = df.1 e in cc, sym (dn.0 refl)), tt))
 ends_told p q false false a b df dn = none
   where
     none : (k : UnitKind) → IsUnit k (p ∷ q ∷ []) → ⊥
@@ -127,13 +94,13 @@ two_told p q true s e f = not_two p q (λ h. let w : true ≡ false = sym e ∙ 
 two_told p q false false e f = not_two p q (λ h. let w : false ≡ true = sym f ∙ h.1 in cc)
 two_told p q false true e f = ends_told p q _ _ e f (joins_told q p) (joins_told p q)
 
-no_many : (p q r s t : Piece) (ps : List Piece) → NoKind (p ∷ q ∷ r ∷ s ∷ t ∷ ps)
+no_many : (p q r s t : Piece) (ps : List Piece) → HasNoKind (p ∷ q ∷ r ∷ s ∷ t ∷ ps)
 no_many p q r s t ps OneWay h = absurd (omega (arith, h.0))
 no_many p q r s t ps RoundTrip h = absurd (omega (arith, h.0))
 no_many p q r s t ps OpenJaw h = absurd (omega (arith, h.0))
 no_many p q r s t ps Circle h = absurd (omega (arith, h.1))
 
-none_of_none : NoKind []
+none_of_none : HasNoKind []
 none_of_none OneWay h = absurd (omega (arith, h.0))
 none_of_none RoundTrip h = absurd (omega (arith, h.0))
 none_of_none OpenJaw h = absurd (omega (arith, h.0))
@@ -141,11 +108,11 @@ none_of_none Circle h = absurd (omega (arith, h.0))
 
 -- the kind and the days of a unit
 pub record AreFacts (ps : List Piece) (f : UnitFacts) : Type 0 where
-  pub kind : OnlyKind ps f.kind
+  pub kind : IsUnit f.kind ps
   pub days : OnFirst (λ a. OnLast (λ z. (f.first_day ≡ a.first_day) × (f.return_day ≡ z.first_day) × (f.last_day ≡ z.last_day)) ps) ps
 
 abbrev pub FactsTold : Option UnitFacts → List Piece → Type 0
-FactsTold o ps = MatchOption o (NoKind ps) (AreFacts ps)
+FactsTold o ps = MatchOption o (HasNoKind ps) (AreFacts ps)
 
 facts_from_kind : (o : Option UnitKind) (a z : Stretch) (ps : List Piece) → KindTold o ps → OnFirst (λ p. OnLast (λ q. (a.first_day ≡ p.first_day) × (z.first_day ≡ q.first_day) × (z.last_day ≡ q.last_day)) ps) ps → FactsTold (facts_from o a z) ps
 facts_from_kind None a z ps h days = h

@@ -3,5 +3,7 @@ pub mod PriceSums
 pub mod FlightEnds
 pub mod Neighbours
 pub mod CutLemmas
+pub mod OneKind
 pub mod KindTable
 pub mod PartTold
+pub mod CategoryTold

@@ -12,7 +12,8 @@ use Rattle.fare_law.specs.declared.sheets.SheetRow.{SheetRow}
 use Rattle.fare_law.specs.declared.tickets.Component.{Component}
 use Rattle.fare_law.specs.declared.tickets.Piece.{Piece}
 use Rattle.fare_law.specs.Book.{Book}
-use Rattle.fare_law.specs.Lawful.{Part, unit_of}
+use Rattle.fare_law.specs.Lawful.{unit_of}
+use Rattle.fare_law.specs.Parts.{Part}
 use Rattle.fare_law.specs.Lists.{Each, OnFirst, OnLast}
 use Rattle.fare_law.specs.Units.{SameAs, MayStand, SeasonHolds, AdvanceHolds, TravelHolds, EndsBy, MinStayHolds, MaxStayHolds, KindHolds, PartnersHold}
 use Rattle.ticket_demands.specs.declared.demand.UnitDemand.{UnitDemand}
@@ -24,6 +25,7 @@ use Rattle.ticket_demands.specs.Known.{known_flights, ends_of, live_row, part_of
 use Rattle.ticket_demands.specs.Stretches.{stretch_of, facts_from, facts_of, kind_of_one, kind_of_two, kind_of_three, kind_of_four, IsPartner, FactsMeet, StretchesMeet}
 use Rattle.ticket_demands.proofs.Gathering.{filter_mapped}
 use Rattle.ticket_demands.proofs.KindTable.{AreFacts, FactsTold, facts_told}
+use Rattle.ticket_demands.proofs.OneKind.{kind_once}
 
 first_from : (P : ℤ → Type 0) (o : Option UnitKind) (a z : Stretch) (f : UnitFacts) → facts_from o a z ≡ Some f → P a.first_day → P f.first_day
 first_from P None a z f e p = absurd (cc)
@@ -68,10 +70,10 @@ from_ends Q f b l (x ∷ ps) d h =
     three Q x.first_day (final x ps).first_day (final x ps).last_day f b l (sym e.0) (sym e.1) (sym e.2) (on_final (λ z. Q x.first_day z.first_day z.last_day) x ps h)
 
 -- in a unit of this kind and these days, what holds of its kind and days holds of these
-in_unit : (parts : List Part) (part : Part) (f : UnitFacts) (P : UnitKind → ℤ → ℤ → ℤ → Type 0) → AreFacts (unit_of part.unit parts) f → P f.kind f.first_day f.return_day f.last_day ↔ InUnit parts part P
+pub in_unit : (parts : List Part) (part : Part) (f : UnitFacts) (P : UnitKind → ℤ → ℤ → ℤ → Type 0) → AreFacts (unit_of part.unit parts) f → P f.kind f.first_day f.return_day f.last_day ↔ InUnit parts part P
 in_unit parts part f P t = (
-  λ h k u. to_ends (P k) f.first_day f.return_day f.last_day (unit_of part.unit parts) t.days (subst (λ x. P x f.first_day f.return_day f.last_day) (sym (t.kind.only k u)) h),
-  λ h. from_ends (P f.kind) f.first_day f.return_day f.last_day (unit_of part.unit parts) t.days (h f.kind t.kind.is),
+  λ h k u. to_ends (P k) f.first_day f.return_day f.last_day (unit_of part.unit parts) t.days (subst (λ x. P x f.first_day f.return_day f.last_day) (kind_once f.kind k (unit_of part.unit parts) t.kind u) h),
+  λ h. from_ends (P f.kind) f.first_day f.return_day f.last_day (unit_of part.unit parts) t.days (h f.kind t.kind),
 )
 
 abbrev pub row_of : Part → SheetRow
@@ -103,7 +105,7 @@ told_by parts part FirstDay None t = (λ _ k u. absurd (t k u), λ _ e. absurd (
 told_by parts part TravelDates None t = (λ _ k u. absurd (t k u), λ _ e. absurd (cc))
 told_by parts part Stay None t = (λ _ k u. absurd (t k u), λ _ e. absurd (cc))
 told_by parts part Combination None t = (λ _ k u. absurd (t k u), λ _ e. absurd (cc))
-told_by parts part Shape (Some f) t = (λ _. (f.kind, t.kind.is), λ _. tt)
+told_by parts part Shape (Some f) t = (λ _. (f.kind, t.kind), λ _. tt)
 told_by parts part FareKind (Some f) t = in_unit parts part f (λ kind first back last. MayStand part.piece.fare.kind kind) t
 told_by parts part FirstDay (Some f) t = in_unit parts part f (λ kind first back last. SeasonHolds part.piece.rule first × AdvanceHolds part.piece.rule part.piece.sale first) t
 told_by parts part TravelDates (Some f) t = in_unit parts part f (λ kind first back last. TravelHolds part.piece.rule first × EndsBy part.piece.rule last) t
@@ -113,20 +115,28 @@ told_by parts part Combination (Some f) t =
     let same = combined part.piece.rule.cat10 part (filter (λ p. p.unit == part.unit) parts) in
     (λ h. unit.0 (h.0, same.0 h.1), λ h. let k = unit.1 h in (k.0, same.1 k.1))
 
+-- the kind and the days of the unit of a label, from the stretches of the ticket
+pub unit_told : (parts : List Part) (label : ℕ) → FactsTold (facts_of (filter (λ s. s.unit == label) (map stretch_of parts))) (unit_of label parts)
+unit_told parts label =
+    subst (λ (ss : List Stretch). FactsTold (facts_of ss) (unit_of label parts)) (sym (filter_mapped stretch_of (λ (s : Stretch). s.unit == label) parts)) (facts_told (filter (λ p. p.unit == label) parts))
+
 -- a part meets a demand in its unit exactly where the stretches of the ticket say so
 pub part_told : (parts : List Part) (part : Part) (d : UnitDemand) → StretchesMeet part.piece.sale (row_of part) (filter (λ s. s.unit == part.unit) (map stretch_of parts)) d ↔ PartMeets parts d part
 part_told parts part d =
     subst (λ (ss : List Stretch). StretchesMeet part.piece.sale (row_of part) ss d ↔ PartMeets parts d part) (sym (filter_mapped stretch_of (λ (s : Stretch). s.unit == part.unit) parts))
     (told_by parts part d _ (facts_told (filter (λ p. p.unit == part.unit) parts)))
 
-told_over : (sale : ℤ) (label : ℕ) (fs : List Flight) (row : Option SheetRow) (ends : Option (Flight × Flight)) (parts : List Part) (d : UnitDemand)
-    → IfSome (option_and_then (λ r. option_map (part_over sale label r fs) ends) row) (λ part. StretchesMeet sale (row_of part) (filter (λ s. s.unit == label) (map stretch_of parts)) d)
-    ↔ IfSome (option_and_then (λ r. option_map (part_over sale label r fs) ends) row) (PartMeets parts d)
-told_over sale label fs None ends parts d = (λ h. h, λ h. h)
-told_over sale label fs (Some r) None parts d = (λ h. h, λ h. h)
-told_over sale label fs (Some r) (Some e) parts d = part_told parts (part_over sale label r fs e) d
+-- what stretches say of a row is what holds of the part that a component is, where they agree on each part
+pub on_part : (sale : ℤ) (label : ℕ) (fs : List Flight) (row : Option SheetRow) (ends : Option (Flight × Flight)) (Says Holds : Part → Type 0) → ((part : Part) → part.unit ≡ label → part.piece.sale ≡ sale → Says part ↔ Holds part)
+    → IfSome (option_and_then (λ r. option_map (part_over sale label r fs) ends) row) Says ↔ IfSome (option_and_then (λ r. option_map (part_over sale label r fs) ends) row) Holds
+on_part sale label fs None ends Says Holds same = (λ h. h, λ h. h)
+on_part sale label fs (Some r) None Says Holds same = (λ h. h, λ h. h)
+on_part sale label fs (Some r) (Some e) Says Holds same = same (part_over sale label r fs e) refl refl
 
 -- a component meets a demand in its unit exactly where the stretches of the ticket say so
 pub component_told : (b : Book) (sale : ℤ) (c : Component) (parts : List Part) (d : UnitDemand)
     → IfSome (part_of b sale c) (λ part. StretchesMeet sale (row_of part) (filter (λ s. s.unit == c.unit) (map stretch_of parts)) d) ↔ IfSome (part_of b sale c) (PartMeets parts d)
-component_told b sale c parts d = told_over sale c.unit (known_flights b c.flights) (live_row b c.fare) (ends_of (known_flights b c.flights)) parts d
+component_told b sale c parts d =
+    on_part sale c.unit (known_flights b c.flights) (live_row b c.fare) (ends_of (known_flights b c.flights)) (λ part. StretchesMeet sale (row_of part) (filter (λ s. s.unit == c.unit) (map stretch_of parts)) d) (PartMeets parts d)
+    (λ part u e. subst (λ label. StretchesMeet sale (row_of part) (filter (λ (s : Stretch). s.unit == label) (map stretch_of parts)) d ↔ PartMeets parts d part) u
+    (subst (λ z. StretchesMeet z (row_of part) (filter (λ (s : Stretch). s.unit == part.unit) (map stretch_of parts)) d ↔ PartMeets parts d part) e (part_told parts part d)))

@@ -10,10 +10,9 @@ use Rattle.fare_law.specs.declared.rules.Rule.{Rule}
 use Rattle.fare_law.specs.declared.tickets.Component.{Component}
 use Rattle.fare_law.specs.declared.tickets.Ticket.{Ticket}
 use Rattle.fare_law.specs.Book.{Book, flight_at, live_rule}
-use Rattle.fare_law.specs.Lawful.{Part, IsPart}
+use Rattle.fare_law.specs.Parts.{Part, IsPart, Numbers, fare_price, price_of}
 use Rattle.fare_law.specs.Lists.{Matched, OnFirst}
-use Rattle.fare_law.specs.Order.{Costs}
-use Rattle.fare_law.specs.Parts.{Numbers, price_of, share, stopover_charge, surcharges}
+use Rattle.fare_law.specs.Best.{Costs}
 use Rattle.ticket_demands.specs.Known.{IsUnknown, known_flights}
 use Rattle.ticket_demands.specs.Prices.{ComponentCosts, HasNoPrice, TicketCosts}
 use Rattle.ticket_demands.proofs.Gathering.{is_none_or_some, matched_more, some_is}
@@ -80,8 +79,13 @@ one_price b q c part p h k =
     let rule : k.rule ≡ part.piece.rule = some_is k.rule part.piece.rule (sym k.rule_is ∙ ap (λ (f : Fare). live_rule b c.fare.carrier f.rule) fare ∙ h.stands.rule) in
     let flights : k.flights ≡ part.flights = numbered_once b c.flights k.flights part.flights k.numbered h.flights in
     k.adds
-    ∙ ap (λ (f : Fare). share f.kind f.amount + stopover_charge k.rule k.flights + surcharges k.rule.cat12 k.flights) fare
-    ∙ ap₂ (λ (r : Rule) fs. share part.piece.fare.kind part.piece.fare.amount + stopover_charge r fs + surcharges r.cat12 fs) rule flights
+    ∙ ap₂ (fare_price k.flights) fare rule
+    ∙ ap (λ fs. price_of fs part.piece) flights
+
+-- the price of a component that is this part
+pub part_price : (b : Book) (c : Component) (result : Option ℕ) → MatchOption result (HasNoPrice b c) (ComponentCosts b c) → (q : Request) (part : Part) → IsPart b q c part → result ≡ Some (price_of part.flights part.piece)
+part_price b c None none q part h = absurd (part_has_price b q c part h none)
+part_price b c (Some p) costs q part h = ap Some (one_price b q c part p h costs)
 
 one_sum : (b : Book) (q : Request) (cs : List Component) (parts : List Part) (prices : List ℕ) → Matched (IsPart b q) cs parts → Matched (ComponentCosts b) cs prices → sum prices ≡ sum_by (λ part. price_of part.flights part.piece) parts
 one_sum b q [] [] [] h k = refl

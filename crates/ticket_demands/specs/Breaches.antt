@@ -11,9 +11,9 @@ use Rattle.fare_law.specs.declared.tickets.Component.{Component}
 use Rattle.fare_law.specs.declared.tickets.Ticket.{Ticket}
 use Rattle.fare_law.specs.Book.{Book}
 use Rattle.fare_law.specs.Journey.{Joins, calls}
-use Rattle.fare_law.specs.Lawful.{Part, comes_in, unit_of, EndOnEndHolds, AtMostTwoStraddle}
+use Rattle.fare_law.specs.Lawful.{comes_in, unit_of, EndOnEndHolds, AtMostTwoStraddle}
+use Rattle.fare_law.specs.Parts.{Part, Seated, DayTimeHolds, FlightsHold, StopoversHold, TransfersHold}
 use Rattle.fare_law.specs.Lists.{Each, EachPair, OnFirst, OnLast, AllDifferent}
-use Rattle.fare_law.specs.Parts.{Seated, DayTimeHolds, FlightsHold, StopoversHold, TransfersHold}
 use Rattle.fare_law.specs.Units.{IsUnit, MayStand, SeasonHolds, AdvanceHolds, TravelHolds, EndsBy, MinStayHolds, MaxStayHolds, KindHolds, PartnersHold}
 use Rattle.ticket_demands.specs.declared.breach.Breach.{Breach}
 use Rattle.ticket_demands.specs.declared.demand.ComponentDemand.{ComponentDemand}

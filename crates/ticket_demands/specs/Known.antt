@@ -6,7 +6,7 @@ use Rattle.fare_law.specs.declared.flights.Flight.{Flight}
 use Rattle.fare_law.specs.declared.sheets.SheetRow.{SheetRow}
 use Rattle.fare_law.specs.declared.tickets.Component.{Component}
 use Rattle.fare_law.specs.Book.{Book, flight_at, live_fare, live_rule, same_place}
-use Rattle.fare_law.specs.Lawful.{Part}
+use Rattle.fare_law.specs.Parts.{Part}
 
 -- the flights of those numbers that are known
 abbrev pub known_flights : Book → List ℕ → List Flight

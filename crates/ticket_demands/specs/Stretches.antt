@@ -6,7 +6,7 @@ use Rattle.fare_law.specs.declared.rules.Partners.{Partners}
 use Rattle.fare_law.specs.declared.rules.Partners.TheVariants.{Any, SameCarrier, SameRule}
 use Rattle.fare_law.specs.declared.sheets.SheetRow.{SheetRow}
 use Rattle.fare_law.specs.Book.{same_place}
-use Rattle.fare_law.specs.Lawful.{Part}
+use Rattle.fare_law.specs.Parts.{Part}
 use Rattle.fare_law.specs.Units.{MayStand, SeasonHolds, AdvanceHolds, TravelHolds, EndsBy, MinStayHolds, MaxStayHolds, KindHolds}
 use Rattle.ticket_demands.specs.declared.demand.UnitDemand.{UnitDemand}
 use Rattle.ticket_demands.specs.declared.demand.UnitDemand.TheVariants.{Shape, FareKind, FirstDay, TravelDates, Stay, Combination}

@@ -61,6 +61,19 @@ pub enum UnitDemand {
     Combination,
 }
 
+/// A category of a fare's rule that reads the days of the unit, and what is demanded by it alone.
+#[derive(Clone, Copy, PartialEq, Eq, Debug)]
+pub enum CategoryDemand {
+    /// Category 3: the unit begins in season.
+    Season,
+    /// Category 5: the sale is far enough ahead of the unit's first day.
+    Advance,
+    /// Category 6: the return is late enough. A one way meets it.
+    LeastStay,
+    /// Category 7: the return is early enough. A one way meets it.
+    GreatestStay,
+}
+
 /// What is demanded of a ticket.
 #[derive(Clone, Copy, PartialEq, Eq, Debug)]
 pub enum Demand {

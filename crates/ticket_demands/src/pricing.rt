@@ -1,7 +1,8 @@
 //! What a ticket costs.
 ghost use Rattle.std.specs.Prelude.{◌≡◌, ◌≤◌, ℕ, Any, Some, IfSome, MatchOption};
-ghost use Rattle.fare_law.specs.Order.{Costs};
+ghost use Rattle.fare_law.specs.Best.{Costs};
 ghost use Rattle.fare_law.specs.Parts as Parts;
+ghost use Rattle.fare_law.specs.Parts.{IsPart, Part};
 ghost use Rattle.fare_law.specs.declared.requests.Request.{Request};
 ghost use Rattle.ticket_demands.specs.Prices.{ComponentCosts, HasNoPrice, TicketCosts};
 
@@ -23,9 +24,12 @@ pub fn price(ticket: &Ticket, book: &Book) -> Option<u64>
     Some(sum)
 }
 
-/// The price of a component.
-fn component_price(component: &Component, book: &Book) -> Option<u64>
+/// The price of a component for one passenger, lawful or not: its fare, or half of it for a round trip
+/// fare, the charge for its stopovers and its surcharges. None exactly where it has no flight, one that
+/// is unknown, or a fare that isn't live.
+pub fn component_price(component: &Component, book: &Book) -> Option<u64>
     ensures value { MatchOption result (HasNoPrice book.now component.now) (ComponentCosts book.now component.now) }
+    ensures part { (request : Request) (part : Part) → IsPart book.now request component.now part → result ≡ Some (Parts.price_of part.flights part.piece) }
     ensures low { IfSome result (λ price. price ≤ 1035000000) }
 {
     if component.flights.len() == 0 || has_unknown_flight(component, book) {

@@ -135,7 +135,8 @@ fn may_stand(fare: FareKind, kind: UnitKind) -> bool
     }
 }
 
-fn is_one_way(kind: UnitKind) -> bool
+/// Whether the unit is a one way.
+pub fn is_one_way(kind: UnitKind) -> bool
     ensures { IsTrue result ↔ (kind ≡ OneWay) }
 {
     matches!(kind, UnitKind::OneWay)
@@ -161,7 +162,8 @@ fn stay_meets(rule: &Rule, facts: &UnitFacts) -> bool
             && greatest_stay_meets(rule, facts.first_day, facts.return_day))
 }
 
-fn least_stay_meets(rule: &Rule, first_day: i32, return_day: i32) -> bool
+/// Whether the stay meets category 6.
+pub fn least_stay_meets(rule: &Rule, first_day: i32, return_day: i32) -> bool
     requires { IsCalendarDay first_day }
     ensures { IsTrue result ↔ MinStayHolds rule.now first_day return_day }
 {
@@ -194,7 +196,8 @@ fn is_sunday_by(first_day: i32, return_day: i32) -> bool
     first_sunday_after(first_day) <= return_day
 }
 
-fn greatest_stay_meets(rule: &Rule, first_day: i32, return_day: i32) -> bool
+/// Whether the stay meets category 7.
+pub fn greatest_stay_meets(rule: &Rule, first_day: i32, return_day: i32) -> bool
     requires { IsCalendarDay first_day }
     ensures { IsTrue result ↔ MaxStayHolds rule.now first_day return_day }
 {

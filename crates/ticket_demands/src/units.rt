@@ -1,10 +1,15 @@
 //! The kinds of units.
-ghost use Rattle.std.specs.Prelude.{◌≡◌};
+ghost use Rattle.std.specs.Prelude.{◌≡◌, ◌≤◌, ℤ, length, MatchOption};
+ghost use Rattle.fare_law.specs.Lawful as Lawful;
+ghost use Rattle.fare_law.specs.Units.{IsUnit};
+ghost use Rattle.ticket_demands.specs.Kinds.{HasNoKind};
+ghost use Rattle.ticket_demands.specs.Known.{parts_of};
 ghost use Rattle.ticket_demands.specs.Stretches as Stretches;
 ghost use Rattle.ticket_demands.specs.Stretches.{kind_of_ends};
 
-use crate::stretch::Stretch;
-use fare_law::UnitKind;
+use crate::stretch::{Stretch, stretches_of, unit_of};
+use fare_book::Book;
+use fare_law::{Component, UnitKind};
 
 /// The kind of a unit, its first day, its day of return and its last day.
 #[derive(Clone, Copy, PartialEq, Eq, Debug)]
@@ -13,6 +18,18 @@ pub struct UnitFacts {
     pub first_day: i32,
     pub return_day: i32,
     pub last_day: i32,
+}
+
+/// The kind of the unit that those of at most 18 components make which have this label. None exactly
+/// where they are a unit of no kind. Components without a live fare or a known flight are left out.
+pub fn unit_kind(label: u8, components: &[Component], book: &Book) -> Option<UnitKind>
+    requires { length components.now ≤ 18 }
+    ensures { (sale : ℤ) → MatchOption result (HasNoKind (Lawful.unit_of label (parts_of book.now sale components.now))) (λ kind. IsUnit kind (Lawful.unit_of label (parts_of book.now sale components.now))) }
+{
+    let stretches = stretches_of(components, book);
+    let unit = unit_of(label, stretches.as_slice());
+    let facts = facts_of(unit.as_slice())?;
+    Some(facts.kind)
 }
 
 /// The kind and the days of the unit that these stretches are, in order, if they are one.

@@ -1,7 +1,7 @@
 -- The value of characters in places, one place after another.
 use Rattle.std.proofs.Common.{◌≡◌, ℕ, zero, suc, ◌+◌, ◌*◌, ◌-◌, ◌^◌, ◌≤◌, ◌<◌, List, [], ◌∷◌, drop, slice_get, option_map, unwrap_or, refl, ap, subst, arith, pow-suc}
 use Rattle.std.proofs.Math.Nat.{pow-le-pow_right}
-use Rattle.fare_law.specs.Order.{character_value, in_places}
+use Rattle.fare_law.specs.Codes.{character_value, in_places}
 
 -- the value at a place, and those of the places after it
 places_at : (n p : ℕ) (cs : List ℕ) → in_places (suc n) (drop p cs) ≡ unwrap_or (option_map character_value (slice_get cs p)) 0 * 37 ^ n + in_places n (drop (suc p) cs)

@@ -4,16 +4,16 @@ use Rattle.std.proofs.lemmas.Bool.{le-leb, lt-leb, cases_eq, cases_order}
 use Rattle.fare_law.specs.declared.names.Basis.{Basis}
 use Rattle.fare_law.specs.declared.names.Carrier.{Carrier}
 use Rattle.fare_law.specs.Lists.{Each, IsPrefix}
-use Rattle.fare_law.specs.Order.{character_value, in_places, carrier_number, basis_number, IsCharacter, IsCarrier, IsBasis}
+use Rattle.fare_law.specs.Codes.{character_value, in_places, carrier_number, basis_number, role_code, move_code, run_code}
+use Rattle.fare_law.specs.Names.{IsCharacter, IsCarrier, IsBasis}
 use Rattle.fare_law.specs.declared.moves.Move.{Move}
 use Rattle.fare_law.specs.declared.moves.Role.{Role}
 use Rattle.fare_law.specs.declared.moves.Role.TheVariants.{Alone, Opens, GoesOn, Closes}
-use Rattle.fare_law.specs.Moves.{role_code, move_code, run_code}
 use Rattle.ticket_order.specs.Coding.{Apart}
 pub use Rattle.ticket_order.specs.Coding.{Coded}
 pub use Rattle.ticket_order.proofs.Words.{less_cut, less_total}
 
-value_small : (c : ℕ) → IsCharacter c → (1 ≤ character_value c) × (character_value c ≤ 36)
+pub value_small : (c : ℕ) → IsCharacter c → (1 ≤ character_value c) × (character_value c ≤ 36)
 value_small c (inl h) = subst (λ b. (1 ≤ cond b (c - 47) (c - 54)) × (cond b (c - 47) (c - 54) ≤ 36)) (sym (le-leb c 57 h.1)) (omega (arith, h.0), omega (arith, h.1))
 value_small c (inr h) = subst (λ b. (1 ≤ cond b (c - 47) (c - 54)) × (cond b (c - 47) (c - 54) ≤ 36)) (sym (lt-leb c 57 (omega (arith, h.0)))) (omega (arith, h.0), omega (arith, h.1))
 
@@ -23,7 +23,7 @@ value_digit c h = ap (λ b. cond b (c - 47) (c - 54)) (le-leb c 57 h)
 value_capital : (c : ℕ) → 57 < c → character_value c ≡ c - 54
 value_capital c h = ap (λ b. cond b (c - 47) (c - 54)) (lt-leb c 57 h)
 
-value_one : (c d : ℕ) → IsCharacter c → IsCharacter d → character_value c ≡ character_value d → c ≡ d
+pub value_one : (c d : ℕ) → IsCharacter c → IsCharacter d → character_value c ≡ character_value d → c ≡ d
 value_one c d (inl h) (inl k) e = omega (arith, value_digit c h.1, value_digit d k.1, h.0, k.0)
 value_one c d (inl h) (inr k) e = absurd (omega (arith, value_digit c h.1, value_capital d (omega (arith, k.0)), h.0, h.1, k.0))
 value_one c d (inr h) (inl k) e = absurd (omega (arith, value_capital c (omega (arith, h.0)), value_digit d k.1, h.0, k.0, k.1))
@@ -35,16 +35,16 @@ times_below a p r h lt = omega (arith, mul-le-mul_right p (le h), suc-mul a p)
     le : a ≤ 36 → suc a ≤ 37
     le h = omega arith
 
-positive : (n : ℕ) → 0 < 37 ^ n
+pub positive : (n : ℕ) → 0 < 37 ^ n
 positive zero = omega arith
 positive (suc n) = omega (arith, positive n, pow-suc 37 n, mul_comm (37 ^ n) 37)
 
-places_below : (n : ℕ) (cs : List ℕ) → Each IsCharacter cs → in_places n cs < 37 ^ n
+pub places_below : (n : ℕ) (cs : List ℕ) → Each IsCharacter cs → in_places n cs < 37 ^ n
 places_below zero cs h = omega arith
 places_below (suc n) [] h = positive (suc n)
 places_below (suc n) (c ∷ cs) h = subst (λ z. character_value c * 37 ^ n + in_places n cs < z) (sym (pow-suc 37 n ∙ mul_comm (37 ^ n) 37)) (times_below (character_value c) (37 ^ n) (in_places n cs) (value_small c h.0).1 (places_below n cs h.1))
 
-digits : (a b p r s : ℕ) → r < p → s < p → a * p + r ≡ b * p + s → (a ≡ b) × (r ≡ s)
+pub digits : (a b p r s : ℕ) → r < p → s < p → a * p + r ≡ b * p + s → (a ≡ b) × (r ≡ s)
 digits a b p r s x y e = elim (cases_order a b) [
   | inl same ↦ (same, rests same)
   | inr o ↦ elim o [ inl lt ↦ absurd (less a b r s x lt e) | inr gt ↦ absurd (less b a s r y gt (sym e)) ]
@@ -56,7 +56,7 @@ digits a b p r s x y e = elim (cases_order a b) [
     less : (a b r s : ℕ) → r < p → a < b → a * p + r ≡ b * p + s → ⊥
     less a b r s x lt e = omega (arith, mul-le-mul_right p lt, suc-mul a p)
 
-some_places : (n c : ℕ) (cs : List ℕ) → IsCharacter c → 1 ≤ character_value c * 37 ^ n + in_places n cs
+pub some_places : (n c : ℕ) (cs : List ℕ) → IsCharacter c → 1 ≤ character_value c * 37 ^ n + in_places n cs
 some_places n c cs h = let m = mul-le-mul_right (37 ^ n) (value_small c h).0 in let p : 0 < 37 ^ n = positive n in omega (arith, m)
 
 places_one : (n : ℕ) (cs ds : List ℕ) → length cs ≤ n → length ds ≤ n → Each IsCharacter cs → Each IsCharacter ds → in_places n cs ≡ in_places n ds → cs ≡ ds
@@ -69,10 +69,10 @@ places_one (suc n) (c ∷ cs) (d ∷ ds) a b h k e =
     let r = digits (character_value c) (character_value d) (37 ^ n) (in_places n cs) (in_places n ds) (places_below n cs h.1) (places_below n ds k.1) e in
     ap₂ (λ z zs. z ∷ zs) (value_one c d h.0 k.0 r.0) (places_one n cs ds (omega arith) (omega arith) h.1 k.1 r.1)
 
-carrier_one : (c d : Carrier) → IsCarrier c → IsCarrier d → carrier_number c ≡ carrier_number d → c ≡ d
+pub carrier_one : (c d : Carrier) → IsCarrier c → IsCarrier d → carrier_number c ≡ carrier_number d → c ≡ d
 carrier_one c d h k e = let s = places_one 2 c.0 d.0 (omega (arith, h.0)) (omega (arith, k.0)) h.1 k.1 e in λ i. record { 0 = s i }
 
-basis_one : (c d : Basis) → IsBasis c → IsBasis d → basis_number c ≡ basis_number d → c ≡ d
+pub basis_one : (c d : Basis) → IsBasis c → IsBasis d → basis_number c ≡ basis_number d → c ≡ d
 basis_one c d h k e = let s = places_one 8 c.0 d.0 h.1 k.1 h.2 k.2 e in λ i. record { 0 = s i }
 
 role_one : (r s : Role) → role_code r ≡ role_code s → r ≡ s
@@ -94,7 +94,7 @@ role_one Closes GoesOn e = absurd (omega arith)
 role_one Closes Closes e = refl
 
 -- two lists with equal parts of one length
-parts_same : (xs ys us vs : List ℕ) → length xs ≡ length ys → xs ++ us ≡ ys ++ vs → (xs ≡ ys) × (us ≡ vs)
+pub parts_same : (xs ys us vs : List ℕ) → length xs ≡ length ys → xs ++ us ≡ ys ++ vs → (xs ≡ ys) × (us ≡ vs)
 parts_same [] [] us vs l e = (refl, e)
 parts_same [] (y ∷ ys) us vs l e = absurd (omega arith)
 parts_same (x ∷ xs) [] us vs l e = absurd (omega arith)

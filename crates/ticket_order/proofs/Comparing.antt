@@ -5,25 +5,14 @@ use Rattle.std.specs.declared.cmp.Ordering.TheVariants.{Less as Lower, Equal, Gr
 use Rattle.std.specs.Ordering.{MatchOrdering, nat_cmp, ordering_then}
 use Rattle.std.specs.Cmp.Lexicographic.{slice_cmp}
 use Rattle.std.proofs.lemmas.Cmp.{ranked}
-use Rattle.fare_law.specs.Order.{Less, Before}
+use Rattle.fare_law.specs.Lists.{Less}
+use Rattle.fare_law.specs.Best.{Before}
+use Rattle.schedule_book.proofs.Sorting.{words_told}
 use Rattle.ticket_order.proofs.Words.{before_never, before_trans}
 
 -- the answer names how the two stand
 abbrev pub Tells : Ordering → ℕ → List ℕ → ℕ → List ℕ → Type 0
 Tells o p v q w = MatchOrdering o (Before p v q w) ((p ≡ q) × (v ≡ w)) (Before q w p v)
-
-pub words_told : (v w : List ℕ) → MatchOrdering (slice_cmp nat_cmp v w) (Less v w) (v ≡ w) (Less w v)
-words_told [] [] = refl
-words_told [] (y ∷ w) = tt
-words_told (x ∷ v) [] = tt
-words_told (x ∷ v) (y ∷ w) = join (nat_cmp x y) (slice_cmp nat_cmp v w) (ranked x y (nat_cmp x y) refl) (words_told v w)
-  where
-    join : (o r : Ordering) → MatchOrdering o (x < y) (x ≡ y) (y < x) → MatchOrdering r (Less v w) (v ≡ w) (Less w v) → MatchOrdering (ordering_then o r) (Less (x ∷ v) (y ∷ w)) (x ∷ v ≡ y ∷ w) (Less (y ∷ w) (x ∷ v))
-    join Lower r h k = inl h
-    join Greater r h k = inl h
-    join Equal Lower h k = inr (h, k)
-    join Equal Equal h k = ap₂ (λ z zs. z ∷ zs) h k
-    join Equal Greater h k = inr (sym h, k)
 
 equal_told : (p q : ℕ) (v w : List ℕ) (o : Ordering) → p ≡ q → o ≡ slice_cmp nat_cmp v w → Tells o p v q w
 equal_told p q v w o e s = lift o (subst (λ r. MatchOrdering r (Less v w) (v ≡ w) (Less w v)) (sym s) (words_told v w))

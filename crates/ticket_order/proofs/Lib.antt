@@ -7,3 +7,7 @@ pub mod OpenLabels
 pub mod ReadLabels
 pub mod Ends
 pub mod TicketParts
+pub mod LiveKeys
+pub mod LawfulTickets
+pub mod NamesRead
+pub mod MovesRead

@@ -3,7 +3,7 @@ use Rattle.std.proofs.Common.{◌≡◌, ℕ, zero, suc, ◌+◌, ◌-◌, ◌�
 use Rattle.std.proofs.Math.Seq.{drop-cons, take-suc}
 use Rattle.std.proofs.lemmas.Bool.{ne_eqb}
 use Rattle.std.proofs.lemmas.List.Sums.{sum_by-append, sum_by-cons}
-use Rattle.fare_law.specs.Order.{upto}
+use Rattle.fare_law.specs.Moves.{upto}
 
 -- the place of the first that is set after this many others, counted from a place
 abbrev pub find_open : List Bool → ℕ → ℕ → Option ℕ

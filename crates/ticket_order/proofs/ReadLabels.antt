@@ -6,8 +6,7 @@ use Rattle.std.proofs.lemmas.List.{take_rest}
 use Rattle.fare_law.specs.declared.moves.Move.{Move}
 use Rattle.fare_law.specs.declared.moves.Role.TheVariants.{Alone, Opens, GoesOn, Closes}
 use Rattle.fare_law.specs.Lawful.{Numbered, comes_in}
-use Rattle.fare_law.specs.Moves.{role_of}
-use Rattle.fare_law.specs.Order.{labels_below, slot_number}
+use Rattle.fare_law.specs.Moves.{role_of, labels_below, slot_number}
 use Rattle.ticket_order.specs.Tickets.{AreLabels, begins, stays_open}
 use Rattle.ticket_order.proofs.OpenLabels.{ones, count_open}
 use Rattle.ticket_order.proofs.TicketMoves.{rest_is, rest_at, front_at}
@@ -43,7 +42,7 @@ pub record Reads (before after : List ℕ) (ms : List Move) (count : ℕ) (opene
   pub tells : (u : ℕ) → u < 19 → get_or opened u false ≡ (comes_in u before && comes_in u after)
   pub right : AreLabels before after ms
 
-same_is : (n : ℕ) → eqb n n ≡ true
+pub same_is : (n : ℕ) → eqb n n ≡ true
 same_is n = grind (arith, nat_tests)
 
 and_true : (a b : Bool) → a ≡ true → a && b ≡ b

@@ -9,8 +9,7 @@ use Rattle.std.proofs.lemmas.Bool.Decides.{nat_tests}
 use Rattle.fare_law.specs.declared.moves.Move.{Move}
 use Rattle.fare_law.specs.declared.tickets.Component.{Component}
 use Rattle.fare_law.specs.Lawful.{comes_in}
-use Rattle.fare_law.specs.Moves.{move_of, moves_after}
-use Rattle.fare_law.specs.Order.{upto, labels_below, slot_number}
+use Rattle.fare_law.specs.Moves.{move_of, moves_after, upto, labels_below, slot_number}
 use Rattle.ticket_order.specs.Tickets.{labels}
 
 pub one_more : (i : ℕ) → suc i ≡ i + 1
@@ -46,7 +45,7 @@ move_added cs i c m moves whole lt e em h =
     append_assoc moves (m ∷ []) (moves_after (take (i + 1) (labels cs)) (drop (i + 1) cs))
     ∙ ap (λ z. moves ++ z) (ap (λ z. z ∷ moves_after (take (i + 1) (labels cs)) (drop (i + 1) cs)) em ∙ sym (moves_next cs i c lt e)) ∙ h
 
-same_test : (u l : ℕ) → eqb l u ≡ eqb u l
+pub same_test : (u l : ℕ) → eqb l u ≡ eqb u l
 same_test u l = elim (cases_eq l u) [
   | inl e ↦ ap₂ eqb e (sym e)
   | inr ne ↦ grind (arith, nat_tests)

@@ -1,8 +1,8 @@
 -- The order of words, and of words with a price.
 use Rattle.std.proofs.Common.{◌≡◌, ℕ, ◌+◌, ◌≤◌, ◌⊎◌, ◌↔◌, List, [], ◌∷◌, ◌++◌, refl, sym, ap₂, ◌∙◌, inl, inr, arith}
 use Rattle.std.proofs.lemmas.Bool.{cases_eq, cases_order}
-use Rattle.fare_law.specs.Lists.{IsPrefix}
-use Rattle.fare_law.specs.Order.{Less, Before}
+use Rattle.fare_law.specs.Lists.{IsPrefix, Less}
+use Rattle.fare_law.specs.Best.{Before}
 use Rattle.ticket_order.specs.Coding.{Apart}
 
 pub less_never : (w : List ℕ) → Less w w → ⊥

@@ -1,8 +1,9 @@
 -- Moves that a code can tell, and words that are told apart before either ends.
-use Rattle.std.specs.Prelude.{ℕ, List}
+use Rattle.std.specs.Prelude.{◌≡◌, ℕ, ◌≤◌, ◌<◌, ◌^◌, List, length}
 use Rattle.fare_law.specs.declared.moves.Move.{Move}
-use Rattle.fare_law.specs.Lists.{IsPrefix}
-use Rattle.fare_law.specs.Order.{IsCarrier, IsBasis}
+use Rattle.fare_law.specs.Lists.{IsPrefix, Each}
+use Rattle.fare_law.specs.Names.{IsCarrier, IsBasis}
+use Rattle.fare_law.specs.Codes.{run_code}
 
 -- the carrier and the basis of the move have their characters
 abbrev pub Coded : Move → Type 0
@@ -11,3 +12,16 @@ Coded m = IsCarrier m.carrier × IsBasis m.basis
 -- neither word is the front of the other
 abbrev pub Apart : List ℕ → List ℕ → Type 0
 Apart v w = (IsPrefix v w → ⊥) × (IsPrefix w v → ⊥)
+
+-- A move within its limits: at most four flights, numbers of 32 bits, a slot of 8, and the characters of its names.
+pub record IsMove (m : Move) : Type 0 where
+  pub few : length m.flights ≤ 4
+  pub flights : Each (λ n. n < 2 ^ 32) m.flights
+  pub slot : m.slot < 2 ^ 8
+  pub coded : Coded m
+
+-- The numbers are the code of these moves, of which there are at most 18.
+pub record IsCodeOf (code : List ℕ) (ms : List Move) : Type 0 where
+  pub few : length ms ≤ 18
+  pub each : Each IsMove ms
+  pub code_is : code ≡ run_code ms

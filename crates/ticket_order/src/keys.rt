@@ -1,6 +1,6 @@
 //! The order by price and code.
 ghost use Rattle.std.specs.Prelude.{◌≡◌, ◌↔◌};
-ghost use Rattle.fare_law.specs.Order.{Before};
+ghost use Rattle.fare_law.specs.Best.{Before};
 
 use fare_law::Code;
 use std::cmp::Ordering;

@@ -1,12 +1,18 @@
 //! The laws of codes and of their order.
 ghost use Rattle.std.specs.Cmp.Lexicographic.{slice_cmp};
 ghost use Rattle.std.specs.Ordering.{MatchOrdering, nat_cmp};
-ghost use Rattle.std.specs.Prelude.{◌≡◌, ◌⊎◌, ◌↔◌, ℕ, ◌+◌, ◌≤◌, List, ◌++◌};
+ghost use Rattle.std.specs.Prelude.{◌≡◌, ◌⊎◌, ◌↔◌, ℕ, ◌+◌, ◌≤◌, List, ◌++◌, length};
 ghost use Rattle.fare_law.specs.declared.moves.Move.{Move};
-ghost use Rattle.fare_law.specs.Lists.{Each, IsPrefix};
-ghost use Rattle.fare_law.specs.Moves.{move_code, run_code};
-ghost use Rattle.fare_law.specs.Order.{Before, Less};
+ghost use Rattle.fare_law.specs.Lists.{Each, IsPrefix, Less};
+ghost use Rattle.fare_law.specs.Codes.{move_code, run_code};
+ghost use Rattle.fare_law.specs.Best.{Before};
+ghost use Rattle.fare_law.specs.declared.requests.Request.{Request};
+ghost use Rattle.fare_law.specs.declared.tickets.Ticket.{Ticket};
+ghost use Rattle.fare_law.specs.Book.{Book};
+ghost use Rattle.fare_law.specs.Lawful.{Lawful};
+ghost use Rattle.fare_law.specs.Moves.{moves_of};
 ghost use Rattle.ticket_order.specs.Coding.{Apart, Coded};
+ghost use Rattle.ticket_order.specs.Tickets.{TicketOfMoves};
 
 /// A code tells its moves, where carriers and bases have their characters: the codes of two moves
 /// are equal or neither is the front of the other, and a code that begins with the code of moves
@@ -37,4 +43,11 @@ pub fn order_laws()
     ensures before_total { (p q : ℕ) (v w : List ℕ) → Before p v q w ⊎ (((p ≡ q) × (v ≡ w)) ⊎ Before q w p v) }
     ensures before_more { (p l m : ℕ) (w v z : List ℕ) → Before p w l v → l ≤ m → Before p w m (v ++ z) }
     ensures before_second { (price p q : ℕ) (u v w : List ℕ) → Before p v q w ↔ Before (price + p) (u ++ v) (price + q) (u ++ w) }
+{}
+
+/// A lawful ticket of at most 18 components is the ticket of its moves: in it each fare that closes a
+/// unit is filed from its component's end to its beginning, and each other one from the beginning to
+/// the end.
+pub fn lawful_tickets()
+    ensures { (b : Book) (q : Request) (t : Ticket) → Lawful t b q → length t.components ≤ 18 → TicketOfMoves b.timetable.flights (moves_of t) t }
 {}

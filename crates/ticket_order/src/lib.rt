@@ -3,6 +3,7 @@
 //! The laws of codes and of their order stand as functions without parameters.
 #![tactic(auto)]
 
+mod decoding;
 mod keys;
 mod laws;
 mod numbering;
@@ -10,11 +11,10 @@ mod numbers;
 mod roles;
 mod tickets;
 
+pub use decoding::moves_of_code;
 pub use keys::cmp_key;
-pub use laws::{codes_tell, order_laws};
+pub use laws::{codes_tell, lawful_tickets, order_laws};
 pub use numbers::{code, move_code};
 pub use roles::moves_of;
 pub use tickets::ticket_of;
 
-#[cfg(test)]
-mod tests;

@@ -1,8 +1,7 @@
 //! The labels that moves give the units of their ticket.
 ghost use Rattle.std.specs.Prelude.{◌≡◌, ◌↔◌, ℕ, ◌≤◌, ◌<◌, List, [], length, take, slice_index_or, count_by, true, false, IfSome, IsTrue};
 ghost use Rattle.fare_law.specs.Lawful.{Numbered};
-ghost use Rattle.fare_law.specs.Moves.{role_of};
-ghost use Rattle.fare_law.specs.Order.{slot_number};
+ghost use Rattle.fare_law.specs.Moves.{role_of, slot_number};
 ghost use Rattle.ticket_order.specs.Tickets.{AreLabels, begins, stays_open};
 
 use crate::roles::{is_numbered, role_of, slot_number};

@@ -1,7 +1,6 @@
 //! The numbers of moves, of carriers and of bases.
 ghost use Rattle.std.specs.Prelude.{◌≡◌, ◌+◌, ◌≤◌, ◌∷◌, ◌++◌, length, option_map, slice_get, unwrap_or};
-ghost use Rattle.fare_law.specs.Moves.{move_code, role_code, run_code};
-ghost use Rattle.fare_law.specs.Order.{basis_number, carrier_number, character_value};
+ghost use Rattle.fare_law.specs.Codes.{move_code, role_code, run_code, basis_number, carrier_number, character_value};
 
 use fare_law::{ArrayVec, Basis, Carrier, Code, Move, Role};
 

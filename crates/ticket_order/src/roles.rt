@@ -1,8 +1,7 @@
 //! The moves of a ticket: what each component is to its unit.
 ghost use Rattle.std.specs.Prelude.{◌≡◌, ◌↔◌, ◌≤◌, ◌<◌, List, length, IfSome, IsSome, IsTrue};
 ghost use Rattle.fare_law.specs.Lawful.{Numbered, comes_in};
-ghost use Rattle.fare_law.specs.Moves.{move_of, moves_of, role_of};
-ghost use Rattle.fare_law.specs.Order.{slot_number};
+ghost use Rattle.fare_law.specs.Moves.{move_of, moves_of, role_of, slot_number};
 ghost use Rattle.ticket_order.specs.Tickets.{labels};
 
 use fare_law::{ArrayVec, Component, Move, Role, Ticket};

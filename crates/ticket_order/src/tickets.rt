@@ -4,7 +4,7 @@ ghost use Rattle.fare_law.specs.declared.names.Place.{Place};
 ghost use Rattle.fare_law.specs.declared.tickets.Component.{Component};
 ghost use Rattle.fare_law.specs.declared.tickets.Ticket.{Ticket};
 ghost use Rattle.fare_law.specs.Lists.{Matched};
-ghost use Rattle.ticket_order.specs.Tickets.{IsComponent, LeadFrom, TicketOf, labels, market_of};
+ghost use Rattle.ticket_order.specs.Tickets.{IsComponent, LeadFrom, TicketOfMoves, labels, market_of};
 
 use crate::numbering::labels_for;
 use fare_law::{ArrayVec, Component, FareKey, Flight, Move, Place, Role, Ticket};
@@ -14,9 +14,9 @@ use schedule_book::Schedule;
 /// end, and where it closes a unit from the end to the beginning. None exactly where a move has no
 /// flight, a flight isn't in the schedule, or no ticket has these moves; there is at most one.
 pub fn ticket_of(moves: &[Move], schedule: &Schedule) -> Option<Ticket>
-    ensures ticket { IfSome result (TicketOf schedule.now.flights moves.now) }
-    ensures only { IfSome result (λ t. (u : Ticket) → TicketOf schedule.now.flights moves.now u → u ≡ t) }
-    ensures none { IfNone result ((t : Ticket) → TicketOf schedule.now.flights moves.now t → ⊥) }
+    ensures ticket { IfSome result (TicketOfMoves schedule.now.flights moves.now) }
+    ensures only { IfSome result (λ t. (u : Ticket) → TicketOfMoves schedule.now.flights moves.now u → u ≡ t) }
+    ensures none { IfNone result ((t : Ticket) → TicketOfMoves schedule.now.flights moves.now t → ⊥) }
 {
     if moves.len() > 18 {
         return None;

@@ -11,9 +11,8 @@ use Rattle.fare_law.specs.declared.sheets.SheetRow.{SheetRow}
 use Rattle.fare_law.specs.declared.tickets.Component.{Component}
 use Rattle.fare_law.specs.Book.{Book, flight_at, live_fare, live_rule}
 use Rattle.fare_law.specs.Journey.{Joins, calls}
-use Rattle.fare_law.specs.Lawful.{Part, IsPart}
+use Rattle.fare_law.specs.Parts.{Part, IsPart, Numbers, ComponentLawful, DayTimeHolds, FlightsHold, Seated, StopoversHold, TransfersHold}
 use Rattle.fare_law.specs.Lists.{EachPair, Matched, OnLast, AllDifferent}
-use Rattle.fare_law.specs.Parts.{Numbers, ComponentLawful, DayTimeHolds, FlightsHold, Seated, StopoversHold, TransfersHold}
 use Rattle.ticket_demands.specs.declared.demand.ComponentDemand.{ComponentDemand}
 use Rattle.ticket_demands.specs.declared.demand.ComponentDemand.TheVariants.{KnownFlights, FlightCount, NoGap, PlacesOnce, LiveFare, FareEnds, Seats, DayTime, Flights, Stopovers, Transfers}
 use Rattle.ticket_demands.specs.Breaches.{ComponentMeets, EndsFit, OnRow}

@@ -5,7 +5,8 @@ use Rattle.std.proofs.lemmas.List.Elements.{All-nil, All-cons}
 use Rattle.fare_law.specs.declared.rules.CombineRule.{CombineRule}
 use Rattle.fare_law.specs.declared.rules.EndOnEnd.{EndOnEnd}
 use Rattle.fare_law.specs.declared.rules.EndOnEnd.TheVariants.{Free, SameCarrier, Never}
-use Rattle.fare_law.specs.Lawful.{Part, EndOnEndOf, EndOnEndHolds}
+use Rattle.fare_law.specs.Lawful.{EndOnEndOf, EndOnEndHolds}
+use Rattle.fare_law.specs.Parts.{Part}
 use Rattle.fare_law.specs.Lists.{Each}
 use Rattle.ticket_whole.specs.FaresOn.{fare_on, AreAsAsked, Combines}
 use Rattle.ticket_whole.proofs.Splits.{each_to}

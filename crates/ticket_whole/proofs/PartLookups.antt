@@ -14,9 +14,8 @@ use Rattle.fare_law.specs.declared.tickets.Component.{Component}
 use Rattle.fare_law.specs.declared.tickets.Piece.{Piece}
 use Rattle.fare_law.specs.Book.{Book, live_fare, live_rule, same_place}
 use Rattle.fare_law.specs.Journey.{calls}
-use Rattle.fare_law.specs.Lawful.{Part, IsPart}
+use Rattle.fare_law.specs.Parts.{Part, IsPart, Filed, Numbers}
 use Rattle.fare_law.specs.Lists.{Each, OnFirst, OnLast, AllDifferent}
-use Rattle.fare_law.specs.Parts.{Filed, Numbers}
 use Rattle.ticket_demands.specs.Known.{known_flights, live_row, last_of, ends_of, part_over, part_of}
 
 pub places_told : (p q : Place) → Decides (same_place p q) (p ≡ q)

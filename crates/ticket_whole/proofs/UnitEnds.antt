@@ -4,7 +4,8 @@ use Rattle.std.proofs.lemmas.Bool.Decides.{Decides-eqb}
 use Rattle.fare_law.specs.declared.rules.UnitKind.{UnitKind}
 use Rattle.fare_law.specs.declared.rules.UnitKind.TheVariants.{OneWay, RoundTrip, OpenJaw, Circle}
 use Rattle.fare_law.specs.declared.tickets.Piece.{Piece}
-use Rattle.fare_law.specs.Lawful.{Part, unit_of}
+use Rattle.fare_law.specs.Lawful.{unit_of}
+use Rattle.fare_law.specs.Parts.{Part}
 use Rattle.fare_law.specs.Lists.{Each, EachPair, IsIn, OnFirst, OnLast}
 use Rattle.fare_law.specs.Units.{IsUnit}
 

@@ -3,7 +3,8 @@ use Rattle.std.proofs.Common.{◌≡◌, ◌≢◌, ℕ, ℤ, List, refl, sym, s
 use Rattle.fare_law.specs.declared.rules.UnitKind.{UnitKind}
 use Rattle.fare_law.specs.declared.rules.UnitKind.TheVariants.{OneWay}
 use Rattle.fare_law.specs.declared.tickets.Piece.{Piece}
-use Rattle.fare_law.specs.Lawful.{Part, unit_of}
+use Rattle.fare_law.specs.Lawful.{unit_of}
+use Rattle.fare_law.specs.Parts.{Part}
 use Rattle.fare_law.specs.Lists.{Each, IsIn}
 use Rattle.fare_law.specs.Units.{IsUnit, UnitLawful, FareHolds, MayStand, SeasonHolds, AdvanceHolds, TravelHolds, EndsBy, MinStayHolds, MaxStayHolds, KindHolds, PartnersHold}
 use Rattle.ticket_demands.specs.declared.demand.UnitDemand.{UnitDemand}

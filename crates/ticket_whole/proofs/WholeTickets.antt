@@ -6,9 +6,9 @@ use Rattle.fare_law.specs.declared.tickets.Component.{Component}
 use Rattle.fare_law.specs.declared.tickets.Ticket.{Ticket}
 use Rattle.fare_law.specs.Book.{Book}
 use Rattle.fare_law.specs.Journey.{FliesFrom}
-use Rattle.fare_law.specs.Lawful.{Part, IsPart, Numbered, AtMostTwoStraddle, EndOnEndHolds, Lawful, unit_of}
+use Rattle.fare_law.specs.Lawful.{Numbered, AtMostTwoStraddle, EndOnEndHolds, Lawful, unit_of}
+use Rattle.fare_law.specs.Parts.{Part, IsPart, ComponentLawful}
 use Rattle.fare_law.specs.Lists.{Each, Matched}
-use Rattle.fare_law.specs.Parts.{ComponentLawful}
 use Rattle.fare_law.specs.Units.{UnitLawful}
 use Rattle.ticket_demands.specs.declared.demand.JourneyDemand.TheVariants.{Slices, Length, Places, Connections, Window}
 use Rattle.ticket_demands.specs.declared.demand.Demand.{Demand}

@@ -2,7 +2,7 @@
 use Rattle.std.specs.Prelude.{◌≡◌, List, All, IfSome, option_map}
 use Rattle.fare_law.specs.declared.rules.EndOnEnd.{EndOnEnd}
 use Rattle.fare_law.specs.declared.rules.EndOnEnd.TheVariants.{Free, SameCarrier, Never}
-use Rattle.fare_law.specs.Lawful.{Part}
+use Rattle.fare_law.specs.Parts.{Part}
 use Rattle.ticket_whole.specs.declared.fares_on.FareOn.{FareOn}
 
 -- the fare of a part, with its label and what its rule asks

@@ -7,8 +7,6 @@ mod cuts;
 mod laws;
 mod numbers;
 mod pushes;
-#[cfg(test)]
-mod tests;
 
 pub use cuts::{cut, cut_last};
 pub use laws::{cuts_tell, numbers_tell};

@@ -8,7 +8,8 @@ use Rattle.fare_law.specs.declared.tickets.Component.{Component}
 use Rattle.fare_law.specs.declared.tickets.Ticket.{Ticket}
 use Rattle.fare_law.specs.Book.{Book}
 use Rattle.fare_law.specs.Days.{first_sunday_after}
-use Rattle.fare_law.specs.Lawful.{Part, IsPart, Lawful, Numbered}
+use Rattle.fare_law.specs.Lawful.{Lawful, Numbered}
+use Rattle.fare_law.specs.Parts.{Part, IsPart}
 use Rattle.fare_law.specs.Lists.{Matched}
 use Rattle.fare_law.specs.Units.{IsUnit, MinStayHolds}
 use Rattle.unit_labels.specs.Labels.{LabelLaws, LawfulLabels, Opens, Closes}

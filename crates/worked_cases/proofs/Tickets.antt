@@ -5,9 +5,9 @@ use Rattle.fare_law.specs.declared.flights.Flight.{Flight}
 use Rattle.fare_law.specs.declared.requests.Request.{Request}
 use Rattle.fare_law.specs.Book.{Book, connect, flight_at, live_fare, live_rule, seats}
 use Rattle.fare_law.specs.Journey.{FliesFrom, InWindow, LateEnough}
-use Rattle.fare_law.specs.Lawful.{Part, IsPart, Lawful, unit_of, EndOnEndHolds}
+use Rattle.fare_law.specs.Lawful.{Lawful, unit_of, EndOnEndHolds}
+use Rattle.fare_law.specs.Parts.{Part, IsPart, Filed, Seated, ComponentLawful}
 use Rattle.fare_law.specs.Lists.{Each, EachPair, Matched}
-use Rattle.fare_law.specs.Parts.{Filed, Seated, ComponentLawful}
 use Rattle.fare_law.specs.Units.{UnitLawful}
 use Rattle.unit_labels.specs.Labels.{LawfulLabels}
 use Rattle.worked_cases.specs.Makers.{Leg, ticket_of, piece_of, part_of, slices_of}

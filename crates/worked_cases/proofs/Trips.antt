@@ -8,7 +8,7 @@ use Rattle.fare_law.specs.declared.fares.Fare.{Fare}
 use Rattle.fare_law.specs.declared.tickets.Piece.{Piece}
 use Rattle.fare_law.specs.Lawful.{Lawful, unit_of}
 use Rattle.fare_law.specs.Units.{MayStand, UnitLawful}
-use Rattle.fare_law.specs.Order.{Costs}
+use Rattle.fare_law.specs.Best.{Costs}
 use Rattle.unit_labels.specs.Labels.{LabelLaws, Alone, Opens, GoesOn, Closes}
 use Rattle.worked_cases.specs.Cases.{one_way_legs, one_way_book, one_way_request, round_legs, leg, out_flight, back_flight, one_way_fare, round_fare, no_stops, round_book, round_request, circle_legs, circle_book, circle_request}
 use Rattle.worked_cases.specs.Makers.{lon, nyc, par, rom, ticket_of, flight_of, fare_of}

@@ -36,6 +36,10 @@ one_way_legs = leg 0 out_flight one_way_fare free_rule false 1 lon nyc 22341 ∷
 abbrev pub one_way_request : Request
 one_way_request = request_of (slices_of one_way_legs)
 
+-- so many passengers and tickets, in one slice from London with a window of so many days
+abbrev pub asked : ℕ → ℕ → ℕ → Place → Request
+asked party best days to = record { sale = pos 10957; party = party; best = best; slices = record { from = lon; to = to; first = pos 47481; days = days } ∷ [] }
+
 -- Round trip: out and back a week later, a fare of kind R at 40000.
 
 abbrev pub round_fare : Fare

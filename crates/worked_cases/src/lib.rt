@@ -3,8 +3,6 @@
 //! Nothing stands on this crate.
 #![tactic(auto)]
 
-#[cfg(test)]
-mod tests;
 mod worked;
 
-pub use worked::{circle, days, labels, one_way, order, prices, round_trip, units};
+pub use worked::{circle, days, labels, one_way, order, prices, requests, round_trip, units};

@@ -2,16 +2,19 @@
 ghost use Rattle.std.specs.Prelude.{◌≡◌, ◌≢◌, ◌<◌, ◌≤ℤ◌, ℕ, ℤ, pos, List, [], ◌∷◌, map, true, None, Some};
 ghost use Rattle.fare_law.specs.declared.fares.FareKind.TheVariants.{O, R, S};
 ghost use Rattle.fare_law.specs.declared.requests.Request.{Request};
+ghost use Rattle.fare_law.specs.declared.requests.Why.TheVariants.{Slices, Party, Best as BestCount, Window, SamePlace, UnknownPlace};
 ghost use Rattle.fare_law.specs.declared.tickets.Piece.{Piece};
 ghost use Rattle.fare_law.specs.declared.tickets.Ticket.{Ticket};
 ghost use Rattle.fare_law.specs.declared.rules.UnitKind.TheVariants.{Circle, OpenJaw, RoundTrip};
 ghost use Rattle.fare_law.specs.Book.{Book, free_rule};
 ghost use Rattle.fare_law.specs.Days.{first_sunday_after, weekday};
 ghost use Rattle.fare_law.specs.Lawful.{AtMostTwoStraddle, Lawful, Numbered};
-ghost use Rattle.fare_law.specs.Order.{Before, Costs, basis_number, carrier_number, code};
+ghost use Rattle.fare_law.specs.Best.{Before, Costs};
+ghost use Rattle.fare_law.specs.Codes.{basis_number, carrier_number, code};
 ghost use Rattle.fare_law.specs.Parts.{price_of, stopovers};
+ghost use Rattle.fare_law.specs.Requests.{judged, judged_alone};
 ghost use Rattle.fare_law.specs.Units.{IsUnit, MinStayHolds};
-ghost use Rattle.worked_cases.specs.Cases.{after_minutes, backward, charged, first_flight, forward, r1, with_sunday, y1, circle_book, circle_legs, circle_request, one_way_book, one_way_legs, one_way_request, round_book, round_legs, round_request};
+ghost use Rattle.worked_cases.specs.Cases.{after_minutes, asked, backward, charged, first_flight, forward, r1, with_sunday, y1, circle_book, circle_legs, circle_request, one_way_book, one_way_legs, one_way_request, round_book, round_legs, round_request};
 ghost use Rattle.worked_cases.specs.Makers.{lon, nyc, par, qx, rom, ticket_of};
 
 use unit_labels::label_laws;
@@ -45,6 +48,20 @@ pub fn circle()
 {
     label_laws();
 }
+
+/// Requests: of several reasons the first is told, in the order slices, party, best, window, same place,
+/// unknown place. A day of sale out of the century is told as a window.
+pub fn requests()
+    ensures allowed { judged (lon ∷ nyc ∷ []) one_way_request ≡ None }
+    ensures slices { judged [] (record { sale = pos 0; party = 0; best = 0; slices = [] }) ≡ Some Slices }
+    ensures party { judged [] (asked 10 0 0 lon) ≡ Some Party }
+    ensures best { judged [] (asked 9 1001 0 lon) ≡ Some BestCount }
+    ensures window { judged [] (asked 9 1000 8 lon) ≡ Some Window }
+    ensures sale { judged [] (record (asked 9 1000 7 lon) { sale = pos 47482 }) ≡ Some Window }
+    ensures same_place { judged [] (asked 9 1000 7 lon) ≡ Some SamePlace }
+    ensures unknown { judged (lon ∷ par ∷ []) (asked 9 1000 7 nyc) ≡ Some UnknownPlace }
+    ensures alone { judged_alone (asked 9 1000 7 nyc) ≡ None }
+{}
 
 /// Labels: three units that stand on both sides of one boundary are no ticket, two are. Labels are
 /// numbered from 1 by first appearance.

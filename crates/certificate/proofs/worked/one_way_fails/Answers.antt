@@ -10,7 +10,6 @@ returns c =
     let known : Known = record {
       runs = c.nothing_lost.ensures.runs;
       tickets = c.nothing_lost.ensures.tickets;
-      codes = c.nothing_lost.ensures.codes;
       one_ticket = c.nothing_lost.ensures.one;
       one_next = c.one_next.ensures.one;
       goes_on = c.one_next.ensures.further;

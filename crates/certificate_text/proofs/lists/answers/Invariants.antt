@@ -1,6 +1,7 @@
-use Rattle.std.proofs.Common.{◌≤◌, ◌-◌, ◌+◌, ◌<◌, ◌^◌, length, map}
+use Rattle.std.proofs.Common.{◌≤◌, ◌-◌, length, map}
 use Rattle.certificate_text.specs.Faults.{Passed, answers_due}
 use Rattle.certificate_text.specs.Lines.{IsAnswer, answer_line}
+use Rattle.certificate_text.specs.Unread.{HasRoom, unread}
 use Rattle.fare_law.specs.Lists.{Each}
 use Rattle.certificate_text.proofs.lists.answers.Given as goal
 
@@ -8,9 +9,9 @@ use Rattle.certificate_text.proofs.lists.answers.Given as goal
 abbrev pub invariant-loop-at : goal.invariant-loop-at
 invariant-loop-at l = record {
   few : length l.answers ≤ l.count;
-  passed : Passed (answers_due l.count) l.initial.at.rest.now l.initial.at.line (map answer_line l.answers) (answers_due (l.count - length l.answers)) l.at.rest.now l.at.line;
+  passed : Passed (answers_due l.count) (unread l.initial.at) (map answer_line l.answers) (answers_due (l.count - length l.answers)) (unread l.at);
   each : Each IsAnswer l.answers;
-  room : l.at.line + length l.at.rest.now < 2 ^ 32;
+  room : HasRoom (unread l.at);
 }
 
 abbrev pub decreases-loop-at : goal.decreases-loop-at

@@ -1,12 +1,12 @@
-use Rattle.std.proofs.Common.{◌≡◌, ◌≤◌, ◌<◌, ◌+◌, ℕ, List, [], ◌∷◌, ◌++◌, length, refl, ap, sym, subst, arith, length-append}
+use Rattle.std.proofs.Common.{◌<◌, [], ◌∷◌, length, ap, sym, subst, arith, refl, length-append}
 use Rattle.std.specs.Prelude.{codes}
-use Rattle.certificate.specs.declared.parts.CertAnswer.{CertAnswer}
-use Rattle.certificate.specs.declared.parts.CertRow.{CertRow}
-use Rattle.certificate_text.specs.Faults.{AnswerCount, Answer, RowCount, Row, answers_due, rows_due}
-use Rattle.certificate_text.specs.Lines.{IsAnswer, IsRow, answer_line, row_line, number_line}
+use Rattle.certificate_text.specs.Faults.{Row, RowCount, rows_due}
+use Rattle.certificate_text.specs.Lines.{IsRow, row_line, number_line}
+use Rattle.certificate_text.specs.Unread.{unread}
 use Rattle.fare_law.specs.Lists.{Each}
-use Rattle.certificate_text.proofs.FaultLemmas.{room}
-use Rattle.certificate_text.proofs.ListLemmas.{DueAfter, each_more, item_fault, item_passed}
+use Rattle.certificate_text.proofs.LineFeeds.{each_append}
+use Rattle.certificate_text.proofs.ListLemmas.{DueAfter, item_fault, item_passed}
+use Rattle.certificate_text.proofs.TakingLemmas.{room_all}
 use Rattle.certificate_text.proofs.lists.rows.Goals as goal
 
 due_after : DueAfter rows_due Row
@@ -14,19 +14,17 @@ due_after = record { more = λ n. refl }
 
 pub returns-in-Err-clause-fault : goal.returns-in-Err-clause-fault
 returns-in-Err-clause-fault c =
-    item_fault rows_due Row row_line due_after (rows_due c.in_ok-count.count) RowCount c.in_ok-count.first.rest.now c.args.start.rest.now c.loop-at.at.rest.now
-    c.in_ok-count.first.line c.args.start.line c.loop-at.at.line c.in_ok-count.count (number_line (codes "rows") c.in_ok-count.count ∷ []) c.loop-at.rows c.in-Err.fault
-    (omega (arith, c.len.ensures)) c.in_ok-count.ensures.ok c.loop-at.invariant.passed c.in-Err.ensures.fault
+    item_fault rows_due Row row_line due_after (rows_due c.in_ok-count.count) RowCount (unread c.args.start) (unread c.in_ok-count.first) (unread c.loop-at.at) c.in_ok-count.count
+    (number_line (codes "rows") c.in_ok-count.count ∷ []) c.loop-at.rows c.in-Err.fault (omega (arith, c.len.ensures)) c.in_ok-count.ensures.ok c.loop-at.invariant.passed c.in-Err.ensures.fault
 
 pub loop-at-preserved : goal.loop-at-preserved
 loop-at-preserved c =
     let few : length c.loop-at.rows < c.in_ok-count.count = omega (arith, c.len.ensures) in
     let is = c.in_ok-push.ensures.items in
-    let there = room (Row 0) (rows_due 0) c.loop-at.at.rest.now c.in-Ok.found.1.rest.now c.loop-at.at.line c.in-Ok.found.1.line (row_line c.in-Ok.found.0 ∷ []) (c.in-Ok.ensures.ok 0) in
     record {
       few = omega (arith, few, ap length is, length-append c.loop-at.rows (c.in-Ok.found.0 ∷ []));
-      passed = item_passed rows_due Row row_line due_after (rows_due c.in_ok-count.count) c.in_ok-count.first.rest.now c.loop-at.at.rest.now c.in-Ok.found.1.rest.now
-          c.in_ok-count.first.line c.loop-at.at.line c.in-Ok.found.1.line c.in_ok-count.count c.loop-at.rows c.push.new.self c.in-Ok.found.0 is few c.loop-at.invariant.passed c.in-Ok.ensures.ok;
-      each = subst (Each IsRow) (sym is) (each_more IsRow c.loop-at.rows c.in-Ok.found.0 c.loop-at.invariant.each c.in-Ok.ensures.fits);
-      room = omega (arith, there, c.loop-at.invariant.room);
+      passed = item_passed rows_due Row row_line due_after (rows_due c.in_ok-count.count) (unread c.in_ok-count.first) (unread c.loop-at.at) (unread c.in-Ok.found.1)
+          c.in_ok-count.count c.loop-at.rows c.push.new.self c.in-Ok.found.0 is few c.loop-at.invariant.passed c.in-Ok.ensures.ok;
+      each = subst (Each IsRow) (sym is) (each_append IsRow c.loop-at.rows (c.in-Ok.found.0 ∷ []) c.loop-at.invariant.each (c.in-Ok.ensures.fits, tt));
+      room = room_all (unread c.loop-at.at) (unread c.in-Ok.found.1) (row_line c.in-Ok.found.0 ∷ []) (c.in-Ok.ensures.ok 0).taken c.loop-at.invariant.room;
     }

@@ -1,6 +1,7 @@
-use Rattle.std.proofs.Common.{◌≤◌, ◌-◌, ◌+◌, ◌<◌, ◌^◌, length, map}
+use Rattle.std.proofs.Common.{◌≤◌, ◌-◌, length, map}
 use Rattle.certificate_text.specs.Faults.{Passed, rows_due}
 use Rattle.certificate_text.specs.Lines.{IsRow, row_line}
+use Rattle.certificate_text.specs.Unread.{HasRoom, unread}
 use Rattle.fare_law.specs.Lists.{Each}
 use Rattle.certificate_text.proofs.lists.rows.Given as goal
 
@@ -8,9 +9,9 @@ use Rattle.certificate_text.proofs.lists.rows.Given as goal
 abbrev pub invariant-loop-at : goal.invariant-loop-at
 invariant-loop-at l = record {
   few : length l.rows ≤ l.count;
-  passed : Passed (rows_due l.count) l.initial.at.rest.now l.initial.at.line (map row_line l.rows) (rows_due (l.count - length l.rows)) l.at.rest.now l.at.line;
+  passed : Passed (rows_due l.count) (unread l.initial.at) (map row_line l.rows) (rows_due (l.count - length l.rows)) (unread l.at);
   each : Each IsRow l.rows;
-  room : l.at.line + length l.at.rest.now < 2 ^ 32;
+  room : HasRoom (unread l.at);
 }
 
 abbrev pub decreases-loop-at : goal.decreases-loop-at

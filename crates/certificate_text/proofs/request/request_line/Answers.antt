@@ -1,4 +1,4 @@
-use Rattle.std.proofs.Common.{◌≡◌, List, ℕ, rules, sym, ◌∙◌}
+use Rattle.std.proofs.Common.{◌≡◌, rules, sym, ◌∙◌}
 use Rattle.std.proofs.lemmas.Option.{MatchOption-at_none, MatchOption-at_some}
 use Rattle.certificate_text.proofs.RequestLemmas.{no_label, no_request, other_text, whole_request}
 use Rattle.certificate_text.proofs.request.request_line.Goals as goal

@@ -1,4 +1,4 @@
-use Rattle.std.proofs.Common.{◌≡◌, ◌-◌, ℕ, None, Some, cond, sym, ap, subst, refl, ◌∙◌, arith}
+use Rattle.std.proofs.Common.{◌≡◌, ◌-◌, None, Some, cond, sym, subst, refl, ◌∙◌, arith}
 use Rattle.fare_law.specs.declared.filings.Action.TheVariants.{DropFare}
 use Rattle.fare_law.specs.declared.filings.BookWhy.TheVariants.{NoFare}
 use Rattle.fare_law.specs.Book.{live_fare, live_rule}

@@ -1,6 +1,5 @@
-use Rattle.std.proofs.Common.{◌≡◌, ◌-◌, ◌+◌, ◌<◌, None, Some, cond, refl, sym, ap, subst, ◌∙◌, arith}
+use Rattle.std.proofs.Common.{◌≡◌, ◌-◌, ◌+◌, ◌<◌, None, Some, cond, refl, sym, subst, ◌∙◌, arith}
 use Rattle.fare_law.specs.declared.filings.Action.TheVariants.{PutFare}
-use Rattle.fare_law.specs.declared.filings.BookWhy.TheVariants.{Limit}
 use Rattle.fare_law.specs.Book.{live_fare, live_rule}
 use Rattle.fare_book.specs.Keeping.{uses_at}
 use Rattle.fare_book.specs.Keys.{same_rule}

@@ -1,4 +1,4 @@
-use Rattle.std.proofs.Common.{◌≡◌, ◌≢◌, ◌-◌, ℕ, None, IsSome, refl, sym, ap, subst, ◌∙◌, arith}
+use Rattle.std.proofs.Common.{◌≡◌, ◌-◌, None, refl, sym, subst, ◌∙◌, arith}
 use Rattle.fare_law.specs.declared.filings.Action.TheVariants.{DropRule}
 use Rattle.fare_law.specs.Book.{live_fare, live_rule}
 use Rattle.fare_book.specs.Drafts.{RulesKept}

@@ -1,4 +1,4 @@
-use Rattle.std.proofs.Common.{◌≡◌, ◌≢◌, None, Some, IsSome, refl, sym, ap, subst, ◌∙◌, arith}
+use Rattle.std.proofs.Common.{Some, refl, arith}
 use Rattle.fare_law.specs.declared.filings.Action.TheVariants.{PutRule}
 use Rattle.fare_law.specs.declared.filings.BookWhy.TheVariants.{Limit}
 use Rattle.fare_law.specs.Book.{live_fare, live_rule}

@@ -1,4 +1,4 @@
-use Rattle.std.proofs.Common.{◌≡◌, None, Some, IsSome, refl, sym, ap, subst, ◌∙◌}
+use Rattle.std.proofs.Common.{Some, IsSome, refl, sym, subst}
 use Rattle.fare_law.specs.declared.filings.Action.TheVariants.{DropSeats}
 use Rattle.fare_law.specs.declared.filings.BookWhy.TheVariants.{NoSeats}
 use Rattle.fare_law.specs.Book.{live_fare, live_rule, live_seats}

@@ -1,4 +1,4 @@
-use Rattle.std.proofs.Common.{◌≡◌, None, Some, Err, IsSome, refl, sym, ap, subst, ◌∙◌}
+use Rattle.std.proofs.Common.{Some, Err, refl, sym, ap, subst, ◌∙◌}
 use Rattle.fare_law.specs.declared.filings.Action.TheVariants.{PutSeats}
 use Rattle.fare_law.specs.declared.filings.BookWhy.TheVariants.{Limit}
 use Rattle.fare_law.specs.Book.{live_fare, live_rule, live_seats}

@@ -1,6 +1,5 @@
-use Rattle.std.proofs.Common.{◌≡◌, [], None, Some, sym, ap, subst, ◌∙◌}
+use Rattle.std.proofs.Common.{◌≡◌, [], None, Some, sym, subst}
 use Rattle.fare_law.specs.Sheets.{SheetOf}
-use Rattle.fare_book.specs.Keeping.{sheet_at}
 use Rattle.fare_book.specs.Ready.{IsRight}
 use Rattle.fare_book.proofs.Finding.{market_changes}
 use Rattle.fare_book.proofs.Placing.{none_left, none_right, sheet_else, sheet_here}

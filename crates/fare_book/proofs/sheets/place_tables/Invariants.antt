@@ -1,4 +1,3 @@
-use Rattle.std.proofs.Common.{◌≡◌}
 use Rattle.fare_law.specs.Book.{Book}
 use Rattle.fare_book.specs.Ready.{Ready}
 use Rattle.fare_book.proofs.Placing.{PlacedSo}

@@ -1,4 +1,4 @@
-use Rattle.std.proofs.Common.{◌≡◌, ◌∷◌, [], map, rules, Bor, IsSome, Some, refl, sym, ap, subst, ◌∙◌}
+use Rattle.std.proofs.Common.{◌≡◌, ◌∷◌, [], map, rules, Bor, IsSome, Some, sym, ap, subst, ◌∙◌}
 use Rattle.std.specs.List.Sorted.{IsStrictlySortedBy}
 use Rattle.std.specs.Map.{keys_of}
 use Rattle.std.specs.Map.Iter.{deref_pair}
@@ -10,7 +10,7 @@ use Rattle.fare_law.specs.declared.fares.FareKey.{FareKey}
 use Rattle.fare_law.specs.Book.{Book, live_rule}
 use Rattle.fare_law.specs.Sheets.{SheetOf}
 use Rattle.fare_book.specs.Keeping.{Rules}
-use Rattle.fare_book.proofs.Making.{Made, MadeOf, is_sheet, made_push, sheet_made}
+use Rattle.fare_book.proofs.Making.{Made, is_sheet, made_push, sheet_made}
 use Rattle.fare_book.proofs.TableRows.{ok_as}
 use Rattle.fare_book.proofs.sheets.sheet_of.Goals as goal
 
@@ -21,10 +21,10 @@ pub loop-fare-preserved : goal.loop-fare-preserved
 loop-fare-preserved c =
     let item : Bor FareKey × Bor Fare = (c.in-Some.field-0-0, c.in-Some.fare) in
     let held = c.args.rules.now.entries in
-    made_push held c.loop-fare.rows c.push.new.self (map deref_pair c.loop-fare.yielded) _ (record { fare = c.copied.result; rule = c.rule_for-rule.result }) (deref_pair item) c.in_ok-push.ensures.items (map-append deref_pair c.loop-fare.yielded (item ∷ []))
+    made_push held c.loop-fare.rows c.push.new.self (map deref_pair c.loop-fare.yielded) _ (record { fare = c.copied.result; rule = c.in_ok-rule.rule }) (deref_pair item) c.in_ok-push.ensures.items (map-append deref_pair c.loop-fare.yielded (item ∷ []))
     (record {
       fare_is = c.copied.ensures;
-      rule_is = subst (λ (f : Fare). (b : Book) → Rules b held → IsSome (live_rule b f.key.carrier f.rule) → live_rule b f.key.carrier f.rule ≡ Some c.rule_for-rule.result) (sym c.copied.ensures) c.rule_for-rule.ensures;
+      rule_is = subst (λ (f : Fare). (b : Book) → Rules b held → IsSome (live_rule b f.key.carrier f.rule) → live_rule b f.key.carrier f.rule ≡ Some c.in_ok-rule.rule) (sym c.copied.ensures) (λ b r s. c.rule_for.ensures b r s ∙ ap Some (sym c.in_ok-rule.ensures));
     }) c.loop-fare.invariant
 
 pub of-requires : goal.of-requires

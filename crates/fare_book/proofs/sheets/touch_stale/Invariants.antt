@@ -1,4 +1,3 @@
-use Rattle.std.proofs.Common.{◌≡◌}
 use Rattle.fare_book.specs.Tables.{AreKeyed, Fares, LiveRules, MarketHolds}
 use Rattle.fare_book.specs.declared.keys.Market.{Market}
 use Rattle.fare_book.proofs.Placing.{SettledSo}

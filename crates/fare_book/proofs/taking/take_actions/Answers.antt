@@ -1,4 +1,4 @@
-use Rattle.std.proofs.Common.{◌+◌, sym, subst}
+use Rattle.std.proofs.Common.{sym, subst}
 use Rattle.std.proofs.lemmas.List.{take_all}
 use Rattle.fare_book.specs.Taking.{StopsAt}
 use Rattle.fare_book.proofs.TakingLemmas.{TakenSo, stops_told, taken_more, taken_none}

@@ -1,4 +1,4 @@
-use Rattle.std.proofs.Common.{◌≡◌, ◌+◌, ◌-◌, ℕ, cond, ap, ◌∙◌, arith}
+use Rattle.std.proofs.Common.{◌≡◌, ◌-◌, cond, ap, ◌∙◌, arith}
 use Rattle.fare_book.specs.Keeping.{uses_at}
 use Rattle.fare_book.specs.Keys.{same_rule}
 use Rattle.fare_book.proofs.Finding.{uses_set}

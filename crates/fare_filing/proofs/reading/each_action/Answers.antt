@@ -14,7 +14,7 @@ loop-item-preserved c =
     let at : c.len.result + 1 ≡ i + 1 = omega (arith, c.len.ensures, c.loop-item.invariant.count) in
     record {
       rest = subst (λ (actions : List Action). after actions (left c.args.items.now (i + 1)) ≡ left c.args.items.now 0) (sym e)
-          (actions_more before action c.args.items.now i (c.len.result + 1) c.item-item.result c.loop-item-test.true c.item-item.is at (sym c.in_ok-action.ensures.action) c.loop-item.invariant.rest);
+          (actions_more before action c.args.items.now i (c.len.result + 1) c.item-item.result c.loop-item-test.true c.item-item.is at c.in_ok-action.ensures.action c.loop-item.invariant.rest);
       limits = subst (λ (actions : List Action). Each IsAction actions) (sym e) (each_more IsAction before action c.loop-item.invariant.limits c.in_ok-action.ensures.limits);
       count = ap length e ∙ simp length-append (omega arith);
     }

@@ -1,6 +1,6 @@
 use Rattle.fare_law.specs.Lists.{Each}
 use Rattle.std.proofs.Common.{◌≡◌, length, drop}
-use Rattle.request_text.specs.Limits.{each_windowed}
+use Rattle.request_text.specs.Steps.{each_windowed}
 use Rattle.fare_law.specs.Limits.{IsSlice}
 use Rattle.request_text.proofs.WindowLemmas.{after}
 use Rattle.request_text.proofs.limits.windowed_each.Given as goal

@@ -1,16 +1,17 @@
 use Rattle.std.proofs.Common.{◌≡◌, length, sym, ap, subst, ◌∙◌, arith}
-use Rattle.fare_law.specs.Lists.{Each, EachPair, IsIn}
-use Rattle.fare_law.specs.Moves.{move_code}
-use Rattle.fare_law.specs.Order.{Less}
+use Rattle.fare_law.specs.Lists.{Each, EachPair, IsIn, Less}
+use Rattle.fare_law.specs.Codes.{move_code}
 use Rattle.ticket_order.specs.Coding.{Coded}
 use Rattle.residual_keys.proofs.InOrder.{same_length, same_moves, written}
+use Rattle.residual_keys.proofs.Needed.{each_from}
 use Rattle.residual_keys.proofs.PathByPath.{all_coded}
+use Rattle.residual_keys.specs.Written.{IsWrittenNext}
 use Rattle.residual_keys.proofs.choosing.moves.Goals as goal
 
 pub put_in_order-requires-clause-coded : goal.put_in_order-requires-clause-coded
 put_in_order-requires-clause-coded g c =
     let added = c.in_ok-found.ensures.moves in
-    subst (Each (λ x. Coded x.mv)) (sym (c.as_mut_slice.ensures.value ∙ c.into_vec-found.ensures ∙ added.joined)) (all_coded c.args.book.now c.args.request.now c.args.residual.now c.limits.ensures.keys added.more (λ x i. (added.are x).0 i))
+    subst (Each (λ x. Coded x.mv)) (sym (c.as_mut_slice.ensures.value ∙ c.into_vec-found.ensures ∙ added.joined)) (all_coded c.args.book.now c.args.request.now c.args.residual.now c.book_limits.ensures.fares.keys added.more (λ x i. (added.are x).0 i))
 
 pub returns-clause-moves : goal.returns-clause-moves
 returns-clause-moves g c =
@@ -31,3 +32,8 @@ returns-clause-moves g c =
         λ h. subst (IsIn x) (sym result_is) (p.0 (subst (IsIn x) (sym old_is) ((added.are x).1 h))),
       );
     }
+
+pub returns-clause-written : goal.returns-clause-written
+returns-clause-written g c = λ written.
+    each_from (λ x. IsWrittenNext x.next) c.from_vec.result
+    (λ x i. c.reached_is_written.ensures.moves c.args.book.now c.args.request.now c.book_limits.ensures c.requires c.args.residual.now x written (((returns-clause-moves g c).are x).0 i))

@@ -1,19 +1,15 @@
-use Rattle.std.proofs.Common.{◌≡◌, sym, ap, subst, arith}
-use Rattle.flight_paths.specs.Positions.{IsPath}
-use Rattle.residual_keys.proofs.StepTaken.{slice_known}
+use Rattle.std.proofs.Common.{Option, Some, None, IfSome}
+use Rattle.residual_keys.specs.declared.residual.Next.{Next}
+use Rattle.residual_keys.specs.Steps.{StepsTo}
+use Rattle.residual_keys.specs.Written.{IsWrittenNext}
 use Rattle.residual_keys.proofs.stepping.step.Goals as goal
 
-pub returns-then-from-len-clause-none : goal.returns-then-from-len-clause-none
-returns-then-from-len-clause-none c = λ next s.
-    let lt = slice_known c.args.book.now c.args.request.now c.args.residual.now c.args.mv.now next s in
-    let at : c.residual.inside.at.slice ≡ c.args.residual.now.at.slice = ap (λ x. x.at.slice) c.residual.view_is in
-    absurd (omega (arith, lt, at, c.if-from-len.true, c.from.ensures, c.len.ensures.value))
+found_so : (P Q : Next → Type 0) (found : Option Next) → ((next : Next) → P next → Q next) → IfSome found P → IfSome found Q
+found_so P Q None to h = tt
+found_so P Q (Some next) to h = to next h
 
-pub step_over-requires-clause-path : goal.step_over-requires-clause-path
-step_over-requires-clause-path c =
-    let p = c.in-Some.ensures.some.1 c.args.book.now c.schedule_of.ensures in
-    (p.0, subst (λ x. IsPath c.args.book.now c.args.request.now.slices x.at c.args.mv.now.flights p.0 c.in-Some.path.after) c.residual.view_is p.1)
-
-pub returns-in-None-clause-none : goal.returns-in-None-clause-none
-returns-in-None-clause-none c = λ next (price, s).
-    c.in-None.ensures.none c.args.book.now c.schedule_of.ensures s.flights s.after (subst (λ x. IsPath c.args.book.now c.args.request.now.slices x.at c.args.mv.now.flights s.flights s.after) (sym c.residual.view_is) s.moves.path)
+pub returns-clause-written : goal.returns-clause-written
+returns-clause-written c = λ written.
+    found_so (StepsTo c.args.book.now c.args.request.now c.args.residual.now c.args.mv.now) IsWrittenNext c.next_by.result
+    (λ next s. c.reached_is_written.ensures.moves c.args.book.now c.args.request.now c.book_limits.ensures c.requires c.args.residual.now (record { mv = c.args.mv.now; price = s.0; next = next }) written s.1)
+    c.next_by.ensures.some

@@ -1,6 +1,8 @@
-use Rattle.std.proofs.Common.{rules, arith}
-use Rattle.ticket_demands.proofs.PriceSums.{numbered}
+use Rattle.std.proofs.Common.{None, Some, inl, inr, rules, arith}
+use Rattle.std.proofs.lemmas.List.{nil_from_length}
+use Rattle.ticket_demands.proofs.PriceSums.{numbered, part_price}
 use Rattle.ticket_demands.proofs.pricing.component_price.Goals as goal
+use Rattle.ticket_demands.proofs.pricing.component_price.Goals.{then-len-eq0-via-then-len-eq0, then-len-eq0-via-else-len-eq0+then-has_unknown_flight}
 
 pub overflow_add-result : goal.overflow_add-result
 overflow_add-result c = omega (arith, (c.limits.ensures.fares _ _ c.in_ok-row.ensures.0).1.amount, c.share.ensures.low, c.charge.ensures.low)
@@ -22,3 +24,14 @@ returns-clause-value c = record {
 
 pub returns-clause-low : goal.returns-clause-low
 returns-clause-low c = omega (arith, (c.limits.ensures.fares _ _ c.in_ok-row.ensures.0).1.amount, c.share.ensures.low, c.charge.ensures.low, c.surcharge.ensures.low)
+
+pub returns-then-len-eq0-clause-part : goal.returns-then-len-eq0-clause-part
+returns-then-len-eq0-clause-part c =
+    part_price c.args.book.now c.args.component.now None
+    (elim c.then-len-eq0.branch [
+      | then-len-eq0-via-then-len-eq0 w ↦ inl (nil_from_length _ (search rules))
+      | then-len-eq0-via-else-len-eq0+then-has_unknown_flight w ↦ inr (inl (search rules))
+    ])
+
+pub returns-clause-part : goal.returns-clause-part
+returns-clause-part c = part_price c.args.book.now c.args.component.now (Some _) (returns-clause-value c)

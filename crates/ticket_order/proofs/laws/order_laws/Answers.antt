@@ -1,4 +1,4 @@
-use Rattle.ticket_order.proofs.Comparing.{words_told}
+use Rattle.schedule_book.proofs.Sorting.{words_told}
 use Rattle.ticket_order.proofs.Words.{less_never, less_trans, less_total, less_cut, less_more, less_second, less_first, before_never, before_trans, before_total, before_more, before_second}
 use Rattle.ticket_order.proofs.laws.order_laws.Goals as goal
 

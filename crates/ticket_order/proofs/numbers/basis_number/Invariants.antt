@@ -1,5 +1,5 @@
 use Rattle.std.proofs.Common.{◌≡◌, ◌+◌, ◌*◌, ◌^◌, ◌-◌, ◌≤◌, drop}
-use Rattle.fare_law.specs.Order.{in_places}
+use Rattle.fare_law.specs.Codes.{in_places}
 use Rattle.ticket_order.proofs.numbers.basis_number.Given as goal
 
 abbrev pub invariant-loop-place : goal.invariant-loop-place

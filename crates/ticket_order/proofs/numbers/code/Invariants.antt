@@ -1,5 +1,5 @@
 use Rattle.std.proofs.Common.{◌≡◌, ◌*◌, ◌≤◌, ◌++◌, length, drop}
-use Rattle.fare_law.specs.Moves.{run_code}
+use Rattle.fare_law.specs.Codes.{run_code}
 use Rattle.ticket_order.proofs.numbers.code.Given as goal
 
 abbrev pub invariant-loop-m : goal.invariant-loop-m

@@ -1,6 +1,6 @@
 use Rattle.std.proofs.Common.{◌≡◌, ◌-◌, ◌≤◌, ◌&&◌, count_by}
 use Rattle.fare_law.specs.Lawful.{comes_in}
-use Rattle.fare_law.specs.Order.{upto}
+use Rattle.fare_law.specs.Moves.{upto}
 use Rattle.ticket_order.proofs.roles.slot_number.Given as goal
 
 abbrev pub invariant-loop-smaller : goal.invariant-loop-smaller

@@ -1,7 +1,7 @@
 use Rattle.std.proofs.Common.{◌≡◌, IfNone, length, sym, ap, subst, ◌∙◌, arith}
 use Rattle.fare_law.specs.declared.tickets.Ticket.{Ticket}
 use Rattle.fare_law.specs.Lists.{Matched}
-use Rattle.ticket_order.specs.Tickets.{TicketOf, labels, IsComponent}
+use Rattle.ticket_order.specs.Tickets.{TicketOfMoves, labels, IsComponent}
 use Rattle.ticket_order.proofs.ReadLabels.{labels_long}
 use Rattle.ticket_order.proofs.TicketParts.{ticket_made, ticket_labels, ticket_parts, ticket_short}
 use Rattle.ticket_order.proofs.tickets.ticket_of.Goals as goal
@@ -13,7 +13,7 @@ pub returns-in_err-labels-clause-none : goal.returns-in_err-labels-clause-none
 returns-in_err-labels-clause-none c =
     let fs = c.args.schedule.now.flights in
     let ms = c.args.moves.now in
-    subst (λ r. IfNone r ((t : Ticket) → TicketOf fs ms t → ⊥)) (sym c.from_residual.ensures)
+    subst (λ r. IfNone r ((t : Ticket) → TicketOfMoves fs ms t → ⊥)) (sym c.from_residual.ensures)
     (λ t h. let e = c.in_err-labels.ensures.only (labels t.components) h.numbered (ticket_labels fs ms t h) in absurd (cc))
 
 pub components_of-requires-clause-each : goal.components_of-requires-clause-each
@@ -23,7 +23,7 @@ pub returns-in_err-components-clause-none : goal.returns-in_err-components-claus
 returns-in_err-components-clause-none c =
     let fs = c.args.schedule.now.flights in
     let ms = c.args.moves.now in
-    subst (λ r. IfNone r ((t : Ticket) → TicketOf fs ms t → ⊥)) (sym c.from_residual-in_err-components.ensures)
+    subst (λ r. IfNone r ((t : Ticket) → TicketOfMoves fs ms t → ⊥)) (sym c.from_residual-in_err-components.ensures)
     (λ t h.
     let e = c.in_ok-labels.ensures.only (labels t.components) h.numbered (ticket_labels fs ms t h) in
     let u : labels t.components ≡ c.as_slice.result.now = cc in

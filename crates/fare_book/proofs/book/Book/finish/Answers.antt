@@ -1,7 +1,6 @@
-use Rattle.std.proofs.Common.{◌≡◌, ◌++◌, ◌∷◌, [], List, map, sym, ap, subst, ◌∙◌}
+use Rattle.std.proofs.Common.{sym, subst}
 use Rattle.std.specs.Arc.{arc_value}
-use Rattle.fare_law.specs.declared.filings.Filing.{Filing}
-use Rattle.fare_law.specs.Book.{Book, live_fare, live_rule}
+use Rattle.fare_law.specs.Book.{live_fare, live_rule}
 use Rattle.fare_law.specs.Faults.{filed}
 use Rattle.fare_book.specs.Keeping.{History, Keeps}
 use Rattle.fare_book.proofs.Versions.{draft_ready, next_keeps, next_view}

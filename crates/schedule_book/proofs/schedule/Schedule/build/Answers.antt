@@ -1,6 +1,8 @@
 use Rattle.std.proofs.Common.{length, sym, ap, subst, ◌∙◌, arith}
 use Rattle.std.specs.List.Sorted.{IsPermutation}
 use Rattle.fare_law.specs.Flights.{AreFlights}
+use Rattle.fare_law.specs.Limits.{IsPlaceRow}
+use Rattle.fare_law.specs.Lists.{Each}
 use Rattle.schedule_book.specs.Departures.{Indexes}
 use Rattle.schedule_book.specs.Faults.{RowCause}
 use Rattle.schedule_book.proofs.Limited.{flights_on_days, flights_within}
@@ -31,4 +33,5 @@ invariant_of-result c =
       subst (λ fs. Indexes fs c.in_ok-departures.departures.keys.items c.in_ok-departures.departures.numbers.items) (c.as_slice.ensures.value ∙ sym c.from_vec-flights.ensures) c.in_ok-departures.ensures,
       flights_within rows c.from_vec-flights.result c.requires.rows are,
       flights_on_days rows c.from_vec-flights.result c.requires.rows are,
+      subst (Each IsPlaceRow) (sym c.in_ok-places.ensures.rows) c.requires.places,
     )

@@ -1,0 +1,141 @@
+//! Passes over small stores, and keys of one leg and one row.
+ghost use Rattle.std.specs.Prelude.{◌≤◌, IfOk};
+ghost use Rattle.fare_component.specs.Keys.{IsKey};
+
+use fare_law::{
+    ArrayVec, Basis, Carrier, Fare, FareKey, FareKind, Flight, Leg, List, MarketSheet, Mem,
+    OfferKey, Place, Rule, Shared, SheetRow,
+};
+use node_publish::{Kept, Node, NodeStore, asks_same};
+use std::alloc::Global;
+use std::sync::Arc;
+use std::test::Fail;
+
+const LON: Place = Place(*b"LON");
+
+const NYC: Place = Place(*b"NYC");
+
+const OURS: Carrier = Carrier(*b"QX");
+
+/// The key of QX 101 on 2031-03-03 and a sheet of one fare of that amount.
+fn key(alloc: Global, amount: u32) -> Result<OfferKey, Mem>
+    requires { amount ≤ 1000000000 }
+    ensures { IfOk result IsKey }
+{
+    let mut legs = ArrayVec::new();
+    legs.push(Leg {
+        flight: Flight {
+            carrier: OURS,
+            number: 101,
+            from: LON,
+            to: NYC,
+            day: 22341,
+            minute: 600,
+            dep: 32171640,
+            arr: 32172120,
+        },
+        classes: 1 << 24,
+    });
+    let mut letters = ArrayVec::new();
+    letters.push(b'Y');
+    let mut rows = List::new(alloc);
+    rows.push(SheetRow {
+        fare: Fare {
+            key: FareKey {
+                carrier: OURS,
+                from: LON,
+                to: NYC,
+                basis: Basis(letters),
+            },
+            class: 24,
+            kind: FareKind::O,
+            amount: u64::from(amount),
+            rule: 0,
+        },
+        rule: Shared::new(alloc, Rule::default())?,
+    })?;
+    let sheet = MarketSheet::of(alloc, LON, NYC, rows)?;
+    Ok(OfferKey {
+        legs,
+        sheet: Arc::new(alloc, sheet)?,
+    })
+}
+
+/// The node of that key.
+fn node(alloc: Global, amount: u32) -> Result<Node, Mem>
+    requires { amount ≤ 1000000000 }
+{
+    Node::build(alloc, key(alloc, amount)?)
+}
+
+/// The price of a node's first offer.
+fn price(node: &Node) -> Option<u64> {
+    node.offers.rows.as_slice().first().map(|offer| offer.price)
+}
+
+/// The price of what was kept, or `None` for `NoRoom`.
+fn kept(kept: Kept) -> Option<u64> {
+    match kept {
+        Kept::Here(node) => price(node),
+        Kept::NoRoom => None,
+    }
+}
+
+#[test]
+fn tells_keys(rt: HostRuntime) -> Result<(), Fail> {
+    let alloc = rt.alloc();
+    let one = key(alloc, 20000)?;
+    assert!(rt; asks_same(&one, &one));
+    assert!(rt; asks_same(&one, &key(alloc, 20000)?));
+    assert!(rt; !asks_same(&one, &key(alloc, 15000)?));
+    Ok(())
+}
+
+#[test]
+fn keeps_in_one_cell(rt: HostRuntime) -> Result<(), Fail> {
+    let alloc = rt.alloc();
+    let one = node(alloc, 20000)?;
+    let other = node(alloc, 15000)?;
+    let asked = key(alloc, 20000)?;
+    let store = NodeStore::new(alloc, 1)?;
+    let mut first = store.pass(alloc)?;
+    assert!(rt; store.find(&mut first, &asked).is_none());
+    assert_eq!(rt; kept(store.keep(alloc, &mut first, &one)?), Some(20000));
+    let mut second = store.pass(alloc)?;
+    assert_eq!(rt;
+        kept(store.keep(alloc, &mut second, &node(alloc, 20000)?)?),
+        Some(20000)
+    );
+    assert_eq!(rt; kept(store.keep(alloc, &mut second, &other)?), None);
+    assert_eq!(rt; kept(store.keep(alloc, &mut second, &other)?), None);
+    assert!(rt; store.find(&mut second, &other.key).is_none());
+    let mut third = store.pass(alloc)?;
+    assert_eq!(rt; store.find(&mut third, &asked).and_then(price), Some(20000));
+    Ok(())
+}
+
+#[test]
+fn keeps_what_two_passes_built(rt: HostRuntime) -> Result<(), Fail> {
+    let alloc = rt.alloc();
+    let store = NodeStore::new(alloc, 16)?;
+    let mut first = store.pass(alloc)?;
+    let mut second = store.pass(alloc)?;
+    let one = node(alloc, 20000)?;
+    let other = node(alloc, 20000)?;
+    assert_eq!(rt; kept(store.keep(alloc, &mut first, &one)?), Some(20000));
+    assert_eq!(rt; kept(store.keep(alloc, &mut second, &other)?), Some(20000));
+    Ok(())
+}
+
+/// The ninth key of one home finds no room in a store of many cells.
+#[test]
+fn fills_eight_cells(rt: HostRuntime) -> Result<(), Fail> {
+    let alloc = rt.alloc();
+    let store = NodeStore::new(alloc, 16)?;
+    let mut pass = store.pass(alloc)?;
+    for amount in 0..9 {
+        let found = kept(store.keep(alloc, &mut pass, &node(alloc, amount)?)?);
+        assert_eq!(rt; found, (amount < 8).then_some(u64::from(amount)));
+    }
+    Ok(())
+}

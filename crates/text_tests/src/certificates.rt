@@ -1,0 +1,216 @@
+//! The certificate of one flight and one fare, written.
+ghost use Rattle.std.specs.Prelude.{IfOk};
+ghost use Rattle.fare_law.specs.Limits.{IsRequest};
+
+use certificate::{CertAnswer, CertRow, Certificate};
+use certificate_text::{CertFault, cert_text, read_cert};
+use fare_law::{ArrayVec, Basis, Carrier, List, Move, Place, Request, Role, Slice};
+use flight_paths::Position;
+use open_unit::CarrierMark;
+use residual_keys::{Residual, TicketPart};
+use std::alloc::{AllocError, Global};
+use std::test::Fail;
+
+const WRITTEN: &str = "certificate 1
+version 1
+request {\"best\":3,\"party\":1,\"sale\":\"2031-02-01\",\"slices\":[{\"days\":1,\"first\":\"2031-03-03\",\"from\":\"LON\",\"to\":\"NYC\"}]}
+answers 1
+answer 20000 1 0 QX Y1 0 0
+rows 1
+row 0 0 LON - 0 1 - 0:0:- 20000
+end
+";
+
+/// LON to NYC on 2031-03-03 for one passenger, sold on 2031-02-01.
+fn request() -> Request
+    ensures { IsRequest result }
+{
+    let mut slices = ArrayVec::new();
+    slices.push(Slice {
+        from: Place(*b"LON"),
+        to: Place(*b"NYC"),
+        first: 22341,
+        days: 1,
+    });
+    Request {
+        sale: 22311,
+        party: 1,
+        best: 3,
+        slices,
+    }
+}
+
+/// Flight 0 with the fare Y1 of QX, alone.
+fn only_move() -> Move {
+    let mut flights = ArrayVec::new();
+    flights.push(0);
+    let mut basis = ArrayVec::new();
+    basis.push(b'Y');
+    basis.push(b'1');
+    Move {
+        flights,
+        carrier: Carrier(*b"QX"),
+        basis: Basis(basis),
+        role: Role::Alone,
+        slot: 0,
+    }
+}
+
+fn root() -> Option<Residual> {
+    let at = Position {
+        slice: 0,
+        leg: 0,
+        place: Place(*b"LON"),
+        via: None,
+        lo: 0,
+        hi: 1,
+    };
+    let part = TicketPart {
+        units: 0,
+        ends: 0,
+        carrier: CarrierMark::NotYet,
+    };
+    Residual::checked(at, None, None, part)
+}
+
+fn one_way(alloc: Global) -> Result<Certificate, AllocError>
+    ensures { IfOk result (λ certificate. IsRequest certificate.request) }
+{
+    let mut moves = ArrayVec::new();
+    moves.push(only_move());
+    let mut answers = Vec::new(alloc);
+    answers.push(CertAnswer {
+        price: 20000,
+        moves,
+    })?;
+    let mut rows = Vec::new(alloc);
+    if let Some(residual) = root() {
+        rows.push(CertRow {
+            residual,
+            bound: Some(20000),
+        })?;
+    }
+    Ok(Certificate {
+        number: 1,
+        request: request(),
+        answers: List::from_vec(answers),
+        rows: List::from_vec(rows),
+    })
+}
+
+#[test]
+fn writes_the_certificate_of_one_fare(rt: HostRuntime) -> Result<(), Fail> {
+    let text = cert_text(rt.alloc(), &one_way(rt.alloc())?)?;
+    assert_eq!(rt; text.as_slice(), WRITTEN.as_bytes());
+    Ok(())
+}
+
+#[test]
+fn reads_its_own_text(rt: HostRuntime) -> Result<(), Fail> {
+    let expected = one_way(rt.alloc())?;
+    assert_eq!(rt; read_cert(rt.alloc(), WRITTEN.as_bytes()), Ok(expected));
+    Ok(())
+}
+
+#[test]
+fn names_the_first_line_at_fault(rt: HostRuntime) {
+    let cases = [
+        ("no text", "", CertFault::Syntax { line: 1 }),
+        (
+            "another form",
+            "certificate 2\n",
+            CertFault::Syntax { line: 1 },
+        ),
+        (
+            "no line feed",
+            "certificate 1",
+            CertFault::Syntax { line: 1 },
+        ),
+        (
+            "a leading zero",
+            "certificate 1\nversion 01\n",
+            CertFault::Syntax { line: 2 },
+        ),
+        (
+            "a request with a space",
+            "certificate 1\nversion 1\nrequest {\"best\":3,\"party\":1,\"sale\":\"2031-02-01\",\"slices\":[{\"days\":1,\"first\":\"2031-03-03\",\"from\":\"LON\",\"to\":\"NYC\"}]} \n",
+            CertFault::Syntax { line: 3 },
+        ),
+        (
+            "no request",
+            "certificate 1\nversion 1\n",
+            CertFault::Syntax { line: 3 },
+        ),
+    ];
+    for (name, text, fault) in cases {
+        assert_eq!(rt;
+            read_cert(rt.alloc(), text.as_bytes()),
+            Err(fault),
+            "{name}"
+        );
+    }
+}
+
+const HEAD: &str = "certificate 1
+version 1
+request {\"best\":3,\"party\":1,\"sale\":\"2031-02-01\",\"slices\":[{\"days\":1,\"first\":\"2031-03-03\",\"from\":\"LON\",\"to\":\"NYC\"}]}
+";
+
+#[test]
+fn names_the_first_count_that_is_wrong(rt: HostRuntime) -> Result<(), Fail> {
+    let count = |line| CertFault::Count { line };
+    let syntax = |line| CertFault::Syntax { line };
+    let cases = [
+        (
+            "rows in place of an answer",
+            "answers 1\nrows 1\n",
+            count(5),
+        ),
+        ("no answer", "answers 1\n", count(5)),
+        ("one more answer", "answers 0\nanswer 5\n", count(5)),
+        (
+            "an answer of no flight",
+            "answers 1\nanswer 5 0 QX Y1 0 0\n",
+            syntax(5),
+        ),
+        (
+            "a fifth role",
+            "answers 1\nanswer 5 1 0 QX Y1 4 0\n",
+            syntax(5),
+        ),
+        ("no count of rows", "answers 0\n", syntax(5)),
+        (
+            "end in place of a row",
+            "answers 0\nrows 2\nrow 0 0 LON - 0 1 - 0:0:- 1\nend\n",
+            count(7),
+        ),
+        ("no row", "answers 0\nrows 1\n", count(6)),
+        (
+            "one more row",
+            "answers 0\nrows 0\nrow 0 0 LON - 0 1 - 0:0:- -\n",
+            count(6),
+        ),
+        (
+            "a row without a bound",
+            "answers 0\nrows 1\nrow 0 0 LON - 0 1 - 0:0:-\n",
+            syntax(6),
+        ),
+        ("no end", "answers 0\nrows 0\n", syntax(6)),
+        (
+            "a line after the end",
+            "answers 0\nrows 0\nend\n\n",
+            syntax(7),
+        ),
+    ];
+    for (name, rest, fault) in cases {
+        let mut text = Vec::from_slice(rt.alloc(), HEAD.as_bytes())?;
+        text.extend_from_slice(rest.as_bytes())?;
+        assert!(rt; text.len() < 1000, "{name}");
+        assert_eq!(rt;
+            read_cert(rt.alloc(), text.as_slice()),
+            Err(fault),
+            "{name}"
+        );
+    }
+    Ok(())
+}

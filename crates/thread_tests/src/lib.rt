@@ -1,0 +1,8 @@
+//! Tests of what threads share: what a watch sees of a clerk's filings, and that books, watches, receipts, clerks and stores
+//! of nodes may cross to other threads. Nothing stands on this crate.
+#![tactic(auto)]
+
+#[cfg(test)]
+mod crossings;
+#[cfg(test)]
+mod versions;
