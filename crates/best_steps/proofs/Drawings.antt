@@ -3,7 +3,7 @@ use Rattle.std.proofs.Common.{◌≡◌, ℕ, ◌≤◌, ◌+◌, ◌⊎◌, Lis
 use Rattle.std.proofs.lemmas.Bool.{cases_order}
 use Rattle.std.specs.List.Sorted.{IsPermutation}
 use Rattle.fare_law.specs.Lists.{IsIn, IsPrefix, Each, EachPair}
-use Rattle.fare_law.specs.Order.{Less}
+use Rattle.fare_law.specs.Lists.{Less}
 use Rattle.best_steps.specs.declared.steps.Step.{Step}
 use Rattle.best_k.specs.declared.lattice.Derivation.{Derivation}
 use Rattle.best_k.specs.Derivations.{Under}

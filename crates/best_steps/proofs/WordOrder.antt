@@ -1,7 +1,7 @@
 -- The order of words.
 use Rattle.std.proofs.Common.{◌≡◌, ℕ, ◌⊎◌, List, [], ◌∷◌, sym, refl, ap, inl, inr, ◌++◌, ◌∙◌, subst, length, take, append-nil}
 use Rattle.fare_law.specs.Lists.{IsPrefix}
-use Rattle.fare_law.specs.Order.{Less}
+use Rattle.fare_law.specs.Lists.{Less}
 use Rattle.best_k.proofs.Orders.{less_behind, less_trans}
 use Rattle.best_steps.specs.Waiting.{Beats}
 

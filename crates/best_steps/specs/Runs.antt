@@ -1,7 +1,7 @@
 -- The runs of a graph whose nodes have steps, and the k least of them.
 use Rattle.std.proofs.Common.{◌≡◌, ℕ, ◌<◌, ◌≤◌, ◌+◌, ◌^◌, List, [], ◌∷◌, ◌++◌, length, Option, Some, None, slice_get}
 use Rattle.fare_law.specs.Lists.{IsPrefix, KLeast}
-use Rattle.fare_law.specs.Order.{Before}
+use Rattle.fare_law.specs.Best.{Before}
 use Rattle.best_steps.specs.declared.steps.Step.{Step}
 use Rattle.best_k.specs.declared.lattice.Derivation.{Derivation}
 use Rattle.best_k.specs.Derivations.{Under}

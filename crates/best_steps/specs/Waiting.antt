@@ -1,7 +1,7 @@
 -- What waits while runs are drawn.
 use Rattle.std.proofs.Common.{◌≡◌, ℕ, ◌<◌, ◌≤◌, ◌+◌, ◌⊎◌, List, [], ◌∷◌, ◌++◌, length, take, Some, None}
 use Rattle.fare_law.specs.Lists.{IsIn, Each, EachPair}
-use Rattle.fare_law.specs.Order.{Less}
+use Rattle.fare_law.specs.Lists.{Less}
 use Rattle.best_k.specs.Ranked.{Nth}
 use Rattle.best_steps.specs.declared.steps.Step.{Step}
 use Rattle.best_k.specs.declared.lattice.Derivation.{Derivation}
