@@ -10,7 +10,8 @@ use Rattle.best_k.specs.Frontiers.{Leads, Follows, Frontier, with_option}
 use Rattle.best_k.proofs.Places.{nth_in, nth_short, nth_one, different_option}
 use Rattle.best_k.proofs.Ways.{rank_one, rank_fewer, by_ranks}
 use Rattle.best_k.proofs.Leading.{follows_rank, follows_one, leads_on}
-use Rattle.best_k.proofs.Swaps.{Moves}
+use Rattle.best_k.proofs.Reordered.{Moves}
+use Rattle.best_k.proofs.Swaps.{moves_different}
 
 pub offered_in : (l : Shape) → LatticeLaws l
     → (node at i j : ℕ) (o : Option Way) (ws : List Way) (g : Way) (s : ℕ) → node < l.nodes
@@ -75,7 +76,7 @@ expanded l laws node drawn queue queue' m last o1 o2 n em k f h1 h2 h3 mv = reco
     | inl (fo, (r, y)) ↦ let t = follows_rank l laws node last x m r n fo (f.first m last k) y in (r, (omega arith, y))
     | inr j ↦ f.waits x j
   ];
-  different = mv.different (different_option o2 (with_option o1 queue) (apart2 o2 follower2 h2 h3) (different_option o1 queue (apart1 o1 follower1) f.different));
+  different = moves_different (with_option o2 (with_option o1 queue)) queue' mv (different_option o2 (with_option o1 queue) (apart2 o2 follower2 h2 h3) (different_option o1 queue (apart1 o1 follower1) f.different));
   follows = λ x i. elim (which x (mv.back x i)) [
     | inl (fo, y) ↦ inr (m, last, (omega arith, (k, fo)))
     | inr j ↦ elim (f.follows x j) [ inl a ↦ inl a | inr (a, p, (lt, y)) ↦ inr (a, p, (omega arith, y)) ]

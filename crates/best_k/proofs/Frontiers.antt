@@ -10,7 +10,8 @@ use Rattle.best_k.specs.Frontiers.{AreFirst, Frontier}
 use Rattle.best_k.proofs.Places.{in_nth, nth_short, nth_some, nth_left, nth_last, nth_more, in_left, different_rest, different_head}
 use Rattle.best_k.proofs.Ways.{rank_one, rank_same, rank_some, rank_short}
 use Rattle.best_k.proofs.Leading.{leads_rank}
-use Rattle.best_k.proofs.Swaps.{Moves}
+use Rattle.best_k.proofs.Reordered.{Moves}
+use Rattle.best_k.proofs.Swaps.{moves_different}
 
 pub drawn_few : (l : Shape) (node : ℕ) (drawn : List Way) → AreFirst l node drawn
     → length drawn ≤ length (ranked l node)
@@ -77,7 +78,7 @@ pub popped : (l : Shape) → LatticeLaws l → (node : ℕ) (drawn queue rest : 
 popped l laws node drawn queue rest q r n f m h least =
     let e = least_is_next l laws node drawn queue q r n f (m.back q (inl refl)) h least in
     let hq : HasRank l node q (length drawn) = subst (λ z. HasRank l node q z) e h in
-    let d = m.different f.different in
+    let d = moves_different queue (q ∷ rest) m f.different in
     record {
       first = λ i w k. elim (nth_more drawn q i w k) [
         | inl x ↦ f.first i w x

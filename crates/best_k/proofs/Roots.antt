@@ -12,7 +12,8 @@ use Rattle.best_k.specs.Queues.{IsOffered}
 use Rattle.best_k.proofs.Places.{different_option}
 use Rattle.best_k.proofs.Ways.{rank_same, rank_fewer}
 use Rattle.best_k.proofs.Followers.{offered_in, behind}
-use Rattle.best_k.proofs.Swaps.{Moves, moves_permutation}
+use Rattle.best_k.proofs.Reordered.{Moves, moves_permutation}
+use Rattle.best_k.proofs.Swaps.{moves_different}
 
 pub begun_none : (l : Shape) (node : ℕ) (least : Way) → BegunTo l node least 0 []
 begun_none l node least = record { roots = λ q i. absurd i; different = λ i j w h k. absurd h; complete = λ g s h lt. absurd (omega arith) }
@@ -34,7 +35,7 @@ begun_more : (l : Shape) → LatticeLaws l
     → Moves (with_option o queue) queue' → BegunTo l node least (c + 1) queue'
 begun_more l laws node least c queue queue' o n ne b h mv = record {
   roots = λ q i. go o h q (mv.back q i);
-  different = mv.different (different_option o queue (apart o h) b.different);
+  different = moves_different (with_option o queue) queue' mv (different_option o queue (apart o h) b.different);
   complete = λ g s y lt nt f k. elim (cases_order g.at c) [
     | inl a ↦ mv.to g (offered_in l laws node c 0 0 o queue g s n h a f k y)
     | inr p ↦ elim p [ inl less ↦ mv.to g (behind o queue g (b.complete g s y less nt f k)) | inr gt ↦ absurd (omega arith) ]

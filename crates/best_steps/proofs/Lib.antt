@@ -1,0 +1,7 @@
+pub mod WordOrder
+pub mod Pairs
+pub mod Asks
+pub mod Paths
+pub mod Drawings
+pub mod Orders
+pub mod Transport

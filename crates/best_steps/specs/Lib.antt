@@ -1,0 +1,5 @@
+pub mod Runs
+pub mod Waiting
+pub mod Heaped
+pub mod Answers
+pub mod Searches
