@@ -98,12 +98,12 @@ allowed q next e =
 
 within_limits : (q : Request) (next : Option Why) → Each NamesPlaces q.slices → Allowed q next → IsRequest q
 within_limits q next h a = record {
-    sale = calendar q.sale a.sale;
-    party = in_range 1 9 q.party a.party;
-    best = in_range 1 1000 q.best a.best;
-    count = in_range 1 6 (length q.slices) a.count;
-    windows = each_with NamesPlaces has_window IsSlice windowed q.slices h a.windows;
-    departs = each_of departs EndsDiffer leaves q.slices a.departing;
+  sale = calendar q.sale a.sale;
+  party = in_range 1 9 q.party a.party;
+  best = in_range 1 1000 q.best a.best;
+  count = in_range 1 6 (length q.slices) a.count;
+  windows = each_with NamesPlaces has_window IsSlice windowed q.slices h a.windows;
+  departs = each_of departs EndsDiffer leaves q.slices a.departing;
 }
 
 pub judged_within : (q : Request) → Each NamesPlaces q.slices → judged_alone q ≡ None → IsRequest q

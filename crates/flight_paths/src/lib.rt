@@ -13,4 +13,3 @@ mod ways;
 pub use paths::{component_paths, root_position, slice_paths};
 pub use positions::{Path, Position};
 pub use single::path_of;
-

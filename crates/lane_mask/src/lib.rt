@@ -8,4 +8,3 @@ mod seats;
 
 pub use rows::between;
 pub use seats::at_least;
-

@@ -16,4 +16,3 @@ mod schedule;
 pub use faults::SchedFault;
 pub use laws::{one_fault_of_rows, one_list_of_flights, ordered_flights_ascend};
 pub use schedule::Schedule;
-

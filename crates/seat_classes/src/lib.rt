@@ -11,4 +11,3 @@ mod seats;
 pub use faults::{SeatFault, SeatPut};
 pub use laws::{live_rows_seat_flights, rows_begin_a_book};
 pub use seats::Seats;
-

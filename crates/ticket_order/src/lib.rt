@@ -17,4 +17,3 @@ pub use laws::{codes_tell, lawful_tickets, order_laws};
 pub use numbers::{code, move_code};
 pub use roles::moves_of;
 pub use tickets::ticket_of;
-
