@@ -1,0 +1,4 @@
+pub mod Bridge
+pub mod Sooner
+pub mod Counting
+pub mod RowsInOrder

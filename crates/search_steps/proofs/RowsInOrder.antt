@@ -1,0 +1,52 @@
+-- Rows that are sorted by their keys stand in the order of their residuals.
+use Rattle.std.proofs.Common.{◌≡◌, ◌↔◌, ◌⊎◌, ℕ, suc, ◌+◌, Bool, true, false, List, [], ◌∷◌, map, get_or, IsTrue, Option, ap, subst, arith, inl, inr}
+use Rattle.std.specs.declared.cmp.Ordering.{Ordering}
+use Rattle.std.specs.declared.cmp.Ordering.TheVariants.{Less as Lower}
+use Rattle.std.specs.List.{IsDistinct}
+use Rattle.std.specs.List.Sorted.{IsPermutation}
+use Rattle.std.specs.Ordering.{is_lt}
+use Rattle.std.proofs.lemmas.Map.Keys.{IsDistinct-head, IsDistinct-tail}
+use Rattle.fare_law.specs.Lists.{Each, EachPair}
+use Rattle.graph_walk.specs.Steps.{AreLive}
+use Rattle.residual_keys.specs.ResidualOrder.{StateBefore}
+use Rattle.residual_keys.specs.Residuals.{State}
+use Rattle.residual_keys.proofs.LeastOne.{in_each}
+use Rattle.residual_keys.proofs.Needed.{each_from}
+use Rattle.residual_keys.proofs.SortedWords.{NoneLower, same_elements}
+use Rattle.search_steps.specs.declared.key.Key.{Key}
+use Rattle.search_steps.specs.Keys.{IsKey, residual_of}
+
+abbrev Row : Type 0
+Row = Key × Option ℕ
+
+abbrev KeysOf : List Row → List Key
+KeysOf rows = map (λ r. r.0) rows
+
+module _ (compare : Key → Key → Ordering) (same : Key → Key → Bool) (ordered : (k l : Key) → IsKey k → IsKey l → (compare k l ≡ Lower) ↔ StateBefore (residual_of k) (residual_of l))
+    (tells : (k l : Key) → IsKey k → IsKey l → IsTrue (same k l) ↔ (residual_of k ≡ residual_of l)) (total : (x y : State) → StateBefore x y ⊎ ((x ≡ y) ⊎ StateBefore y x)) where
+  next_before : (k l : Key) → IsKey k → IsKey l → is_lt (compare l k) ≡ false → same k l ≡ false → StateBefore (residual_of k) (residual_of l)
+  next_before k l h i s d = elim (total (residual_of k) (residual_of l)) [
+    | inl b ↦ b
+    | inr o ↦ elim o [
+      | inl e ↦ let t : same k l ≡ true = (tells k l h i).1 e in absurd (cc)
+      | inr b ↦ let t : is_lt (compare l k) ≡ true = ap is_lt ((ordered l k i h).1 b) in absurd (cc)
+    ]
+  ]
+
+  pub rows_ordered : (rows : List Row) → NoneLower compare (KeysOf rows) → IsDistinct same (KeysOf rows) → AreLive IsKey rows → EachPair (λ r s. StateBefore (residual_of r.0) (residual_of s.0)) rows
+  rows_ordered [] s d h = tt
+  rows_ordered (r ∷ []) s d h = tt
+  rows_ordered (r ∷ t ∷ rows) s d h = (
+    next_before r.0 t.0 h.0 h.1.0 (s 0 r.0 (omega arith) (omega arith)) (IsDistinct-head same r.0 (KeysOf (t ∷ rows)) d).0,
+    rows_ordered (t ∷ rows) (λ k z low lt. rest k z (s (suc k) z (omega arith) (omega arith))) (IsDistinct-tail same r.0 (KeysOf (t ∷ rows)) d) h.1,
+  )
+    where
+      next : (k : ℕ) → suc k + 1 ≡ suc (k + 1)
+      next k = omega arith
+
+      rest : (k : ℕ) (z : Key) → is_lt (compare (get_or (KeysOf (r ∷ t ∷ rows)) (suc k + 1) z) (get_or (KeysOf (t ∷ rows)) k z)) ≡ false → is_lt (compare (get_or (KeysOf (t ∷ rows)) (k + 1) z) (get_or (KeysOf (t ∷ rows)) k z)) ≡ false
+      rest k z q = subst (λ n. is_lt (compare (get_or (KeysOf (r ∷ t ∷ rows)) n z) (get_or (KeysOf (t ∷ rows)) k z)) ≡ false) (next k) q
+
+-- what holds of each row holds of each in another order
+pub still_live : (P : Row → Type 0) (old new : List Row) → IsPermutation old new → Each P old → Each P new
+still_live P old new p h = each_from P new (λ r i. in_each P r old h ((same_elements r old new p).1 i))

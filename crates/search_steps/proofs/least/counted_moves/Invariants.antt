@@ -1,0 +1,10 @@
+use Rattle.std.proofs.Common.{◌≡◌, ◌++◌, drop}
+use Rattle.search_steps.specs.Keys.{IsKey}
+use Rattle.search_steps.specs.LeastMoves.{LeaveLive, counted_in}
+use Rattle.search_steps.proofs.least.counted_moves.Given as goal
+
+abbrev pub invariant-loop-chosen : goal.invariant-loop-chosen
+invariant-loop-chosen g l = record {
+  counted : l.counted.items ++ counted_in (g.B.Bounds.bound l.bounds) (drop l.chosen-index l.found) ≡ counted_in (g.B.Bounds.bound l.bounds) l.found;
+  live : LeaveLive IsKey l.counted.items;
+}

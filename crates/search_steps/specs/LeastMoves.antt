@@ -1,0 +1,69 @@
+-- The least moves of a state: those that count under bounds, by their totals and codes.
+use Rattle.std.specs.Prelude.{◌≡◌, ℕ, ◌+◌, List, [], ◌∷◌, Option, Some, None, option_map, IfSome}
+use Rattle.fare_law.specs.declared.requests.Request.{Request}
+use Rattle.fare_law.specs.Book.{Book}
+use Rattle.fare_law.specs.Lists.{Each, KLeast}
+use Rattle.fare_law.specs.Moves.{move_code}
+use Rattle.fare_law.specs.Order.{Before}
+use Rattle.residual_keys.specs.declared.residual.Chosen.{Chosen}
+use Rattle.residual_keys.specs.declared.residual.Next.{Next}
+use Rattle.residual_keys.specs.declared.residual.Next.TheVariants.{At, Done}
+use Rattle.residual_keys.specs.Residuals.{State}
+use Rattle.residual_keys.specs.Steps.{IsChosen}
+use Rattle.search_steps.specs.declared.key.Key.{Key}
+use Rattle.search_steps.specs.declared.least.LeastMove.{LeastMove}
+use Rattle.search_steps.specs.Leads.{next_of}
+
+-- a move with a key, as one with the state that it stands for
+abbrev pub least_as : {K X : Type 0} → (K → X) → LeastMove K → LeastMove X
+least_as state m = record { mv = m.mv; price = m.price; next = option_map state m.next; total = m.total }
+
+-- what each leaves is the end or stands for a state
+abbrev pub LeaveLive : {K : Type 0} → (K → Type 0) → List (LeastMove K) → Type 0
+LeaveLive live ms = Each (λ m. IfSome m.next live) ms
+
+-- What a run costs at least after a move that leaves this: nothing at the end of the journey, and else the bound of the state, where it has one.
+abbrev pub RestIs : (State → ℕ → Type 0) → Option State → ℕ → Type 0
+RestIs Bound None rest = rest ≡ 0
+RestIs Bound (Some x) rest = Bound x rest
+
+-- A move of the state that counts under bounds: what it leaves is the end or has a bound, and its total is its price and that.
+pub record Counts (b : Book) (q : Request) (Bound : State → ℕ → Type 0) (x : State) (m : LeastMove State) : Type 0 where
+  pub move : IsChosen b q x (record { mv = m.mv; price = m.price; next = next_of m.next })
+  pub rest : ℕ
+  pub bound : RestIs Bound m.next rest
+  pub total : m.total ≡ m.price + rest
+
+-- less in total, or as much with a smaller code
+abbrev pub IsSooner : {X : Type 0} → LeastMove X → LeastMove X → Type 0
+IsSooner m n = Before m.total (move_code m.mv) n.total (move_code n.mv)
+
+-- The first of the moves that count, as many as are wanted.
+abbrev pub AreLeastMoves : Book → Request → (State → ℕ → Type 0) → State → ℕ → List (LeastMove State) → Type 0
+AreLeastMoves b q Bound x wanted ms = KLeast (Counts b q Bound x) IsSooner wanted ms
+
+-- a state's bound: that of a key which stands for it
+abbrev pub BoundBy : {K : Type 0} → (K → Type 0) → (K → State) → (K → Option ℕ) → State → ℕ → Type 0
+BoundBy {K} Live state bound x rest = (key : K) × Live key × (state key ≡ x) × (bound key ≡ Some rest)
+
+-- how the moves that were found count
+
+abbrev pub key_of : Next → Option Key
+key_of Done = None
+key_of (At x) = Some (record { residual = x })
+
+abbrev pub rest_of : (Key → Option ℕ) → Option Key → Option ℕ
+rest_of bound None = Some 0
+rest_of bound (Some key) = bound key
+
+abbrev pub counted_of : (Key → Option ℕ) → Chosen → Option (LeastMove Key)
+counted_of bound c = option_map (λ rest. record { mv = c.mv; price = c.price; next = key_of c.next; total = c.price + rest }) (rest_of bound (key_of c.next))
+
+-- one more, if it counts
+abbrev pub with_counted : Option (LeastMove Key) → List (LeastMove Key) → List (LeastMove Key)
+with_counted None ms = ms
+with_counted (Some m) ms = m ∷ ms
+
+abbrev pub counted_in : (Key → Option ℕ) → List Chosen → List (LeastMove Key)
+counted_in bound [] = []
+counted_in bound (c ∷ cs) = with_counted (counted_of bound c) (counted_in bound cs)

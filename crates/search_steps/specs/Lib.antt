@@ -1,0 +1,4 @@
+pub mod Leads
+pub mod Keys
+pub mod Cases
+pub mod LeastMoves

@@ -1,0 +1,85 @@
+//! The least moves of a residual.
+ghost use Rattle.std.specs.Prelude.{◌≡◌, ◌++◌, IfOk, IfSome, List as Items, map};
+ghost use Rattle.std.specs.List.Sorted.{IsPermutation};
+ghost use Rattle.fare_law.specs.Lists.{AllDifferent, EachPair, IsIn, KLeast};
+ghost use Rattle.fare_law.specs.Moves.{move_code};
+ghost use Rattle.search_steps.specs.Keys.{IsKey};
+ghost use Rattle.search_steps.specs.LeastMoves.{IsSooner, LeaveLive, counted_in, counted_of};
+
+use crate::{Bounds, Key};
+use fare_law::{List, Mem, Move};
+use residual_keys::{Chosen, Next};
+use std::alloc::Global;
+use ticket_order::{move_code, order_laws};
+
+/// A move of a residual that counts under bounds.
+#[derive(Debug, Drop)]
+pub struct LeastMove<K> {
+    pub mv: Move,
+    pub price: u64,
+    /// What it leaves. None: the end of the journey.
+    pub next: Option<K>,
+    /// Its price and the bound of what it leaves.
+    pub total: u128,
+}
+
+/// The moves that count under bounds, as they come.
+pub fn counted_moves<B: Bounds>(
+    alloc: Global,
+    found: &[Chosen],
+    bounds: &B,
+) -> Result<Vec<LeastMove<Key>>, Mem>
+    ensures counted { IfOk result (λ v. v.items ≡ counted_in (B.bound bounds.now) found.now) }
+    ensures live { IfOk result (λ v. LeaveLive IsKey v.items) }
+{
+    let mut counted = Vec::new(alloc);
+    for chosen in found {
+        if let Some(least) = counted_move(chosen, bounds) {
+            counted.push(least)?;
+        }
+    }
+    Ok(counted)
+}
+
+/// A move with its total. None where what it leaves has no bound.
+fn counted_move<B: Bounds>(chosen: &Chosen, bounds: &B) -> Option<LeastMove<Key>>
+    ensures counted { result ≡ counted_of (B.bound bounds.now) chosen.now }
+    ensures live { IfSome result (λ m. IfSome m.next IsKey) }
+{
+    let (next, rest) = match chosen.next {
+        Next::Done => (None, 0),
+        Next::At(residual) => {
+            residual.keeps();
+            let key = Key { residual };
+            (Some(key), bounds.bound(key)?)
+        }
+    };
+    Some(LeastMove {
+        mv: chosen.mv.copied(),
+        price: chosen.price,
+        next,
+        total: u128::from(chosen.price) + u128::from(rest),
+    })
+}
+
+/// The first of moves whose codes differ, as many as are wanted, by their totals and codes.
+pub fn first_of(counted: Vec<LeastMove<Key>>, wanted: usize) -> List<LeastMove<Key>>
+    requires { AllDifferent (map (λ m. move_code m.mv) counted.items) }
+    ensures { KLeast (λ m. IsIn m counted.items) IsSooner wanted result }
+{
+    order_laws();
+    let mut counted = counted;
+    put_in_order(counted.as_mut_slice());
+    counted.truncate(wanted);
+    List::from_vec(counted)
+}
+
+/// Puts moves whose codes differ into the order of their totals and codes.
+fn put_in_order(counted: &mut [LeastMove<Key>])
+    requires { AllDifferent (map (λ m. move_code m.mv) counted.old) }
+    ensures order { EachPair IsSooner counted.new }
+    ensures same { IsPermutation counted.old counted.new }
+{
+    order_laws();
+    counted.sort_unstable_by_key(|least| (least.total, move_code(&least.mv)));
+}

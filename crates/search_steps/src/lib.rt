@@ -1,0 +1,20 @@
+//! What a search asks of the moves of residuals: the outcomes of a residual, each next residual with a
+//! least price, and its least moves under bounds. Nothing above knows how moves are found.
+#![tactic(auto)]
+
+mod bounds;
+mod case;
+mod key;
+mod laws;
+mod least;
+mod ordering;
+mod outcomes;
+mod steps;
+mod walking;
+
+pub use bounds::Bounds;
+pub use case::Case;
+pub use key::Key;
+pub use laws::{keys_in_order, least_prices_are_least, reached_states_are_reached, residuals_tell};
+pub use least::LeastMove;
+pub use steps::SearchSteps;

@@ -1,0 +1,130 @@
+//! The steps of a search.
+ghost use Rattle.std.specs.Prelude.{◌≡◌, map, IfOk, OnOk};
+ghost use Rattle.fare_component.specs.Keys.{Asked, asked};
+ghost use Rattle.fare_law.specs.declared.market.OfferKey.{OfferKey};
+ghost use Rattle.fare_law.specs.Limits.{IsRequest};
+ghost use Rattle.graph_walk.specs.Steps.{AreOutcomes, KeepsStates, LeadToLive, TellsStates, outcomes_of};
+ghost use Rattle.residual_keys.specs.AskedKeys.{KeyOf};
+ghost use Rattle.search_steps.specs.Cases.{IsSameCase};
+ghost use Rattle.search_steps.specs.Keys.{live, state};
+ghost use Rattle.search_steps.specs.Leads.{leads_of};
+ghost use Rattle.search_steps.specs.LeastMoves.{AreLeastMoves, BoundBy, LeaveLive, least_as};
+
+use crate::laws::residuals_tell;
+use crate::least::{counted_moves, first_of};
+use crate::outcomes::outcomes_of_moves;
+use crate::{Bounds, Case, Key, LeastMove};
+use fare_book::Book;
+use fare_component::OfferSource;
+use fare_law::{List, Mem, Request};
+use graph_walk::Outcome;
+use residual_keys::{Residual, moves};
+use std::alloc::Global;
+use ticket_order::order_laws;
+
+/// The steps of one search: its book and request, and where it has its offers from. It names residuals
+/// by keys. A key that it gave stands for its residual for as long as it lives.
+#[derive(Drop)]
+pub struct SearchSteps<'a, O> {
+    pub(crate) case: Case<'a>,
+    pub(crate) offers: &'a mut O,
+}
+
+impl<'a, O: OfferSource> SearchSteps<'a, O> {
+    /// The steps of a request on a book.
+    pub fn new(book: &'a Book, request: &'a Request, offers: &'a mut O) -> SearchSteps<'a, O>
+        ensures same_offers { result.offers.ghost_name ≡ offers.entry.ghost_name }
+        ensures book { result.case.book.now ≡ book.now }
+        ensures request { result.case.request.now ≡ request.now }
+        ensures offers { result.offers.now ≡ offers.old }
+    {
+        SearchSteps {
+            case: Case { book, request },
+            offers,
+        }
+    }
+
+    /// The key of a residual.
+    pub fn key_of(&mut self, residual: Residual) -> Result<Key, Mem>
+        ensures live { IfOk result (live self.new) }
+        ensures state { IfOk result (λ key. state self.new key ≡ residual) }
+        ensures keeps { KeepsStates (live self.old) (live self.new) (state self.old) (state self.new) }
+        ensures same_offers { self.new.offers.ghost_name ≡ self.old.offers.ghost_name }
+        ensures case { IsSameCase self.old self.new }
+        ensures offers { self.new.offers.now ≡ self.old.offers.now }
+    {
+        residual.keeps();
+        Ok(Key { residual })
+    }
+
+    /// The residual of a key.
+    pub fn residual(&self, key: Key) -> Residual
+        requires { live self.now key }
+        ensures { result ≡ state self.now key }
+    {
+        key.residual
+    }
+
+    /// Tells that keys are equal where they stand for one residual, and only there.
+    pub fn keys_tell(&self)
+        ensures { TellsStates (live self.now) (state self.now) ⟦<Key as PartialEq>⟧.eq }
+    {
+        residuals_tell();
+    }
+
+    /// What the moves of a residual leave, at their prices: each outcome is a move, and for each move
+    /// one leaves the same at no higher price. After `Ok` what the keys of the residual ask for is
+    /// settled with the source of offers.
+    pub fn outcomes(&mut self, alloc: Global, key: Key) -> Result<Vec<Outcome<Key>>, Mem>
+        requires request { IsRequest self.old.case.request.now }
+        requires live { live self.old key }
+        ensures outcomes { IfOk result (λ v. AreOutcomes (leads_of self.old.case.book.now self.old.case.request.now) (state self.old key) (outcomes_of (state self.new) v.items)) }
+        ensures live { IfOk result (λ v. LeadToLive (live self.new) v.items) }
+        ensures asked { OnOk result ((k : OfferKey) → KeyOf self.old.case.book.now self.old.case.request.now (state self.old key) k → O.settled self.new.offers.now (asked k)) }
+        ensures keeps { KeepsStates (live self.old) (live self.new) (state self.old) (state self.new) }
+        ensures same_offers { self.new.offers.ghost_name ≡ self.old.offers.ghost_name }
+        ensures case { IsSameCase self.old self.new }
+        ensures base { O.base self.new.offers.now ≡ O.base self.old.offers.now }
+        ensures stays { (a : Asked) → O.settled self.old.offers.now a → O.settled self.new.offers.now a }
+    {
+        let found = moves(
+            alloc,
+            self.case.book,
+            self.case.request,
+            &key.residual,
+            self.offers,
+        )?;
+        Ok(outcomes_of_moves(alloc, found.as_slice())?)
+    }
+
+    /// The moves of a residual that count under bounds, the first `wanted` of them by total and code:
+    /// the price of a move and the bound of what it leaves.
+    pub fn least_moves<B: Bounds>(
+        &mut self,
+        alloc: Global,
+        key: Key,
+        bounds: &B,
+        wanted: usize,
+    ) -> Result<List<LeastMove<Key>>, Mem>
+        requires request { IsRequest self.old.case.request.now }
+        requires live { live self.old key }
+        ensures least { IfOk result (λ ms. AreLeastMoves self.old.case.book.now self.old.case.request.now (BoundBy (live self.old) (state self.old) (B.bound bounds.now)) (state self.old key) wanted (map (least_as (state self.new)) ms)) }
+        ensures live { IfOk result (LeaveLive (live self.new)) }
+        ensures keeps { KeepsStates (live self.old) (live self.new) (state self.old) (state self.new) }
+        ensures same_offers { self.new.offers.ghost_name ≡ self.old.offers.ghost_name }
+        ensures case { IsSameCase self.old self.new }
+        ensures base { O.base self.new.offers.now ≡ O.base self.old.offers.now }
+        ensures stays { (a : Asked) → O.settled self.old.offers.now a → O.settled self.new.offers.now a }
+    {
+        order_laws();
+        let found = moves(
+            alloc,
+            self.case.book,
+            self.case.request,
+            &key.residual,
+            self.offers,
+        )?;
+        let counted = counted_moves(alloc, found.as_slice(), bounds)?;
+        Ok(first_of(counted, wanted))
+    }
+}
