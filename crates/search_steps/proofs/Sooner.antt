@@ -5,8 +5,8 @@ use Rattle.std.specs.declared.cmp.Ordering.TheVariants.{Less as Lower, Equal, Gr
 use Rattle.std.specs.Ordering.{MatchOrdering, nat_cmp, ordering_then}
 use Rattle.std.specs.Cmp.Lexicographic.{slice_cmp}
 use Rattle.std.proofs.lemmas.Cmp.{ranked}
-use Rattle.fare_law.specs.Moves.{move_code}
-use Rattle.fare_law.specs.Order.{Less}
+use Rattle.fare_law.specs.Codes.{move_code}
+use Rattle.fare_law.specs.Lists.{Less}
 use Rattle.search_steps.specs.declared.least.LeastMove.{LeastMove}
 use Rattle.search_steps.specs.LeastMoves.{IsSooner}
 

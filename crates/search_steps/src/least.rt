@@ -2,7 +2,7 @@
 ghost use Rattle.std.specs.Prelude.{◌≡◌, ◌++◌, IfOk, IfSome, List as Items, map};
 ghost use Rattle.std.specs.List.Sorted.{IsPermutation};
 ghost use Rattle.fare_law.specs.Lists.{AllDifferent, EachPair, IsIn, KLeast};
-ghost use Rattle.fare_law.specs.Moves.{move_code};
+ghost use Rattle.fare_law.specs.Codes.{move_code};
 ghost use Rattle.search_steps.specs.Keys.{IsKey};
 ghost use Rattle.search_steps.specs.LeastMoves.{IsSooner, LeaveLive, counted_in, counted_of};
 
