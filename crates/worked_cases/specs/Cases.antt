@@ -79,7 +79,7 @@ circle_book =
 abbrev pub circle_request : Request
 circle_request = request_of (slices_of circle_legs)
 
--- Pieces of one flight each, and a rule with a charge for a stopover and a surcharge on flights 1 to 9.
+-- Pieces of one flight each, and a rule with a charge for a stopover and a surcharge on flights 1 to 9 in the year 2031.
 
 abbrev pub forward : Place → Place → Piece
 forward from to = record { begin = from; end = to; fare = fare_of from to 65 R 20000 0; rule = free_rule; reverse = false; first_day = pos 22341; last_day = pos 22341; sale = pos 22311 }
@@ -89,11 +89,11 @@ abbrev pub backward : Place → Place → Piece
 backward from to = record { begin = from; end = to; fare = fare_of to from 65 R 20000 0; rule = free_rule; reverse = true; first_day = pos 22348; last_day = pos 22348; sale = pos 22311 }
 
 abbrev pub charges : Rule
-charges = record free_rule { cat8 = Some (record { max = 4; charge = 7000; places = None }); cat12 = Some (record { carrier = qx; low = 1; high = 9; first = pos 0; last = pos 99999; amount = 500 } ∷ []) }
+charges = record free_rule { cat8 = Some (record { max = 3; charge = 7000; places = None }); cat12 = Some (record { carrier = qx; low = 1; high = 9; first = pos 22280; last = pos 22644; amount = 500 } ∷ []) }
 
 -- a fare of kind R at 20000 on this rule
 abbrev pub charged : Piece
-charged = record (forward lon rom) { rule = charges }
+charged = record (forward lon rom) { fare = fare_of lon rom 65 R 20000 1; rule = charges }
 
 -- a flight that departs so many minutes after the first one arrives
 abbrev pub after_minutes : ℕ → Flight

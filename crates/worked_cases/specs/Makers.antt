@@ -34,9 +34,9 @@ rom = record { 0 = 82 ∷ 79 ∷ 77 ∷ [] }
 abbrev pub flight_of : ℕ → Place → Place → ℕ → Flight
 flight_of number from to day = record { carrier = qx; number = number; from = from; to = to; day = pos day; minute = 600; dep = pos (1440 * day + 600); arr = pos (1440 * day + 720) }
 
--- a fare with a basis of one letter
+-- a fare whose basis is a letter and the digit 1
 abbrev pub fare_of : Place → Place → ℕ → FareKind → ℕ → ℕ → Fare
-fare_of from to letter kind amount rule = record { key = record { carrier = qx; from = from; to = to; basis = record { 0 = letter ∷ [] } }; class = 24; kind = kind; amount = amount; rule = rule }
+fare_of from to letter kind amount rule = record { key = record { carrier = qx; from = from; to = to; basis = record { 0 = letter ∷ 49 ∷ [] } }; class = 24; kind = kind; amount = amount; rule = rule }
 
 abbrev pub slice_of : Place → Place → ℕ → Slice
 slice_of from to day = record { from = from; to = to; first = pos day; days = 1 }
@@ -46,7 +46,7 @@ place_row place = record { line = 1; place = place; connect = 60 }
 
 -- nine seats in class Y
 abbrev pub seat_row : Flight → SeatRow
-seat_row f = record { line = 1; carrier = f.carrier; number = f.number; from = f.from; day = None; seats = 0 ∷ 0 ∷ 0 ∷ 0 ∷ 0 ∷ 0 ∷ 0 ∷ 0 ∷ 0 ∷ 0 ∷ 0 ∷ 0 ∷ 0 ∷ 0 ∷ 0 ∷ 0 ∷ 0 ∷ 0 ∷ 0 ∷ 0 ∷ 0 ∷ 0 ∷ 0 ∷ 0 ∷ 9 ∷ 0 ∷ [] }
+seat_row f = record { line = 1; carrier = f.carrier; number = f.number; from = f.from; day = None; seats = 0 ∷ 0 ∷ 0 ∷ 0 ∷ 0 ∷ 0 ∷ 0 ∷ 0 ∷ 0 ∷ 0 ∷ 0 ∷ 0 ∷ 0 ∷ 0 ∷ 0 ∷ 0 ∷ 0 ∷ 0 ∷ 0 ∷ 0 ∷ 0 ∷ 0 ∷ 0 ∷ 0 ∷ 9 ∷ 0 ∷ 0 ∷ 0 ∷ 0 ∷ 0 ∷ 0 ∷ 0 ∷ [] }
 
 abbrev pub book_of : List Place → List Flight → List Action → Book
 book_of places flights actions = record { timetable = record { places = map place_row places; flights = flights; seats = map seat_row flights }; entries = record { actions = actions } ∷ [] }

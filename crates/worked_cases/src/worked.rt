@@ -20,11 +20,11 @@ ghost use Rattle.worked_cases.specs.Makers.{lon, nyc, par, qx, rom, ticket_of};
 use unit_labels::label_laws;
 
 /// One flight on a one way fare of 20000: the ticket is lawful, costs 20000, and its code is one
-/// flight, flight 0, the numbers of QX and Y, alone, slot 0.
+/// flight, flight 0, the numbers of QX and Y1, alone, slot 0.
 pub fn one_way()
     ensures lawful { Lawful (ticket_of one_way_legs) one_way_book one_way_request }
     ensures costs { Costs (ticket_of one_way_legs) one_way_book one_way_request 20000 }
-    ensures coded { code (ticket_of one_way_legs) ≡ 1 ∷ 0 ∷ 1033 ∷ 3322615699655 ∷ 0 ∷ 0 ∷ [] }
+    ensures coded { code (ticket_of one_way_legs) ≡ 1 ∷ 0 ∷ 1033 ∷ 3327747152473 ∷ 0 ∷ 0 ∷ [] }
 {
     label_laws();
 }
