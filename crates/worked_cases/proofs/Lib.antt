@@ -1,3 +1,4 @@
 pub mod Tickets
 pub mod Trips
 pub mod Others
+pub mod Boundaries

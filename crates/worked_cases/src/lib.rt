@@ -3,6 +3,8 @@
 //! Nothing stands on this crate.
 #![tactic(auto)]
 
+mod categories;
 mod worked;
 
+pub use categories::{advance_purchase, combinations, connections, departure_times, ends_on_ends, listed_flights, longest_stays, seasons, travel_dates};
 pub use worked::{circle, days, labels, one_way, order, prices, requests, round_trip, units};
