@@ -2,3 +2,4 @@ pub mod Tickets
 pub mod Trips
 pub mod Others
 pub mod Boundaries
+pub mod Hops

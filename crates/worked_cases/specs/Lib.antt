@@ -1,3 +1,4 @@
 pub mod Makers
 pub mod Cases
 pub mod Rules
+pub mod Journeys

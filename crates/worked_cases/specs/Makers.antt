@@ -31,6 +31,12 @@ par = record { 0 = 80 ∷ 65 ∷ 82 ∷ [] }
 abbrev pub rom : Place
 rom = record { 0 = 82 ∷ 79 ∷ 77 ∷ [] }
 
+abbrev pub bos : Place
+bos = record { 0 = 66 ∷ 79 ∷ 83 ∷ [] }
+
+abbrev pub chi : Place
+chi = record { 0 = 67 ∷ 72 ∷ 73 ∷ [] }
+
 abbrev pub flight_of : ℕ → Place → Place → ℕ → Flight
 flight_of number from to day = record { carrier = qx; number = number; from = from; to = to; day = pos day; minute = 600; dep = pos (1440 * day + 600); arr = pos (1440 * day + 720) }
 

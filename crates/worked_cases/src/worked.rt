@@ -15,7 +15,8 @@ ghost use Rattle.fare_law.specs.Parts.{price_of, stopovers};
 ghost use Rattle.fare_law.specs.Requests.{judged, judged_alone};
 ghost use Rattle.fare_law.specs.Units.{IsUnit, MinStayHolds};
 ghost use Rattle.worked_cases.specs.Cases.{after_minutes, asked, backward, charged, first_flight, forward, r1, with_sunday, y1, circle_book, circle_legs, circle_request, one_way_book, one_way_legs, one_way_request, round_book, round_legs, round_request};
-ghost use Rattle.worked_cases.specs.Makers.{lon, nyc, par, qx, rom, ticket_of};
+ghost use Rattle.worked_cases.specs.Journeys.{boston_fare, inner_book, inner_legs, inner_request, jaw_book, jaw_legs, jaw_request, paris_fare};
+ghost use Rattle.worked_cases.specs.Makers.{bos, lon, nyc, par, qx, rom, ticket_of};
 
 use unit_labels::label_laws;
 
@@ -45,6 +46,26 @@ pub fn round_trip()
 pub fn circle()
     ensures lawful { Lawful (ticket_of circle_legs) circle_book circle_request }
     ensures costs { Costs (ticket_of circle_legs) circle_book circle_request 35000 }
+{
+    label_laws();
+}
+
+/// There to New York on a fare of kind R at 40000, and back from Boston on one at 30000, or from New York to
+/// Paris on one at 44000 that is filed from Paris: one open jaw of 35000, one of 42000. Back from Boston to
+/// Paris there are two gaps, and no ticket has these components, whatever their labels.
+pub fn open_jaw()
+    ensures lawful { Lawful (ticket_of (jaw_legs bos lon boston_fare 1 1)) (jaw_book bos lon boston_fare) (jaw_request bos lon boston_fare) }
+    ensures costs { Costs (ticket_of (jaw_legs bos lon boston_fare 1 1)) (jaw_book bos lon boston_fare) (jaw_request bos lon boston_fare) 35000 }
+    ensures other_lawful { Lawful (ticket_of (jaw_legs nyc par paris_fare 1 1)) (jaw_book nyc par paris_fare) (jaw_request nyc par paris_fare) }
+    ensures other_costs { Costs (ticket_of (jaw_legs nyc par paris_fare 1 1)) (jaw_book nyc par paris_fare) (jaw_request nyc par paris_fare) 42000 }
+{
+    label_laws();
+}
+
+/// A round trip from New York to Chicago at 10000 inside one from London to New York at 40000: lawful at 50000.
+pub fn inner_unit()
+    ensures lawful { Lawful (ticket_of inner_legs) inner_book inner_request }
+    ensures costs { Costs (ticket_of inner_legs) inner_book inner_request 50000 }
 {
     label_laws();
 }
