@@ -1,5 +1,5 @@
 -- The open jaws and the unit inside another one.
-use Rattle.std.proofs.Common.{◌≡◌, ◌≢◌, ℕ, ℤ, Bool, false, true, pos, ◌∷◌, List, [], map, filter, Some, ◌≤◌, refl, ap, arith, get_or, inl, inr}
+use Rattle.std.proofs.Common.{◌≡◌, ◌≢◌, ℕ, ℤ, Bool, false, true, pos, ◌∷◌, List, [], map, filter, Some, ◌≤◌, refl, sym, ap, ◌∙◌, ◌==◌, arith, inl, inr}
 use Rattle.std.proofs.lemmas.Int.{ints}
 use Rattle.fare_law.specs.declared.fares.Fare.{Fare}
 use Rattle.fare_law.specs.declared.fares.FareKind.{FareKind}
@@ -15,15 +15,14 @@ use Rattle.fare_law.specs.Best.{Costs}
 use Rattle.fare_law.specs.Book.{Book, connect, flight_at, free_rule, live_fare, live_rule, seats}
 use Rattle.fare_law.specs.Lawful.{Lawful, unit_of}
 use Rattle.fare_law.specs.Lists.{Each}
-use Rattle.fare_law.specs.Parts.{Filed}
+use Rattle.fare_law.specs.declared.fares.FareKey.{FareKey}
+use Rattle.fare_law.specs.Parts.{Filed, Numbers, StandsFor}
 use Rattle.fare_law.specs.Units.{FareHolds, MayStand, UnitLawful}
 use Rattle.unit_labels.specs.Labels.{LabelLaws, Opens, Closes}
-use Rattle.worked_cases.specs.Journeys.{boston_fare, chicago_fare, hop, inner_book, inner_legs, inner_request, jaw_book, jaw_legs, jaw_request, london_fare, paris_fare}
+use Rattle.worked_cases.specs.Journeys.{boston_fare, chicago_fare, hop, inner_book, inner_legs, inner_request, far_fare, jaw_book, jaw_legs, jaw_request, london_fare, paris_fare}
 use Rattle.worked_cases.specs.Makers.{bos, chi, lon, nyc, par, flight_of, piece_of, qx, ticket_of}
+use Rattle.worked_cases.proofs.Pairs.{differ, gapped}
 use Rattle.worked_cases.proofs.Tickets.{FarApart, LegHolds, are_parts, legs_lawful, one_seated, parts_of}
-
-differ : (p r : Place) (i : ℕ) → (get_or p.0 i 0 ≡ get_or r.0 i 0 → ⊥) → p ≢ r
-differ p r i h e = h (ap (λ x. get_or x.0 i 0) e)
 
 -- a leg on a fare of QX in this book, on the rule with no category
 hop_holds : (b : Book) (q : Request) (n number : ℕ) (from to : Place) (day : ℕ) (fare : Fare) (reverse : Bool) (unit : ℕ) → flight_at b n ≡ Some (flight_of number from to day)
@@ -112,6 +111,30 @@ paris_lawful laws =
 
 pub paris_costs : Costs (ticket_of (jaw_legs nyc par paris_fare 1 1)) (jaw_book nyc par paris_fare) (jaw_request nyc par paris_fare) 42000
 paris_costs = (parts_of (jaw_request nyc par paris_fare) (jaw_legs nyc par paris_fare 1 1), are_parts (jaw_book nyc par paris_fare) (jaw_request nyc par paris_fare) (jaw_legs nyc par paris_fare 1 1) (paris_out, (paris_back, tt)), refl)
+
+-- a component of one flight begins and ends where the flight does
+sits : (b : Book) (sale : ℤ) (key : FareKey) (n : ℕ) (f : Flight) (fs : List Flight) (p : Piece) → flight_at b n ≡ Some f → Numbers b (n ∷ []) fs → StandsFor b sale key fs p → (p.begin ≡ f.from) × (p.end ≡ f.to)
+sits b sale key n f [] p at ns s = absurd ns
+sits b sale key n f (g ∷ h ∷ fs) p at ns s = absurd ns.1
+sits b sale key n f (g ∷ []) p at ns s =
+    let same = one_same (sym ns.0 ∙ at) in (s.begins.0 ∙ ap (λ x. x.from) same, s.ends.0 ∙ ap (λ x. x.to) same)
+  where
+    one_same : Some g ≡ Some f → g ≡ f
+    one_same e = cc
+
+-- back from the one place to the other, neither of which the way there touches: no labels make it a ticket
+pub far_refused : (u v : ℕ) → Lawful (ticket_of (jaw_legs bos par far_fare u v)) (jaw_book bos par far_fare) (jaw_request bos par far_fare) → ⊥
+unfolding live_fare
+far_refused u v ([], m, law, some) = m
+far_refused u v (p ∷ [], m, law, some) = m.1
+far_refused u v (p ∷ r ∷ s ∷ ps, m, law, some) = m.1.1
+far_refused u v (p ∷ r ∷ [], m, law, some) =
+    let there = sits (jaw_book bos par far_fare) (pos 22311) london_fare.key 0 (flight_of 101 lon nyc 22341) p.flights p.piece refl m.0.flights m.0.stands in
+    let back = sits (jaw_book bos par far_fare) (pos 22311) far_fare.key 1 (flight_of 102 bos par 22348) r.flights r.piece refl m.1.0.flights m.1.0.stands in
+    gapped p r (kind p.piece.fare m.0.stands.fare) (λ e. differ bos nyc 0 (λ h. omega (arith, h)) (sym back.0 ∙ e ∙ there.1)) (λ e. differ par lon 0 (λ h. omega (arith, h)) (sym back.1 ∙ e ∙ there.0)) (r.unit == p.unit) refl law.units.0
+  where
+    kind : (f : Fare) → Some london_fare ≡ Some f → f.kind ≡ R
+    kind f e = cc
 
 inner_holds : Each (LegHolds inner_book inner_request) inner_legs
 unfolding live_fare live_rule seats

@@ -1,4 +1,5 @@
 pub mod Tickets
+pub mod Pairs
 pub mod Trips
 pub mod Others
 pub mod Boundaries

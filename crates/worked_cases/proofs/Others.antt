@@ -15,6 +15,7 @@ use Rattle.fare_law.specs.Units.{IsUnit, MinStayHolds}
 use Rattle.unit_labels.specs.Labels.{LabelLaws, LawfulLabels, Opens, Closes}
 use Rattle.worked_cases.specs.Cases.{forward, backward, with_sunday}
 use Rattle.worked_cases.specs.Makers.{lon, nyc, par, rom}
+use Rattle.worked_cases.proofs.Pairs.{differ}
 
 units_same : (b : Book) (q : Request) (cs : List Component) (ps : List Part) → Matched (IsPart b q) cs ps → map (λ part. part.unit) ps ≡ map (λ c. c.unit) cs
 units_same b q [] [] m = refl
@@ -25,6 +26,11 @@ units_same b q (c ∷ cs) (p ∷ ps) m = ap (λ u. u ∷ map (λ part. part.unit
 pub three_straddle : (t : Ticket) (b : Book) (q : Request) → map (λ c. c.unit) t.components ≡ 1 ∷ 2 ∷ 3 ∷ 1 ∷ 2 ∷ 3 ∷ [] → Lawful t b q → ⊥
 three_straddle t b q is (ps, m, law, some) =
     law.straddling (1 ∷ 2 ∷ 3 ∷ []) (1 ∷ 2 ∷ 3 ∷ []) (sym is ∙ sym (units_same b q t.components ps m)) 1 2 3 (omega arith) (omega arith) (refl, refl) (refl, refl) (refl, refl)
+
+-- three units, each inside the one before
+pub three_nested : (t : Ticket) (b : Book) (q : Request) → map (λ c. c.unit) t.components ≡ 1 ∷ 2 ∷ 3 ∷ 3 ∷ 2 ∷ 1 ∷ [] → Lawful t b q → ⊥
+three_nested t b q is (ps, m, law, some) =
+    law.straddling (1 ∷ 2 ∷ 3 ∷ []) (3 ∷ 2 ∷ 1 ∷ []) (sym is ∙ sym (units_same b q t.components ps m)) 1 2 3 (omega arith) (omega arith) (refl, refl) (refl, refl) (refl, refl)
 
 pub two_straddle : LabelLaws → LawfulLabels (1 ∷ 2 ∷ 1 ∷ 3 ∷ 2 ∷ 3 ∷ [])
 two_straddle laws =
@@ -39,9 +45,6 @@ pub no_gap : Numbered 0 (1 ∷ 3 ∷ []) → ⊥
 no_gap (inl h) = omega (arith, h.1)
 no_gap (inr (e, inl h)) = omega (arith, h.1)
 no_gap (inr (e, inr h)) = omega (arith, h.0)
-
-differ : (p r : Place) (i : ℕ) → (get_or p.0 i 0 ≡ get_or r.0 i 0 → ⊥) → p ≢ r
-differ p r i h e = h (ap (λ x. get_or x.0 i 0) e)
 
 pub no_jaw : IsUnit OpenJaw (forward lon nyc ∷ backward nyc lon ∷ []) → ⊥
 no_jaw (two, ways, (inl h, rest)) = h.1 refl

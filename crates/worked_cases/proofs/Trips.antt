@@ -12,22 +12,23 @@ use Rattle.fare_law.specs.Best.{Costs}
 use Rattle.unit_labels.specs.Labels.{LabelLaws, Alone, Opens, GoesOn, Closes}
 use Rattle.worked_cases.specs.Cases.{one_way_legs, one_way_book, one_way_request, round_legs, leg, out_flight, back_flight, one_way_fare, round_fare, no_stops, round_book, round_request, circle_legs, circle_book, circle_request}
 use Rattle.worked_cases.specs.Makers.{lon, nyc, par, rom, ticket_of, flight_of, fare_of}
+use Rattle.worked_cases.proofs.Pairs.{differ, parted}
 use Rattle.worked_cases.proofs.Tickets.{LegHolds, one_seated, FarApart, parts_of, are_parts, legs_lawful}
 
 lon_nyc : lon ≢ nyc
-lon_nyc e = omega (arith, ap (λ p. get_or p.0 0 0) e)
+lon_nyc = differ lon nyc 0 (λ e. omega (arith, e))
 
 lon_par : lon ≢ par
-lon_par e = omega (arith, ap (λ p. get_or p.0 0 0) e)
+lon_par = differ lon par 0 (λ e. omega (arith, e))
 
 nyc_lon : nyc ≢ lon
-nyc_lon e = omega (arith, ap (λ p. get_or p.0 0 0) e)
+nyc_lon = differ nyc lon 0 (λ e. omega (arith, e))
 
 par_rom : par ≢ rom
-par_rom e = omega (arith, ap (λ p. get_or p.0 0 0) e)
+par_rom = differ par rom 0 (λ e. omega (arith, e))
 
 rom_nyc : rom ≢ nyc
-rom_nyc e = omega (arith, ap (λ p. get_or p.0 0 0) e)
+rom_nyc = differ rom nyc 0 (λ e. omega (arith, e))
 
 one_way_leg : LegHolds one_way_book one_way_request (leg 0 out_flight one_way_fare free_rule false 1 lon nyc 22341)
 unfolding live_fare live_rule seats
@@ -227,24 +228,13 @@ circle_lawful laws =
 pub circle_costs : Costs (ticket_of circle_legs) circle_book circle_request 35000
 circle_costs = (parts_of circle_request circle_legs, are_parts circle_book circle_request circle_legs (circle_leg0, (circle_leg1, (circle_leg2, (circle_leg3, tt)))), refl)
 
--- a fare of kind R is no unit alone
-alone : (p : Piece) → p.fare.kind ≡ R → UnitLawful (p ∷ []) → ⊥
-alone p e (OneWay, is, h) = subst (λ k. MayStand k OneWay) e h.0.stands refl
-alone p e (RoundTrip, is, h) = omega (arith, is.0)
-alone p e (OpenJaw, is, h) = omega (arith, is.0)
-alone p e (Circle, is, h) = omega (arith, is.0)
-
 pub round_apart : Lawful (ticket_of (round_legs 1 2)) round_book round_request → ⊥
 unfolding live_fare
 round_apart ([], m, law, some) = m
 round_apart (p ∷ [], m, law, some) = m.1
 round_apart (p ∷ r ∷ s ∷ ps, m, law, some) = m.1.1
 round_apart (p ∷ r ∷ [], m, law, some) =
-    let mine : (p.unit == p.unit) ≡ true = eq-eqb p.unit p.unit refl in
-    let other : (r.unit == p.unit) ≡ false = ne_eqb r.unit p.unit (λ e. omega (arith, e, m.0.unit, m.1.0.unit)) in
-    let by_itself : unit_of p.unit (p ∷ r ∷ []) ≡ p.piece ∷ [] =
-    ap (λ c. map (λ part. part.piece) (cond c (p ∷ cond (r.unit == p.unit) (r ∷ []) []) (cond (r.unit == p.unit) (r ∷ []) []))) mine ∙ ap (λ c. map (λ part. part.piece) (p ∷ cond c (r ∷ []) [])) other in
-    alone p.piece (kind p.piece.fare m.0.stands.fare) (subst UnitLawful by_itself law.units.0)
+    parted p r (kind p.piece.fare m.0.stands.fare) (ne_eqb r.unit p.unit (λ e. omega (arith, e, m.0.unit, m.1.0.unit))) law.units.0
   where
     kind : (f : Fare) → Some round_fare ≡ Some f → f.kind ≡ R
     kind f e = cc

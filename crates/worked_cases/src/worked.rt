@@ -15,7 +15,7 @@ ghost use Rattle.fare_law.specs.Parts.{price_of, stopovers};
 ghost use Rattle.fare_law.specs.Requests.{judged, judged_alone};
 ghost use Rattle.fare_law.specs.Units.{IsUnit, MinStayHolds};
 ghost use Rattle.worked_cases.specs.Cases.{after_minutes, asked, backward, charged, first_flight, forward, r1, with_sunday, y1, circle_book, circle_legs, circle_request, one_way_book, one_way_legs, one_way_request, round_book, round_legs, round_request};
-ghost use Rattle.worked_cases.specs.Journeys.{boston_fare, inner_book, inner_legs, inner_request, jaw_book, jaw_legs, jaw_request, paris_fare};
+ghost use Rattle.worked_cases.specs.Journeys.{boston_fare, far_fare, inner_book, inner_legs, inner_request, jaw_book, jaw_legs, jaw_request, paris_fare};
 ghost use Rattle.worked_cases.specs.Makers.{bos, lon, nyc, par, qx, rom, ticket_of};
 
 use unit_labels::label_laws;
@@ -58,6 +58,7 @@ pub fn open_jaw()
     ensures costs { Costs (ticket_of (jaw_legs bos lon boston_fare 1 1)) (jaw_book bos lon boston_fare) (jaw_request bos lon boston_fare) 35000 }
     ensures other_lawful { Lawful (ticket_of (jaw_legs nyc par paris_fare 1 1)) (jaw_book nyc par paris_fare) (jaw_request nyc par paris_fare) }
     ensures other_costs { Costs (ticket_of (jaw_legs nyc par paris_fare 1 1)) (jaw_book nyc par paris_fare) (jaw_request nyc par paris_fare) 42000 }
+    ensures two_gaps { (u v : ℕ) → Lawful (ticket_of (jaw_legs bos par far_fare u v)) (jaw_book bos par far_fare) (jaw_request bos par far_fare) → ⊥ }
 {
     label_laws();
 }
@@ -84,10 +85,12 @@ pub fn requests()
     ensures alone { judged_alone (asked 9 1000 7 nyc) ≡ None }
 {}
 
-/// Labels: three units that stand on both sides of one boundary are no ticket, two are. Labels are
+/// Labels: three units that stand on both sides of one boundary are no ticket, such as three each inside
+/// the one before; two are. Labels are
 /// numbered from 1 by first appearance.
 pub fn labels()
     ensures three { (t : Ticket) (b : Book) (q : Request) → map (λ c. c.unit) t.components ≡ 1 ∷ 2 ∷ 3 ∷ 1 ∷ 2 ∷ 3 ∷ [] → Lawful t b q → ⊥ }
+    ensures nested { (t : Ticket) (b : Book) (q : Request) → map (λ c. c.unit) t.components ≡ 1 ∷ 2 ∷ 3 ∷ 3 ∷ 2 ∷ 1 ∷ [] → Lawful t b q → ⊥ }
     ensures two { AtMostTwoStraddle (1 ∷ 2 ∷ 1 ∷ 3 ∷ 2 ∷ 3 ∷ []) }
     ensures numbered { Numbered 0 (1 ∷ 2 ∷ 1 ∷ 3 ∷ 2 ∷ 3 ∷ []) }
     ensures from_one { Numbered 0 (2 ∷ 1 ∷ []) → ⊥ }

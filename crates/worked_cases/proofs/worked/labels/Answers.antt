@@ -1,5 +1,5 @@
 -- The case's lemmas.
-use Rattle.worked_cases.proofs.Others.{three_straddle, two_straddle, from_one, no_gap}
+use Rattle.worked_cases.proofs.Others.{three_nested, three_straddle, two_straddle, from_one, no_gap}
 use Rattle.worked_cases.proofs.worked.labels.Goals as goal
 
 pub returns-clause-three : goal.returns-clause-three
@@ -16,3 +16,6 @@ returns-clause-from_one c = from_one
 
 pub returns-clause-no_gap : goal.returns-clause-no_gap
 returns-clause-no_gap c = no_gap
+
+pub returns-clause-nested : goal.returns-clause-nested
+returns-clause-nested c = three_nested
