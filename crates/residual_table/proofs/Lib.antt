@@ -1,0 +1,2 @@
+mod KeyFacts
+mod Numbers
