@@ -1,2 +1,4 @@
 mod KeyFacts
 mod Numbers
+mod Placed
+mod RowFacts

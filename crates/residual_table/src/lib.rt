@@ -8,8 +8,12 @@ mod key;
 mod laws;
 mod numbering;
 mod parts;
+mod placing;
 mod reading;
+mod rows;
 
 pub use key::ResidualKey;
 pub use parts::ResidualParts;
+pub use placing::RowNumber;
 pub use reading::keys_stay;
+pub use rows::ResidualTable;
