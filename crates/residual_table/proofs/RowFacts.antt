@@ -2,13 +2,14 @@
 use Rattle.std.proofs.Common.{◌≡◌, ◌≢◌, ◌↔◌, ◌∙◌, ℕ, zero, suc, Bool, true, false, ◌||◌, IsTrue, List, [], ◌∷◌, ◌++◌, length, map, slice_get, Option, Some, None, Result, Ok, Err, IfOk, OnErr, refl, sym, ap, subst, inl, inr, unwrap_or}
 use Rattle.std.specs.List.{list_any}
 use Rattle.fare_law.specs.Lists.{AllDifferent, Each, IsIn}
+use Rattle.indexmap.specs.IndexMap.{set_value_at}
 use Rattle.residual_keys.specs.Residuals.{State}
 use Rattle.residual_table.specs.declared.key.ResidualKey.{ResidualKey}
 use Rattle.residual_table.specs.declared.placing.RowNumber.{RowNumber}
 use Rattle.residual_table.specs.declared.placing.RowNumber.TheVariants.{New, Known}
 use Rattle.residual_table.specs.contracts.key.ResidualKeyPartialEq.TheImpl as key
 use Rattle.residual_table.specs.Keys.{Grows, IsLive, KeepsResiduals, Tables, residual_of}
-use Rattle.residual_table.specs.Rows.{AreRows, IsNumbered, IsPlaced, KeyRow, Row, no_residual, residual_at, residuals_of, rows_of}
+use Rattle.residual_table.specs.Rows.{AreRows, IsNumbered, IsPlaced, KeyRow, Row, bounds_of, no_residual, residual_at, residuals_of, rows_of}
 
 -- the keys of a table tell residuals
 abbrev pub KeysTell : Tables → Type 0
@@ -17,7 +18,7 @@ KeysTell t = (k l : ResidualKey) (x y : State) → residual_of t k ≡ Some x �
 at_live : (t : Tables) (k : ResidualKey) (x : State) → residual_of t k ≡ Some x → residual_at t k ≡ x
 at_live t k x e = ap (λ z. unwrap_or z no_residual) e
 
-live_at : (t : Tables) (k : ResidualKey) → IsLive t k → residual_of t k ≡ Some (residual_at t k)
+pub live_at : (t : Tables) (k : ResidualKey) → IsLive t k → residual_of t k ≡ Some (residual_at t k)
 live_at t k (x, e) = e ∙ ap Some (sym (at_live t k x e))
 
 -- while tables grow, rows stay
@@ -69,7 +70,7 @@ not_there t (row ∷ rows) k x tells e live f (inl same) =
 not_there t (row ∷ rows) k x tells e live f (inr i) =
     not_there t rows k x tells e live.1 (either (key.ghosts.eq k row.0) (list_any (λ (row : KeyRow). key.ghosts.eq k row.0) rows) f).1 i
 
-rows_length : (t : Tables) (rows : List KeyRow) → length (rows_of t rows) ≡ length rows
+pub rows_length : (t : Tables) (rows : List KeyRow) → length (rows_of t rows) ≡ length rows
 rows_length t [] = refl
 rows_length t (row ∷ rows) = ap suc (rows_length t rows)
 
@@ -78,7 +79,7 @@ row_got t [] n row e = absurd (cc)
 row_got t (r ∷ rows) zero row e = let same : r ≡ row = cc in ap (λ z. Some (residual_at t z.0, z.1)) same
 row_got t (r ∷ rows) (suc n) row e = row_got t rows n row e
 
-live_got : (t : Tables) (rows : List KeyRow) (n : ℕ) (row : KeyRow) → Each (λ row. IsLive t row.0) rows → slice_get rows n ≡ Some row → IsLive t row.0
+pub live_got : (t : Tables) (rows : List KeyRow) (n : ℕ) (row : KeyRow) → Each (λ row. IsLive t row.0) rows → slice_get rows n ≡ Some row → IsLive t row.0
 live_got t [] n row h e = absurd (cc)
 live_got t (r ∷ rows) zero row h e = subst (λ z. IsLive t z.0) (let same : r ≡ row = cc in same) h.0
 live_got t (r ∷ rows) (suc n) row h e = live_got t rows n row h.1 e
@@ -126,3 +127,36 @@ answered_none t u rows rows' (Err f) g a s = ap (rows_of u) s ∙ rows_stay t u 
 pub on_err : {A E : Type 0} (r : Result A E) (P : Type 0) → P → OnErr r P
 on_err (Ok x) P p = tt
 on_err (Err e) P p = p
+
+-- a row's residual and bound
+pub residual_got : (rows : List Row) (n : ℕ) (row : Row) → slice_get rows n ≡ Some row → slice_get (residuals_of rows) n ≡ Some row.0
+residual_got [] n row e = absurd (cc)
+residual_got (r ∷ rows) zero row e = let same : r ≡ row = cc in ap (λ z. Some z.0) same
+residual_got (r ∷ rows) (suc n) row e = residual_got rows n row e
+
+pub bound_got : (rows : List Row) (n : ℕ) (row : Row) → slice_get rows n ≡ Some row → slice_get (bounds_of rows) n ≡ Some row.1
+bound_got [] n row e = absurd (cc)
+bound_got (r ∷ rows) zero row e = let same : r ≡ row = cc in ap (λ z. Some z.1) same
+bound_got (r ∷ rows) (suc n) row e = bound_got rows n row e
+
+-- one bound is set
+pub bound_set : (t : Tables) (rows : List KeyRow) (n : ℕ) (b : Option ℕ) → rows_of t (set_value_at rows n b) ≡ set_value_at (rows_of t rows) n b
+bound_set t [] n b = refl
+bound_set t (row ∷ rows) zero b = refl
+bound_set t (row ∷ rows) (suc n) b = ap (λ z. (residual_at t row.0, row.1) ∷ z) (bound_set t rows n b)
+
+residuals_set : (rows : List Row) (n : ℕ) (b : Option ℕ) → residuals_of (set_value_at rows n b) ≡ residuals_of rows
+residuals_set [] n b = refl
+residuals_set (row ∷ rows) zero b = refl
+residuals_set (row ∷ rows) (suc n) b = ap (λ z. row.0 ∷ z) (residuals_set rows n b)
+
+live_set : (t : Tables) (rows : List KeyRow) (n : ℕ) (b : Option ℕ) → Each (λ row. IsLive t row.0) rows → Each (λ row. IsLive t row.0) (set_value_at rows n b)
+live_set t [] n b h = tt
+live_set t (row ∷ rows) zero b h = h
+live_set t (row ∷ rows) (suc n) b h = (h.0, live_set t rows n b h.1)
+
+pub are_rows_set : (t : Tables) (rows : List KeyRow) (n : ℕ) (b : Option ℕ) → AreRows t rows → AreRows t (set_value_at rows n b)
+are_rows_set t rows n b a = record {
+  live = live_set t rows n b a.live;
+  once = subst AllDifferent (sym (ap residuals_of (bound_set t rows n b) ∙ residuals_set (rows_of t rows) n b)) a.once;
+}

@@ -29,6 +29,9 @@ rows_of t rows = map (λ row. (residual_at t row.0, row.1)) rows
 abbrev pub residuals_of : List Row → List State
 residuals_of rows = map (λ row. row.0) rows
 
+abbrev pub bounds_of : List Row → List (Option ℕ)
+bounds_of rows = map (λ row. row.1) rows
+
 -- Each key stands for a residual, and no two for the same.
 pub record AreRows (t : Tables) (rows : List KeyRow) : Type 0 where
   pub live : Each (λ row. IsLive t row.0) rows

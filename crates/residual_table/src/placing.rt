@@ -1,5 +1,5 @@
 //! Rows that are found by their keys, or put at the end.
-ghost use Rattle.std.specs.Prelude.{◌≡◌, ◌<◌, IfOk, OnErr, length};
+ghost use Rattle.std.specs.Prelude.{◌≡◌, ◌<◌, IfOk, OnErr, Some, length, slice_get};
 ghost use Rattle.indexmap.specs.IndexMap.{set_value_at};
 ghost use Rattle.residual_table.specs.Rows.{IsPlaced};
 
@@ -52,5 +52,19 @@ pub(crate) fn set_bound(
 {
     if let Some(place) = rows.get_index_mut(number) {
         *place = bound;
+    }
+}
+
+/// The row of this number.
+pub(crate) fn row_at(
+    rows: &IndexMap<ResidualKey, Option<u64>>,
+    number: usize,
+) -> (ResidualKey, Option<u64>)
+    requires { number < length rows.now.entries }
+    ensures { slice_get rows.now.entries number ≡ Some result }
+{
+    match rows.get_index(number) {
+        Some((key, bound)) => (*key, *bound),
+        None => unreachable!(),
     }
 }

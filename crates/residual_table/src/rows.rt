@@ -1,10 +1,12 @@
 //! Rows of residuals, by numbers.
-ghost use Rattle.std.specs.Prelude.{◌≡◌, [], IfOk, OnErr, length};
-ghost use Rattle.residual_table.specs.Rows.{AreRows, IsNumbered, rows_of};
+ghost use Rattle.std.specs.Prelude.{◌≡◌, ◌<◌, [], IfOk, OnErr, Some, length, slice_get};
+ghost use Rattle.fare_law.specs.Lists.{AllDifferent};
+ghost use Rattle.indexmap.specs.IndexMap.{set_value_at};
+ghost use Rattle.residual_table.specs.Rows.{AreRows, IsNumbered, bounds_of, residuals_of, rows_of};
 
 use crate::key::ResidualKey;
 use crate::parts::ResidualParts;
-use crate::placing::{RowNumber, place};
+use crate::placing::{RowNumber, place, row_at, set_bound};
 use fare_law::Mem;
 use indexmap::IndexMap;
 use residual_keys::Residual;
@@ -64,5 +66,37 @@ impl ResidualTable {
         let key = self.parts.key(residual)?;
         self.parts.keys_tell();
         place(&mut self.rows, key)
+    }
+
+    /// The residual of a row.
+    pub fn residual(&self, number: u32) -> Residual
+        requires { number < length self.now }
+        ensures { slice_get (residuals_of self.now) number ≡ Some result }
+    {
+        let (key, _) = row_at(&self.rows, number as usize);
+        self.parts.residual(&key)
+    }
+
+    /// The bound of a row.
+    pub fn bound(&self, number: u32) -> Option<u64>
+        requires { number < length self.now }
+        ensures { slice_get (bounds_of self.now) number ≡ Some result }
+    {
+        row_at(&self.rows, number as usize).1
+    }
+
+    /// Gives a row a bound.
+    pub fn set_bound(&mut self, number: u32, bound: Option<u64>)
+        requires { number < length self.old }
+        ensures { self.new ≡ set_value_at self.old number bound }
+    {
+        set_bound(&mut self.rows, number as usize, bound);
+    }
+
+    /// Each residual has one row.
+    pub fn rows_differ(&self)
+        ensures { AllDifferent (residuals_of self.now) }
+    {
+        let _count = self.rows.len();
     }
 }
