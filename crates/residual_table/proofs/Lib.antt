@@ -1,0 +1,4 @@
+mod KeyFacts
+mod Numbers
+mod Placed
+mod RowFacts

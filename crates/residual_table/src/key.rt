@@ -1,0 +1,14 @@
+//! Keys of residuals.
+
+/// A residual by the numbers of its parts.
+#[derive(Clone, Copy, PartialEq, Eq, Hash, Debug)]
+pub struct ResidualKey {
+    /// The number of its position.
+    pub position: u32,
+    /// Of the unit that was opened first: 0 where none is open, else one more than its number.
+    pub first: u32,
+    /// The same of the other one.
+    pub second: u32,
+    /// The number of its ticket part.
+    pub part: u32,
+}
