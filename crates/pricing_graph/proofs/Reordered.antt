@@ -1,5 +1,5 @@
 -- Rows in order are the nodes of the graph.
-use Rattle.std.proofs.Common.{◌≡◌, ◌↔◌, ◌∙◌, ℕ, suc, ◌≤◌, ◌<◌, List, [], ◌∷◌, length, Option, refl, sym, ap, subst, inl, inr, arith}
+use Rattle.std.proofs.Common.{◌≡◌, ◌↔◌, ℕ, suc, ◌≤◌, ◌<◌, List, [], ◌∷◌, length, zero, Option, Some, option_map, slice_get, refl, sym, ap, subst, inl, inr, arith}
 use Rattle.std.specs.List.Sorted.{IsPermutation}
 use Rattle.fare_law.specs.declared.requests.Request.{Request}
 use Rattle.fare_law.specs.Book.{Book}
@@ -61,3 +61,9 @@ module _ {K : Type 0} (b : Book) (q : Request) (f : K → State) (old new : List
   within_budget budget sizes graph few more =
       let lt = (sizes b q (length (states (rows_of f new))) budget (states (rows_of f new), graph.needed, refl)).0 more in
       omega (arith, lt, few, as_many f new, same_length old new p)
+
+-- the node at a place is its key's
+pub node_at : {K X : Type 0} (f : K → X) (es : List (K × Option ℕ)) (n : ℕ) (k : K) → option_map (λ r. r.0) (slice_get es n) ≡ Some k → option_map (λ x. x.0) (slice_get (rows_of f es) n) ≡ Some (f k)
+node_at f [] n k e = absurd (cc)
+node_at f (r ∷ es) zero k e = let same : r.0 ≡ k = cc in ap (λ z. Some (f z)) same
+node_at f (r ∷ es) (suc n) k e = node_at f es n k e

@@ -1,5 +1,5 @@
 //! The graph of a search.
-ghost use Rattle.std.specs.Prelude.{◌≡◌, ◌≤◌, ◌<◌, length, IfErr, IfOk, OnOk};
+ghost use Rattle.std.specs.Prelude.{◌≡◌, ◌≤◌, ◌<◌, ◌^◌, Some, length, option_map, slice_get, IfErr, IfOk, OnOk};
 ghost use Rattle.fare_component.specs.Keys.{Asked, asked};
 ghost use Rattle.fare_law.specs.declared.market.OfferKey.{OfferKey};
 ghost use Rattle.fare_law.specs.Limits.{IsRequest};
@@ -14,7 +14,7 @@ use crate::GraphFault;
 use crate::rows::reached_rows;
 use fare_component::OfferSource;
 use indexmap::IndexMap;
-use residual_keys::one_size;
+use residual_keys::{Residual, one_size};
 use search_steps::{Key, SearchSteps};
 use std::alloc::Global;
 
@@ -22,6 +22,7 @@ use std::alloc::Global;
 #[derive(Drop)]
 pub struct Graph {
     pub(crate) rows: IndexMap<Key, Option<u64>>,
+    ghost small: { length rows.entries < 2 ^ 32 },
 }
 
 impl Graph {
@@ -48,5 +49,43 @@ impl Graph {
         let mut rows = reached_rows(alloc, budget, steps)?;
         steps.put_in_order(&mut rows)?;
         Ok(Graph { rows })
+    }
+
+    /// How many residuals there are.
+    pub fn size(&self) -> u32
+        ensures { result ≡ length self.now.rows.entries }
+    {
+        self.rows.len() as u32
+    }
+
+    /// The residual of a node. Nodes are counted from 0, and ascend by residual.
+    pub fn residual<O: OfferSource>(&self, steps: &SearchSteps<O>, node: u32) -> Residual
+        requires node { node < length self.now.rows.entries }
+        requires live { AreLive (live steps.now) self.now.rows.entries }
+        ensures { option_map (λ x. x.0) (slice_get (rows_of (state steps.now) self.now.rows.entries) node) ≡ Some result }
+    {
+        steps.residual(self.key(node))
+    }
+
+    /// The least price of a run from the residual of a node. None where there is no run.
+    pub fn bound(&self, node: u32) -> Option<u64>
+        requires { node < length self.now.rows.entries }
+        ensures { option_map (λ row. row.1) (slice_get self.now.rows.entries node) ≡ Some result }
+    {
+        match self.rows.get_index(node as usize) {
+            Some((_, bound)) => *bound,
+            None => unreachable!(),
+        }
+    }
+
+    /// The key of a node.
+    fn key(&self, node: u32) -> Key
+        requires { node < length self.now.rows.entries }
+        ensures { option_map (λ row. row.0) (slice_get self.now.rows.entries node) ≡ Some result }
+    {
+        match self.rows.get_index(node as usize) {
+            Some((key, _)) => *key,
+            None => unreachable!(),
+        }
     }
 }

@@ -1,4 +1,4 @@
-use Rattle.std.proofs.Common.{◌≡◌, ◌≤◌, length, sym, subst, arith}
+use Rattle.std.proofs.Common.{◌≤◌, length, sym, subst, arith}
 use Rattle.fare_law.specs.Limits.{IsRequest}
 use Rattle.fare_component.specs.Keys.{asked}
 use Rattle.graph_walk.specs.Steps.{rows_of}

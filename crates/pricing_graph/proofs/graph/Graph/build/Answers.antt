@@ -18,3 +18,8 @@ returns-clause-few g c = omega (arith, same_length c.in_ok-rows.rows.entries c.p
 pub returns-clause-fits : goal.returns-clause-fits
 returns-clause-fits g c =
     within_budget c.args.steps.now.case.book.now c.args.steps.now.case.request.now residual_of c.in_ok-rows.rows.entries c.put_in_order.new.rows.entries c.in_ok-put_in_order.ensures.same c.args.budget c.one_size.ensures.more (returns-clause-graph g c) c.in_ok-rows.ensures.few
+
+pub invariant_of-result : goal.invariant_of-result
+invariant_of-result g c = record {
+  small = let few = c.in_ok-rows.ensures.few in let fits = c.ranges.budget.fits in omega (arith, same_length c.in_ok-rows.rows.entries c.put_in_order.new.rows.entries c.in_ok-put_in_order.ensures.same, few, fits);
+}
