@@ -1,4 +1,4 @@
--- Rows that are sorted by their keys stand in the order of their residuals.
+-- Rows that are sorted by their keys stand in the order of their residuals. Given on to the crates above.
 use Rattle.std.proofs.Common.{◌≡◌, ◌↔◌, ◌⊎◌, ℕ, suc, ◌+◌, Bool, true, false, List, [], ◌∷◌, map, get_or, IsTrue, Option, ap, subst, arith, inl, inr}
 use Rattle.std.specs.declared.cmp.Ordering.{Ordering}
 use Rattle.std.specs.declared.cmp.Ordering.TheVariants.{Less as Lower}
@@ -47,6 +47,6 @@ module _ (compare : Key → Key → Ordering) (same : Key → Key → Bool) (ord
       rest : (k : ℕ) (z : Key) → is_lt (compare (get_or (KeysOf (r ∷ t ∷ rows)) (suc k + 1) z) (get_or (KeysOf (t ∷ rows)) k z)) ≡ false → is_lt (compare (get_or (KeysOf (t ∷ rows)) (k + 1) z) (get_or (KeysOf (t ∷ rows)) k z)) ≡ false
       rest k z q = subst (λ n. is_lt (compare (get_or (KeysOf (r ∷ t ∷ rows)) n z) (get_or (KeysOf (t ∷ rows)) k z)) ≡ false) (next k) q
 
--- what holds of each row holds of each in another order
-pub still_live : (P : Row → Type 0) (old new : List Row) → IsPermutation old new → Each P old → Each P new
-still_live P old new p h = each_from P new (λ r i. in_each P r old h ((same_elements r old new p).1 i))
+-- what holds of each element holds of each in another order
+pub still_each : {X : Type 0} (P : X → Type 0) (old new : List X) → IsPermutation old new → Each P old → Each P new
+still_each P old new p h = each_from P new (λ r i. in_each P r old h ((same_elements r old new p).1 i))

@@ -44,6 +44,14 @@ impl<'a, O: OfferSource> SearchSteps<'a, O> {
         }
     }
 
+    /// The book and the request.
+    pub fn case(&self) -> Case<'a>
+        ensures book { result.book.now ≡ self.now.case.book.now }
+        ensures request { result.request.now ≡ self.now.case.request.now }
+    {
+        self.case
+    }
+
     /// The key of a residual.
     pub fn key_of(&mut self, residual: Residual) -> Result<Key, Mem>
         ensures live { IfOk result (live self.new) }

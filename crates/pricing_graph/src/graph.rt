@@ -1,0 +1,91 @@
+//! The graph of a search.
+ghost use Rattle.std.specs.Prelude.{◌≡◌, ◌≤◌, ◌<◌, ◌^◌, Some, length, option_map, slice_get, IfErr, IfOk, OnOk};
+ghost use Rattle.fare_component.specs.Keys.{Asked, asked};
+ghost use Rattle.fare_law.specs.declared.market.OfferKey.{OfferKey};
+ghost use Rattle.fare_law.specs.Limits.{IsRequest};
+ghost use Rattle.graph_walk.specs.Steps.{AreLive, rows_of};
+ghost use Rattle.pricing_graph.specs.Graphs.{IsGraph, IsTooLarge};
+ghost use Rattle.residual_keys.specs.AskedKeys.{Keys};
+ghost use Rattle.residual_keys.specs.Searches.{ReachesMoreThan};
+ghost use Rattle.search_steps.specs.Cases.{IsSameCase};
+ghost use Rattle.search_steps.specs.Keys.{live, state};
+
+use crate::GraphFault;
+use crate::rows::reached_rows;
+use fare_component::OfferSource;
+use indexmap::IndexMap;
+use residual_keys::{Residual, one_size};
+use search_steps::{Key, SearchSteps};
+use std::alloc::Global;
+
+/// The residuals that a search reaches, in order, each with the least price of a run from it.
+#[derive(Drop)]
+pub struct Graph {
+    pub(crate) rows: IndexMap<Key, Option<u64>>,
+    ghost small: { length rows.entries < 2 ^ 32 },
+}
+
+impl Graph {
+    /// The graph of a search. Too large exactly where more residuals are reached than the budget. After
+    /// `Ok` whatever the keys of the search ask for is settled with the source of offers.
+    pub fn build<O: OfferSource>(
+        alloc: Global,
+        budget: u32,
+        steps: &mut SearchSteps<O>,
+    ) -> Result<Graph, GraphFault>
+        requires { IsRequest steps.old.case.request.now }
+        ensures graph { IfOk result (λ g. IsGraph steps.old.case.book.now steps.old.case.request.now (rows_of (state steps.new) g.rows.entries)) }
+        ensures live { IfOk result (λ g. AreLive (live steps.new) g.rows.entries) }
+        ensures few { IfOk result (λ g. length g.rows.entries ≤ budget) }
+        ensures fits { OnOk result (ReachesMoreThan budget steps.old.case.book.now steps.old.case.request.now → ⊥) }
+        ensures large { IfErr result (IsTooLarge steps.old.case.book.now steps.old.case.request.now budget) }
+        ensures settled { OnOk result ((key : OfferKey) → Keys steps.old.case.book.now steps.old.case.request.now key → O.settled steps.new.offers.now (asked key)) }
+        ensures same_offers { steps.new.offers.ghost_name ≡ steps.old.offers.ghost_name }
+        ensures case { IsSameCase steps.old steps.new }
+        ensures base { O.base steps.new.offers.now ≡ O.base steps.old.offers.now }
+        ensures stays { (a : Asked) → O.settled steps.old.offers.now a → O.settled steps.new.offers.now a }
+    {
+        one_size();
+        let mut rows = reached_rows(alloc, budget, steps)?;
+        steps.put_in_order(&mut rows)?;
+        Ok(Graph { rows })
+    }
+
+    /// How many residuals there are.
+    pub fn size(&self) -> u32
+        ensures { result ≡ length self.now.rows.entries }
+    {
+        self.rows.len() as u32
+    }
+
+    /// The residual of a node. Nodes are counted from 0, and ascend by residual.
+    pub fn residual<O: OfferSource>(&self, steps: &SearchSteps<O>, node: u32) -> Residual
+        requires node { node < length self.now.rows.entries }
+        requires live { AreLive (live steps.now) self.now.rows.entries }
+        ensures { option_map (λ x. x.0) (slice_get (rows_of (state steps.now) self.now.rows.entries) node) ≡ Some result }
+    {
+        steps.residual(self.key(node))
+    }
+
+    /// The least price of a run from the residual of a node. None where there is no run.
+    pub fn bound(&self, node: u32) -> Option<u64>
+        requires { node < length self.now.rows.entries }
+        ensures { option_map (λ row. row.1) (slice_get self.now.rows.entries node) ≡ Some result }
+    {
+        match self.rows.get_index(node as usize) {
+            Some((_, bound)) => *bound,
+            None => unreachable!(),
+        }
+    }
+
+    /// The key of a node.
+    fn key(&self, node: u32) -> Key
+        requires { node < length self.now.rows.entries }
+        ensures { option_map (λ row. row.0) (slice_get self.now.rows.entries node) ≡ Some result }
+    {
+        match self.rows.get_index(node as usize) {
+            Some((key, _)) => *key,
+            None => unreachable!(),
+        }
+    }
+}

@@ -1,0 +1,62 @@
+//! The rows of a graph, as the walk finds them.
+ghost use Rattle.std.specs.Prelude.{◌≡◌, ◌≤◌, length, IfErr, IfOk, OnOk};
+ghost use Rattle.fare_component.specs.Keys.{Asked, asked};
+ghost use Rattle.fare_law.specs.declared.market.OfferKey.{OfferKey};
+ghost use Rattle.fare_law.specs.Limits.{IsRequest};
+ghost use Rattle.graph_walk.specs.Steps.{AreLive, rows_of};
+ghost use Rattle.pricing_graph.specs.Graphs.{AreRows, IsTooLarge, fault_as};
+ghost use Rattle.residual_keys.specs.AskedKeys.{Keys};
+ghost use Rattle.search_steps.specs.Cases.{IsSameCase};
+ghost use Rattle.search_steps.specs.Keys.{live, state};
+
+use crate::GraphFault;
+use fare_component::OfferSource;
+use graph_walk::{WalkFault, walk};
+use indexmap::IndexMap;
+use residual_keys::root;
+use rule_route::limits_are_met;
+use search_steps::{Key, SearchSteps, least_prices_are_least, reached_states_are_reached};
+use std::alloc::Global;
+
+/// What a search reaches, each once, with the least prices.
+pub fn reached_rows<O: OfferSource>(
+    alloc: Global,
+    budget: u32,
+    steps: &mut SearchSteps<O>,
+) -> Result<IndexMap<Key, Option<u64>>, GraphFault>
+    requires { IsRequest steps.old.case.request.now }
+    ensures rows { IfOk result (λ rows. AreRows steps.old.case.book.now steps.old.case.request.now (rows_of (state steps.new) rows.entries)) }
+    ensures live { IfOk result (λ rows. AreLive (live steps.new) rows.entries) }
+    ensures few { IfOk result (λ rows. length rows.entries ≤ budget) }
+    ensures large { IfErr result (IsTooLarge steps.old.case.book.now steps.old.case.request.now budget) }
+    ensures settled { OnOk result ((key : OfferKey) → Keys steps.old.case.book.now steps.old.case.request.now key → O.settled steps.new.offers.now (asked key)) }
+    ensures same_offers { steps.new.offers.ghost_name ≡ steps.old.offers.ghost_name }
+    ensures case { IsSameCase steps.old steps.new }
+    ensures base { O.base steps.new.offers.now ≡ O.base steps.old.offers.now }
+    ensures stays { (a : Asked) → O.settled steps.old.offers.now a → O.settled steps.new.offers.now a }
+{
+    least_prices_are_least();
+    reached_states_are_reached();
+    limits_are_met();
+    let case = steps.case();
+    case.book.limits();
+    let root = root(case.book, case.request);
+    let root = steps.key_of(root)?;
+    steps.keys_tell();
+    match walk(alloc, &case, root, budget, steps) {
+        Ok(rows) => Ok(rows),
+        Err(fault) => Err(fault_of(fault, budget)),
+    }
+}
+
+/// The fault of a walk, as that of a graph.
+fn fault_of(fault: WalkFault, budget: u32) -> GraphFault
+    ensures { result ≡ fault_as budget fault }
+{
+    match fault {
+        WalkFault::TooLarge => GraphFault::TooLarge {
+            needed_more_than: budget,
+        },
+        WalkFault::Mem => GraphFault::Mem,
+    }
+}
