@@ -6,5 +6,10 @@
 mod categories;
 mod worked;
 
-pub use categories::{advance_purchase, combinations, connections, departure_times, ends_on_ends, listed_flights, longest_stays, seasons, travel_dates};
-pub use worked::{circle, days, inner_unit, labels, one_way, open_jaw, order, prices, requests, round_trip, units};
+pub use categories::{
+    advance_purchase, combinations, connections, departure_times, ends_on_ends, listed_flights,
+    longest_stays, seasons, travel_dates,
+};
+pub use worked::{
+    circle, days, inner_unit, labels, one_way, open_jaw, order, prices, requests, round_trip, units,
+};
