@@ -1,20 +1,12 @@
-//! Tests of the public calls on paths, units, tickets, residuals and moves, and of the search for the least derivations,
+//! Tests of the public calls on units, tickets and moves,
 //! each with memory at hand: a call that answers want of memory meets its contract, and these tests refuse it. Nothing
 //! stands on this crate.
 #![tactic(auto)]
 
 #[cfg(test)]
-mod draws;
-#[cfg(test)]
 mod filings;
 #[cfg(test)]
 mod journeys;
-#[cfg(test)]
-mod orders;
-#[cfg(test)]
-mod paths;
-#[cfg(test)]
-mod residuals;
 #[cfg(test)]
 mod tickets;
 #[cfg(test)]

@@ -165,7 +165,9 @@ fn at_dublin(slice: u8, lo: u32, hi: u32) -> Option<Position> {
 }
 
 /// The position before the slice back.
-fn home() -> Position {
+fn home() -> Position
+    ensures { result.slice ≡ 1 }
+{
     Position {
         slice: 1,
         leg: 0,
