@@ -4,3 +4,4 @@ pub mod Trips
 pub mod Others
 pub mod Boundaries
 pub mod Hops
+pub mod Within

@@ -1,4 +1,5 @@
 pub mod Makers
 pub mod Cases
 pub mod Rules
+pub mod Ranges
 pub mod Journeys

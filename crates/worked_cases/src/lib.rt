@@ -4,12 +4,14 @@
 #![tactic(auto)]
 
 mod categories;
+mod ranges;
 mod worked;
 
 pub use categories::{
     advance_purchase, combinations, connections, departure_times, ends_on_ends, listed_flights,
     longest_stays, seasons, travel_dates,
 };
+pub use ranges::{limits_of_books, limits_of_rules};
 pub use worked::{
     circle, days, inner_unit, labels, one_way, open_jaw, order, prices, requests, round_trip, units,
 };
