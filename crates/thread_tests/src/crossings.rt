@@ -24,7 +24,7 @@ fn shares_books(rt: HostRuntime) -> Result<(), Fail> {
 fn hands_over_clerks_watches_and_receipts(rt: HostRuntime) -> Result<(), Fail> {
     let alloc = rt.alloc();
     let book = opening(alloc)?;
-    let (mut clerk, watches) = begin(alloc, &rt, book, 1)?;
+    let (mut clerk, watches) = begin(&rt, alloc, book, 1)?;
     for watch in watches.as_slice() {
         is_moved(watch);
     }
