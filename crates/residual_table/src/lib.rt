@@ -1,6 +1,6 @@
 //! Numbers of residuals: their positions, open units and ticket parts stand once each in tables, and a residual is four
-//! small numbers. The layer above gets keys that are equal exactly where residuals are, rows of residuals that are found
-//! by one look-up, each with a bound, and the numbers of rows in the order of residuals.
+//! small numbers. The layer above gets keys that are equal exactly where residuals are, and rows of residuals that are
+//! found by one look-up, each with a bound.
 #![tactic(auto)]
 
 mod adding;
