@@ -1,12 +1,8 @@
-//! Seats of small lists of rows, and of as many rows as there may be.
-use fare_law::{Carrier, Class, Flight, Place, SeatKey, SeatRow};
-use seat_classes::{SeatFault, SeatPut, Seats};
+//! Rows of seats that are put and dropped, up to as many as there may be.
+use fare_law::{Carrier, Flight, Place, SeatKey, SeatRow};
+use seat_classes::{SeatPut, Seats};
 use std::alloc::Global;
 use std::test::Fail;
-
-const J: Class = 9;
-
-const Y: Class = 24;
 
 // 2031-03-03.
 const MONDAY: i32 = 22341;
@@ -57,105 +53,6 @@ fn flight(day: i32) -> Flight {
         dep: i64::from(day) * 1440 + 600,
         arr: i64::from(day) * 1440 + 1080,
     }
-}
-
-#[test]
-fn gives_a_flight_the_seats_of_its_row(rt: HostRuntime) -> Result<(), Fail> {
-    let rows = [row(2, None, seats(4, 9)), row(3, Some(MONDAY), seats(0, 2))];
-    let held = Seats::build(rt.alloc(), &rows)?;
-    let tuesday = flight(MONDAY + 1);
-    let cases = [
-        ("the row of the day", flight(MONDAY), seats(0, 2)),
-        ("the row of all days", tuesday, seats(4, 9)),
-        (
-            "another carrier",
-            Flight {
-                carrier: Carrier(*b"AX"),
-                ..tuesday
-            },
-            [0; 32],
-        ),
-        (
-            "another number",
-            Flight {
-                number: 102,
-                ..tuesday
-            },
-            [0; 32],
-        ),
-        (
-            "another origin",
-            Flight {
-                from: NYC,
-                to: LON,
-                ..tuesday
-            },
-            [0; 32],
-        ),
-    ];
-    for (name, flight, seats) in cases {
-        assert_eq!(rt; held.seats_of(&flight), seats, "{name}");
-    }
-    assert_eq!(rt; held.count(), 2);
-    Ok(())
-}
-
-#[test]
-fn tells_classes_for_a_party(rt: HostRuntime) -> Result<(), Fail> {
-    let held = Seats::build(rt.alloc(), &[row(2, None, seats(4, 9))])?;
-    let monday = flight(MONDAY);
-    let cases = [
-        ("both", 4, true, true, 0x0100_0200),
-        ("one of them", 5, false, true, 0x0100_0000),
-        ("the last seats", 9, false, true, 0x0100_0000),
-        ("none", 10, false, false, 0),
-    ];
-    for (name, party, j, y, mask) in cases {
-        assert_eq!(rt; held.mask(&monday, party), mask, "{name}");
-        assert_eq!(rt; held.seated(&monday, J, party), j, "{name}");
-        assert_eq!(rt; held.seated(&monday, Y, party), y, "{name}");
-        assert!(rt; !held.seated(&monday, 0, party), "{name}");
-    }
-    Ok(())
-}
-
-#[test]
-fn refuses_the_first_row_that_repeats_a_key(rt: HostRuntime) -> Result<(), Fail> {
-    let first = row(2, None, seats(4, 9));
-    let dated = row(3, Some(MONDAY), seats(4, 9));
-    let fault = SeatFault::Twice { line: 4 };
-    let cases = [
-        ("all days", [first, dated, row(4, None, seats(1, 1))], fault),
-        (
-            "one day",
-            [first, dated, row(4, Some(MONDAY), seats(4, 9))],
-            fault,
-        ),
-        (
-            "the first of two",
-            [first, row(4, None, seats(0, 0)), row(5, None, seats(0, 0))],
-            fault,
-        ),
-    ];
-    for (name, rows, fault) in cases {
-        let answer = Seats::build(rt.alloc(), &rows);
-        assert!(rt; matches!(&answer, Err(found) if *found == fault), "{name}");
-    }
-    let others = [
-        first,
-        SeatRow {
-            carrier: Carrier(*b"AX"),
-            ..first
-        },
-        SeatRow {
-            number: 102,
-            ..first
-        },
-        SeatRow { from: NYC, ..first },
-        dated,
-    ];
-    assert_eq!(rt; Seats::build(rt.alloc(), &others)?.count(), 5);
-    Ok(())
 }
 
 #[test]

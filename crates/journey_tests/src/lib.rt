@@ -1,6 +1,5 @@
-//! Tests of the public calls on units, tickets and moves,
-//! each with memory at hand: a call that answers want of memory meets its contract, and these tests refuse it. Nothing
-//! stands on this crate.
+//! Tests of the public calls on moves and tickets, each with memory at hand: a call that answers want of memory meets its
+//! contract, and these tests refuse it. Nothing stands on this crate.
 #![tactic(auto)]
 
 #[cfg(test)]
@@ -9,5 +8,3 @@ mod filings;
 mod journeys;
 #[cfg(test)]
 mod tickets;
-#[cfg(test)]
-mod units;

@@ -1,6 +1,6 @@
-//! What small tickets cost, what a ticket of one flight and one fare meets, and the first breach of tickets like it.
+//! What small tickets cost, and the first breach of tickets of one flight and one fare.
 ghost use Rattle.fare_law.specs.Days.{IsCalendarDay};
-ghost use Rattle.fare_law.specs.Limits.{IsRequest, IsSlice};
+ghost use Rattle.fare_law.specs.Limits.{IsRequest};
 
 use crate::filings::{LON, NYC, QX, fare, key, one};
 use fare_book::{Book, Timetable};
@@ -12,10 +12,7 @@ use schedule_book::Schedule;
 use std::alloc::Global;
 use std::sync::Arc;
 use std::test::Fail;
-use ticket_demands::{
-    Breach, ComponentDemand, Demand, JourneyDemand, UnitDemand, component_meets, cuts_meet,
-    part_meets, price,
-};
+use ticket_demands::{Breach, price};
 use ticket_whole::lawful;
 
 const PLACES: [PlaceRow; 2] = [
@@ -114,81 +111,6 @@ fn prices_what_is_known(rt: HostRuntime) -> Result<(), Fail> {
     Ok(())
 }
 
-#[test]
-fn meets_what_is_demanded(rt: HostRuntime) -> Result<(), Fail> {
-    let seated = book(rt.alloc(), NINE)?;
-    let sold_out = book(rt.alloc(), NONE)?;
-    let component = component(Some(0));
-    let demands = [
-        ComponentDemand::KnownFlights,
-        ComponentDemand::FlightCount,
-        ComponentDemand::NoGap,
-        ComponentDemand::PlacesOnce,
-        ComponentDemand::LiveFare,
-        ComponentDemand::FareEnds,
-        ComponentDemand::DayTime,
-        ComponentDemand::Flights,
-        ComponentDemand::Stopovers,
-        ComponentDemand::Transfers,
-    ];
-    for demand in demands {
-        assert!(rt; component_meets(demand, &component, &seated, 1));
-        assert!(rt; component_meets(demand, &component, &sold_out, 1));
-    }
-    assert!(rt; component_meets(ComponentDemand::Seats, &component, &seated, 9));
-    assert!(rt; !component_meets(ComponentDemand::Seats, &component, &sold_out, 1));
-    Ok(())
-}
-
-#[test]
-fn meets_what_is_demanded_of_a_unit(rt: HostRuntime) -> Result<(), Fail> {
-    let book = book(rt.alloc(), NINE)?;
-    let only = [component(Some(0))];
-    let demands = [
-        UnitDemand::Shape,
-        UnitDemand::FareKind,
-        UnitDemand::FirstDay,
-        UnitDemand::TravelDates,
-        UnitDemand::Stay,
-        UnitDemand::Combination,
-    ];
-    for demand in demands {
-        assert!(rt; part_meets(demand, &only[0], &only, &book, 22320));
-    }
-    Ok(())
-}
-
-/// From London to New York, on this day.
-fn slice(day: i32) -> Slice
-    requires { IsCalendarDay day }
-    ensures { IsSlice result }
-{
-    Slice {
-        from: LON,
-        to: NYC,
-        first: day,
-        days: 1,
-    }
-}
-
-#[test]
-fn meets_what_is_demanded_of_a_journey(rt: HostRuntime) -> Result<(), Fail> {
-    let book = book(rt.alloc(), NINE)?;
-    let flights = book.timetable().schedule().flights();
-    let demands = [
-        JourneyDemand::Slices,
-        JourneyDemand::Length,
-        JourneyDemand::Places,
-        JourneyDemand::Connections,
-        JourneyDemand::Window,
-    ];
-    for demand in demands {
-        assert!(rt; cuts_meet(demand, &[slice(22341)], flights, &book));
-    }
-    assert!(rt; !cuts_meet(JourneyDemand::Window, &[slice(22340)], flights, &book));
-    Ok(())
-}
-
 /// From London to New York for nine passengers, on this day.
 fn request(day: i32) -> Request
     requires { IsCalendarDay day }
@@ -240,18 +162,4 @@ fn names_the_first_breach(rt: HostRuntime) -> Result<(), Fail> {
     };
     assert_eq!(rt; lawful(&right, &seated, &request(22340)), Err(early));
     Ok(())
-}
-
-#[test]
-fn numbers_demands(rt: HostRuntime) {
-    let cases = [
-        (1, Demand::HasComponent),
-        (7, Demand::OfJourney(JourneyDemand::Length)),
-        (13, Demand::Labels),
-        (19, Demand::OfUnit(UnitDemand::Shape)),
-        (26, Demand::Straddling),
-    ];
-    for (number, demand) in cases {
-        assert_eq!(rt; Demand::numbered(number), demand);
-    }
 }

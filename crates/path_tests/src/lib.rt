@@ -1,6 +1,5 @@
-//! Tests of the public calls on paths, codes and orders, residuals, and the search for the least derivations,
-//! each with memory at hand: a call that answers want of memory meets its contract, and these tests refuse it. Nothing
-//! stands on this crate.
+//! Tests of the public calls on paths, a code, the texts of residuals, and the search for the least derivations, each with memory at
+//! hand: a call that answers want of memory meets its contract, and these tests refuse it. Nothing stands on this crate.
 #![tactic(auto)]
 
 #[cfg(test)]

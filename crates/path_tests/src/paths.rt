@@ -2,7 +2,7 @@
 ghost use Rattle.std.specs.Prelude.{◌≡◌, length};
 
 use fare_law::{ArrayVec, Carrier, FlightRow, Place, PlaceRow, Request, Slice};
-use flight_paths::{Path, Position, component_paths, path_of, root_position, slice_paths};
+use flight_paths::{Path, Position, component_paths, root_position, slice_paths};
 use schedule_book::Schedule;
 use std::test::Fail;
 
@@ -178,29 +178,6 @@ fn home() -> Position
     }
 }
 
-/// These numbers.
-fn numbers(first: u32, second: Option<u32>) -> ArrayVec<u32, 4> {
-    let mut numbers = ArrayVec::new();
-    numbers.push(first);
-    if let Some(second) = second {
-        numbers.push(second);
-    }
-    numbers
-}
-
-#[test]
-fn finds_the_path_of_given_flights(rt: HostRuntime) -> Result<(), Fail> {
-    let schedule = Schedule::build(rt.alloc(), &PLACES, &ROWS)?;
-    let request = request();
-    let root = root_position(&schedule, &request);
-    let by_dublin = path_of(&schedule, &request, &root, &numbers(0, Some(1)));
-    assert!(rt;
-        matches!(&by_dublin, Some(path) if matches!(path.after, Some(at) if at.slice == 1))
-    );
-    assert!(rt; path_of(&schedule, &request, &root, &numbers(1, None)).is_none());
-    Ok(())
-}
-
 /// Whether each path has these flights and leads there.
 fn lead(paths: &[Path], expected: &[(&[u32], Option<Position>)]) -> bool {
     paths.len() == expected.len()
@@ -245,31 +222,5 @@ fn gives_the_paths_of_a_position(rt: HostRuntime) -> Result<(), Fail> {
             &[(&[3], at_dublin(1, 5, 6)), (&[4], None), (&[3, 5], None),]
         )
     );
-    Ok(())
-}
-
-#[test]
-fn takes_any_range(rt: HostRuntime) -> Result<(), Fail> {
-    let schedule = Schedule::build(rt.alloc(), &PLACES, &ROWS)?;
-    let request = request();
-    let wide = Position {
-        lo: 1,
-        hi: u32::MAX,
-        ..root_position(&schedule, &request)
-    };
-    let empty = Position {
-        lo: 2,
-        hi: 1,
-        ..wide
-    };
-    let some = component_paths(rt.alloc(), &schedule, &request, &wide)?;
-    let none = component_paths(rt.alloc(), &schedule, &request, &empty)?;
-    assert!(rt;
-        lead(
-            some.as_slice(),
-            &[(&[2], Some(home())), (&[2, 3], at_dublin(1, 5, 6))]
-        )
-    );
-    assert!(rt; lead(none.as_slice(), &[]));
     Ok(())
 }

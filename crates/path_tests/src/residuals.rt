@@ -1,21 +1,9 @@
-//! Residuals of given parts, and their order.
+//! The texts of residuals.
 use fare_law::{Carrier, Place};
 use flight_paths::Position;
 use open_unit::{CarrierMark, OpenUnit, RuleMark};
 use residual_keys::{Residual, TicketPart, read_residual, residual_text};
-use std::cmp::Ordering;
 use std::test::Fail;
-
-fn start() -> Position {
-    Position {
-        slice: 0,
-        leg: 0,
-        place: Place(*b"LON"),
-        via: None,
-        lo: 0,
-        hi: 1,
-    }
-}
 
 fn opened() -> OpenUnit {
     OpenUnit {
@@ -30,70 +18,6 @@ fn opened() -> OpenUnit {
         partner: 0,
         carrier: CarrierMark::One(Carrier(*b"QX")),
         rule: RuleMark::One(0),
-    }
-}
-
-fn asked(units: u8, ends: u8) -> TicketPart {
-    TicketPart {
-        units,
-        ends,
-        carrier: CarrierMark::One(Carrier(*b"QX")),
-    }
-}
-
-#[test]
-fn makes_residuals(rt: HostRuntime) {
-    let unit = opened();
-    let late = OpenUnit {
-        first_day: 99_001,
-        ..unit
-    };
-    let long = OpenUnit { count: 4, ..unit };
-    let mixed = OpenUnit {
-        carrier: CarrierMark::Mixed,
-        ..unit
-    };
-    let cases = [
-        ("no unit", None, None, asked(0, 0), true),
-        ("two units", Some(unit), Some(unit), asked(2, 3), true),
-        ("the second alone", None, Some(unit), asked(1, 0), false),
-        ("a late first day", Some(late), None, asked(1, 0), false),
-        (
-            "four components",
-            Some(unit),
-            Some(long),
-            asked(1, 0),
-            false,
-        ),
-        (
-            "one rule, two carriers",
-            Some(mixed),
-            None,
-            asked(1, 0),
-            false,
-        ),
-        ("three units begun", None, None, asked(3, 0), false),
-    ];
-    for (name, unit1, unit2, part, made) in cases {
-        let residual = Residual::checked(start(), unit1, unit2, part);
-        assert_eq!(rt; residual.is_some(), made, "{name}");
-    }
-}
-
-#[test]
-fn orders_residuals(rt: HostRuntime) {
-    let unit = opened();
-    let at = start();
-    let further = Position { slice: 1, ..at };
-    let ascending = [
-        Residual::checked(at, None, None, asked(0, 0)),
-        Residual::checked(at, None, None, asked(1, 0)),
-        Residual::checked(at, Some(unit), None, asked(0, 0)),
-        Residual::checked(at, Some(unit), Some(unit), asked(0, 0)),
-        Residual::checked(further, None, None, asked(0, 0)),
-    ];
-    for i in 1..ascending.len() {
-        assert_eq!(rt; ascending[i - 1].cmp(&ascending[i]), Ordering::Less);
     }
 }
 
@@ -229,34 +153,10 @@ fn reads_no_other_text(rt: HostRuntime) {
     let others = [
         ("three units begun", "0 0 LON - 0 1 - 3:0:-"),
         ("a leading zero", "0 0 LON - 0 01 - 0:0:-"),
-        ("a sign", "0 0 LON - 0 +1 - 0:0:-"),
-        ("a fourth letter", "0 0 LOND - 0 1 - 0:0:-"),
-        ("a small letter", "0 0 LOn - 0 1 - 0:0:-"),
-        ("a word too few", "0 0 LON - 0 1 0:0:-"),
-        ("a word too many", "0 0 LON - 0 1 - 0:0:- 0"),
-        ("a space at the end", "0 0 LON - 0 1 - 0:0:- "),
-        ("a slice past its field", "256 0 LON - 0 1 - 0:0:-"),
         ("a flight past its field", "0 0 LON - 0 4294967296 - 0:0:-"),
-        ("one letter for a carrier", "0 0 LON - 0 1 - 1:0:Q"),
-        (
-            "no carrier in a unit",
-            "1 0 NYC - 1 2 LON>NYC:1:22341:-:-:-:14:0:-:0 1:0:QX",
-        ),
-        (
-            "one rule of two carriers",
-            "1 0 NYC - 1 2 LON>NYC:1:22341:-:-:-:14:0:*:0 1:0:QX",
-        ),
         (
             "four components",
             "1 0 NYC - 1 2 LON>NYC:4:22341:-:-:-:14:0:QX:0 1:0:QX",
-        ),
-        (
-            "a field too few",
-            "1 0 NYC - 1 2 LON>NYC:1:22341:-:-:14:0:QX:0 1:0:QX",
-        ),
-        (
-            "three units",
-            "1 0 NYC - 1 2 LON>NYC:1:1:-:-:-:14:0:QX:0/LON>NYC:1:1:-:-:-:14:0:QX:0/LON>NYC:1:1:-:-:-:14:0:QX:0 2:0:QX",
         ),
         ("no text", ""),
     ];
