@@ -1,0 +1,37 @@
+-- The request of a case that is spelled is right, also with another number of tickets within its limits.
+use Rattle.std.proofs.Common.{◌≡◌, ℕ, true, List, [], ◌∷◌, length, Option, Some, None, IfSome, Ok, sym, subst}
+use Rattle.std.specs.Int.{IsInRange}
+use Rattle.std.proofs.lemmas.Bool.{and_from, le-leb}
+use Rattle.fare_law.specs.declared.names.Place.{Place}
+use Rattle.fare_law.specs.declared.requests.Request.{Request}
+use Rattle.fare_law.specs.declared.requests.Why.TheVariants.{Slices, Party, Best}
+use Rattle.fare_law.specs.declared.rows.TextLine.{TextLine}
+use Rattle.fare_law.specs.Book.{Book}
+use Rattle.fare_law.specs.Requests.{judged, known_places, within}
+use Rattle.whole_case.specs.declared.search.SearchCase.{SearchCase}
+use Rattle.whole_case.specs.Cases.{search_case}
+use Rattle.whole_case.specs.Requests.{sole_request, with_best}
+use Rattle.whole_case.proofs.Judgements.{same_after, tested}
+use Rattle.whole_case.proofs.OneOutcome.{ok_same}
+
+sole_right : (b : Book) (lines : List TextLine) (q : Request) → sole_request b lines (Ok q) → judged (known_places b) q ≡ None
+sole_right b [] q h = absurd h
+sole_right b (line ∷ []) q (spelled, is, (u, right, e)) = subst (λ (x : Request). judged (known_places b) x ≡ None) (sym (ok_same q spelled e)) right
+sole_right b (line ∷ more ∷ lines) q h = absurd h
+
+ranged : (low high n : ℕ) → IsInRange low high n → within low high n ≡ true
+ranged low high n h = and_from _ _ (le-leb _ _ h.0) (le-leb _ _ h.1)
+
+-- the number of tickets is judged by itself
+right_with : (places : List Place) (q : Request) (best : Option ℕ) → IfSome best (IsInRange 1 1000) → judged places q ≡ None → judged places (with_best best q) ≡ None
+right_with places q None h e = e
+right_with places q (Some best) h e =
+    let a = tested (within 1 6 (length q.slices)) Slices _ e in
+    let b = tested (within 1 9 q.party) Party _ a.1 in
+    let c = tested (within 1 1000 q.best) Best _ b.1 in
+    same_after _ Slices _ None a.0 (same_after _ Party _ None b.0 (same_after (within 1 1000 best) Best _ None (ranged 1 1000 best h) c.1))
+
+pub spelled_right : (best at : Option ℕ) (bytes : List ℕ) (found : SearchCase) → IfSome best (IsInRange 1 1000) → search_case best at bytes (Ok found) → judged (known_places found.book) found.request ≡ None
+spelled_right best at bytes found h (case, form, (opening, rows, (book, filed, (request, sole, (u, number, e))))) =
+    subst (λ (x : SearchCase). judged (known_places x.book) x.request ≡ None) (sym (ok_same found (record { book = book; request = with_best best request }) e))
+    (right_with (known_places book) request best h (sole_right book case.requests request sole))

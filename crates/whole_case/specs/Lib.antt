@@ -1,0 +1,7 @@
+pub mod Stages
+pub mod Refusals
+pub mod Texts
+pub mod Timetables
+pub mod Filings
+pub mod Requests
+pub mod Cases
