@@ -1,49 +1,9 @@
 //! Filings of known texts.
 use fare_filing::{FilingFault, filing_text, read_filing};
-use fare_law::{
-    Action, ArrayVec, Basis, Carrier, Fare, FareKey, FareKind, Filing, List, Mem, Place,
-};
+use fare_law::List;
 use rule_text::RuleFault;
-use std::alloc::{AllocError, Global};
+use std::alloc::Global;
 use std::test::Fail;
-
-// The filing of the one-way case.
-const ONE_WAY: &[u8] =
-    br#"{"actions":[{"put_fare":{"carrier":"QX","from":"LON","to":"NYC","basis":"Y1","class":"Y","kind":"O","amount":20000,"rule":0}}]}"#;
-
-// The fare that it puts.
-fn one_way_fare() -> Fare {
-    let mut basis = ArrayVec::new();
-    basis.push(b'Y');
-    basis.push(b'1');
-    Fare {
-        key: FareKey {
-            carrier: Carrier(*b"QX"),
-            from: Place(*b"LON"),
-            to: Place(*b"NYC"),
-            basis: Basis(basis),
-        },
-        class: 24,
-        kind: FareKind::O,
-        amount: 20000,
-        rule: 0,
-    }
-}
-
-// The one fare that a filing puts, if it does nothing else.
-fn only_fare(filing: &Filing) -> Option<&Fare> {
-    match filing.actions.as_slice() {
-        [Action::PutFare(fare)] => Some(fare),
-        _ => None,
-    }
-}
-
-#[test]
-fn reads_a_filing(rt: HostRuntime) -> Result<(), Fail> {
-    let filing = read_filing(rt.alloc(), ONE_WAY).expect(&rt, "a filing");
-    assert_eq!(rt; only_fare(&filing), Some(&one_way_fare()));
-    Ok(())
-}
 
 // The text that is written for what a text spells.
 fn written(alloc: Global, text: &[u8]) -> Result<List<u8>, FilingFault> {
@@ -224,39 +184,6 @@ fn names_the_first_fault(rt: HostRuntime) -> Result<(), Fail> {
     ];
     for (name, text, expected) in cases {
         assert_eq!(rt; fault(rt.alloc(), text), Some(expected), "{name}");
-    }
-    Ok(())
-}
-
-// A filing of so many actions of this text.
-fn repeated(alloc: Global, action: &str, count: usize) -> Result<String, AllocError> {
-    let mut text = String::from_str(alloc, "{\"actions\":[")?;
-    for i in 0..count {
-        if i != 0 {
-            text.push_str(",")?;
-        }
-        text.push_str(action)?;
-    }
-    text.push_str("]}")?;
-    Ok(text)
-}
-
-#[test]
-fn counts_actions(rt: HostRuntime) -> Result<(), Fail> {
-    let one = r#"{"drop_rule":{"carrier":"QX","rule":1}}"#;
-    let cases: [(&str, &str, usize, Option<FilingFault>); 3] = [
-        ("5,000 actions", one, 5000, None),
-        ("5,000 of no form", "{}", 5000, Some(shape(1))),
-        (
-            "one too many, before any is judged",
-            "{}",
-            5001,
-            Some(shape(0)),
-        ),
-    ];
-    for (name, action, count, expected) in cases {
-        let text = repeated(rt.alloc(), action, count).expect(&rt, "memory");
-        assert_eq!(rt; fault(rt.alloc(), text.as_bytes()), expected, "{name}");
     }
     Ok(())
 }

@@ -20,8 +20,6 @@ mod parts;
 #[cfg(test)]
 mod readers;
 #[cfg(test)]
-mod requests;
-#[cfg(test)]
 mod rules;
 #[cfg(test)]
 mod runs;

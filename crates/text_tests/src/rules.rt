@@ -2,10 +2,7 @@
 ghost use Rattle.std.specs.Prelude.{IfOk, IfSome};
 ghost use Rattle.fare_law.specs.RuleLimits.{IsRule};
 
-use fare_law::{
-    ArrayVec, Carrier, CombineRule, DayRange, DayTime, EndOnEnd, FlightRange, FlightRule, Mem,
-    MinStay, Partners, Place, Rule, StopRule, Surcharge, TransferRule, TravelRule, UnitKind,
-};
+use fare_law::{Mem, Rule};
 use json_form::read_value;
 use rule_text::{RuleFault, read_rule, rule_value};
 use std::alloc::Global;
@@ -16,88 +13,6 @@ fn read(alloc: Global, text: &[u8]) -> Result<Option<Result<Rule, RuleFault>>, M
     ensures { IfOk result (λ found. IfSome found (λ told. IfOk told IsRule)) }
 {
     Ok(read_value(alloc, text)?.map(|value| read_rule(alloc, &value)))
-}
-
-// The days from 2031-01-01 to 2031-06-30.
-fn half_year() -> ArrayVec<DayRange, 8> {
-    let mut ranges = ArrayVec::new();
-    ranges.push(DayRange {
-        first: 22280,
-        last: 22460,
-    });
-    ranges
-}
-
-// The categories 2 to 7 of the rule below.
-fn days_and_flights() -> Rule {
-    let mut days = ArrayVec::new();
-    days.push(1);
-    days.push(7);
-    let mut flights = ArrayVec::new();
-    flights.push(FlightRange {
-        carrier: Carrier(*b"QX"),
-        low: 100,
-        high: 101,
-    });
-    Rule {
-        cat2: Some(DayTime {
-            days,
-            from: 390,
-            to: 1439,
-        }),
-        cat3: Some(half_year()),
-        cat4: Some(FlightRule {
-            allow: false,
-            flights,
-        }),
-        cat5: Some(14),
-        cat6: Some(MinStay {
-            days: 3,
-            sunday: true,
-        }),
-        cat7: Some(365),
-        ..Default::default()
-    }
-}
-
-// A rule that has each category.
-fn whole_rule() -> Rule {
-    let mut places = ArrayVec::new();
-    places.push(Place(*b"DUB"));
-    let mut kinds = ArrayVec::new();
-    kinds.push(UnitKind::RoundTrip);
-    kinds.push(UnitKind::Circle);
-    let mut surcharges = ArrayVec::new();
-    surcharges.push(Surcharge {
-        carrier: Carrier(*b"QX"),
-        low: 101,
-        high: 9999,
-        first: 22341,
-        last: 22341,
-        amount: 1500,
-    });
-    Rule {
-        cat8: Some(StopRule {
-            max: 2,
-            charge: 1_000_000,
-            places: Some(places),
-        }),
-        cat9: Some(TransferRule {
-            max: 3,
-            online: false,
-        }),
-        cat10: Some(CombineRule {
-            kinds,
-            partners: Partners::SameRule,
-            end_on_end: EndOnEnd::SameCarrier,
-        }),
-        cat12: Some(surcharges),
-        cat14: Some(TravelRule {
-            ranges: Some(half_year()),
-            by: Some(22369),
-        }),
-        ..days_and_flights()
-    }
 }
 
 // The value of that rule, as the object of a `put_rule`.
@@ -113,13 +28,6 @@ const WHOLE: &[u8] = br#"{"carrier":"QX","rule":1,
     "cat10":{"kinds":["round_trip","circle"],"partners":"same_rule","end_on_end":"same_carrier"},
     "cat12":[{"carrier":"QX","low":101,"high":9999,"first":"2031-03-03","last":"2031-03-03","amount":1500}],
     "cat14":{"ranges":[["2031-01-01","2031-06-30"]],"by":"2031-03-31"}}"#;
-
-#[test]
-fn reads_rules(rt: HostRuntime) -> Result<(), Fail> {
-    assert_eq!(rt; read(rt.alloc(), WHOLE)?, Some(Ok(whole_rule())));
-    assert_eq!(rt; read(rt.alloc(), b"{}")?, Some(Ok(Rule::default())));
-    Ok(())
-}
 
 #[test]
 fn names_the_first_fault(rt: HostRuntime) -> Result<(), Fail> {
