@@ -18,12 +18,14 @@ use std::collections::HashMap;
 
 /// A search of which no run is drawn.
 fn begun<S: Steps>(alloc: Global, steps: &mut S, root: u64, most: usize) -> Result<Search, Mem>
+    requires ready { S.ready steps.old }
     requires root { root < S.nodes steps.old }
     requires laws { StepLaws (S.has steps.old) (S.nodes steps.old) (S.level steps.old) }
     ensures search { IfOk result (IsBegun (S.has steps.old) root) }
     ensures same { Same (S.has steps.old) (S.has steps.new) }
     ensures nodes { S.nodes steps.new ≡ S.nodes steps.old }
     ensures level { (n : ℕ) → S.level steps.new n ≡ S.level steps.old n }
+    ensures later { S.later steps.old steps.new }
 {
     let mut kept = Kept {
         most,
@@ -44,6 +46,7 @@ fn begun<S: Steps>(alloc: Global, steps: &mut S, root: u64, most: usize) -> Resu
 /// Draws the next run, where there is one. The branch that comes first is taken out; on the way to the end of
 /// its least run the next step of each node is put to wait.
 fn draw<S: Steps>(alloc: Global, steps: &mut S, search: &mut Search) -> Result<bool, Mem>
+    requires ready { S.ready steps.old }
     requires root { search.old.root < S.nodes steps.old }
     requires laws { StepLaws (S.has steps.old) (S.nodes steps.old) (S.level steps.old) }
     requires few { length search.old.drawn < 2 ^ 32 }
@@ -54,6 +57,7 @@ fn draw<S: Steps>(alloc: Global, steps: &mut S, search: &mut Search) -> Result<b
     ensures same { Same (S.has steps.old) (S.has steps.new) }
     ensures nodes { S.nodes steps.new ≡ S.nodes steps.old }
     ensures level { (n : ℕ) → S.level steps.new n ≡ S.level steps.old n }
+    ensures later { S.later steps.old steps.new }
 {
     let Some(branch) = pop(&mut search.waiting) else {
         return Ok(false);
@@ -111,12 +115,14 @@ pub fn best_steps<S: Steps>(
     root: u64,
     k: u32,
 ) -> Result<List<Derivation>, Mem>
+    requires ready { S.ready steps.old }
     requires root { root < S.nodes steps.old }
     requires laws { StepLaws (S.has steps.old) (S.nodes steps.old) (S.level steps.old) }
     ensures least { IfOk result (LeastRuns (S.has steps.old) root k) }
     ensures same { Same (S.has steps.old) (S.has steps.new) }
     ensures nodes { S.nodes steps.new ≡ S.nodes steps.old }
     ensures level { (n : ℕ) → S.level steps.new n ≡ S.level steps.old n }
+    ensures later { S.later steps.old steps.new }
 {
     let mut search = begun(alloc, steps, root, k as usize + 1)?;
     for turn in 0..k {

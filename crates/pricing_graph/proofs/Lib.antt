@@ -1,2 +1,9 @@
 pub mod Whole
 pub mod Reordered
+pub mod Keyed
+pub mod Matching
+pub mod NodeLaws
+pub mod KnownGraph
+pub mod RunsRead
+pub mod RootNode
+pub mod Answered

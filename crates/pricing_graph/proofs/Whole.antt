@@ -30,7 +30,7 @@ use Rattle.pricing_graph.specs.Graphs.{AreFound, IsTooLarge, fault_as}
 use Rattle.search_steps.specs.Leads.{IsRoot, MovesCostLess, leads_of}
 use Rattle.search_steps.proofs.Bridge.{reached_is}
 
-first_position : (b : Book) (slices : List Slice) → 1 ≤ length slices → (at : Position) × (before_slice b 0 (slice_get slices 0) None ≡ Some at)
+pub first_position : (b : Book) (slices : List Slice) → 1 ≤ length slices → (at : Position) × (before_slice b 0 (slice_get slices 0) None ≡ Some at)
 first_position b [] h = absurd (omega (arith, h))
 first_position b (s ∷ slices) h = (_, refl)
 

@@ -4,6 +4,7 @@ ghost use Rattle.fare_component.specs.Keys.{Asked, asked};
 ghost use Rattle.fare_law.specs.declared.market.OfferKey.{OfferKey};
 ghost use Rattle.fare_law.specs.Limits.{IsRequest};
 ghost use Rattle.graph_walk.specs.Steps.{AreLive, rows_of};
+ghost use Rattle.indexmap.specs.IndexMap.{index_of};
 ghost use Rattle.pricing_graph.specs.Graphs.{IsGraph, IsTooLarge};
 ghost use Rattle.residual_keys.specs.AskedKeys.{Keys};
 ghost use Rattle.residual_keys.specs.Searches.{ReachesMoreThan};
@@ -78,8 +79,18 @@ impl Graph {
         }
     }
 
+    /// The node of a key. None where it isn't one of the graph.
+    pub(crate) fn node(&self, key: Key) -> Option<u64>
+        ensures { result ≡ index_of ⟦<Key as PartialEq>⟧.eq self.now.rows key }
+    {
+        match self.rows.get_index_of(&key) {
+            Some(node) => Some(node as u64),
+            None => None,
+        }
+    }
+
     /// The key of a node.
-    fn key(&self, node: u32) -> Key
+    pub(crate) fn key(&self, node: u32) -> Key
         requires { node < length self.now.rows.entries }
         ensures { option_map (λ row. row.0) (slice_get self.now.rows.entries node) ≡ Some result }
     {

@@ -2,9 +2,16 @@
 //! price of a run from it.
 #![tactic(auto)]
 
+mod bounds;
+mod drawing;
+mod drawn;
 mod fault;
+mod giving;
 mod graph;
+mod laws;
+mod moving;
 mod rows;
 
+pub use drawn::DrawnRun;
 pub use fault::GraphFault;
 pub use graph::Graph;

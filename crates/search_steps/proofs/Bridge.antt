@@ -79,6 +79,13 @@ run_on b q x y m (n ∷ ms) move rest price (ends fs p us h e l) r s = absurd (n
 run_on b q x y m (n ∷ ms) move rest price (leads fs p at us h e l) r s =
     (fs, p, at, us, rest, h, subst (λ z. Run b q z (n ∷ ms) rest) (same_at y (record { at = at; units = us; part = part_with x.part (begins m.role) p }) l) r, omega (arith, e, s))
 
+-- a move that ends the journey is a run, and one that leads on a longer run
+pub chosen_ends : (b : Book) (q : Request) (x : State) (m : Move) (price total : ℕ) → IsChosen b q x (record { mv = m; price = price; next = Done }) → total ≡ price → Run b q x (m ∷ []) total
+chosen_ends b q x m price total c e = run_ends b q x m price 0 total (opened b q x m price Done c) refl (omega (arith, e))
+
+pub chosen_on : (b : Book) (q : Request) (x y : State) (m : Move) (ms : List Move) (price rest total : ℕ) → IsChosen b q x (record { mv = m; price = price; next = At y }) → Run b q y ms rest → total ≡ price + rest → Run b q x (m ∷ ms) total
+chosen_on b q x y m ms price rest total c run e = run_on b q x y m ms price rest total (opened b q x m price (At y) c) run e
+
 run_goes : (b : Book) (q : Request) (x : State) (next : Option State) (move rest price : ℕ) → leads_of b q x next move → RunIf b q next rest → price ≡ move + rest → RunIf b q (Some x) price
 run_goes b q x None move rest price l r s = (l.0 ∷ [], run_ends b q x l.0 move rest price (opened b q x l.0 move Done l.1) r s)
 run_goes b q x (Some y) move rest price l r s = (l.0 ∷ r.0, run_on b q x y l.0 r.0 move rest price (opened b q x l.0 move (At y) l.1) r.1 s)

@@ -12,7 +12,7 @@ pub trait Bounds {
     ghost bound: { Self → AnyKey → Maybe ℕ };
 
     /// The bound of a residual. None where it has none, or isn't known.
-    fn bound(&self, key: Key) -> Option<u64>
+    fn bound_of(&self, key: Key) -> Option<u64>
         ensures { result ≡ bound self.now key };
 }
 
@@ -20,7 +20,7 @@ pub trait Bounds {
 impl Bounds for IndexMap<Key, Option<u64>> {
     ghost bound = { λ rows key. option_and_then (λ bound. bound) (get ⟦<Key as PartialEq>⟧.eq rows key) };
 
-    fn bound(&self, key: Key) -> Option<u64> {
+    fn bound_of(&self, key: Key) -> Option<u64> {
         self.get(&key).copied().flatten()
     }
 }

@@ -51,7 +51,7 @@ fn counted_move<B: Bounds>(chosen: &Chosen, bounds: &B) -> Option<LeastMove<Key>
         Next::At(residual) => {
             residual.keeps();
             let key = Key { residual };
-            (Some(key), bounds.bound(key)?)
+            (Some(key), bounds.bound_of(key)?)
         }
     };
     Some(LeastMove {

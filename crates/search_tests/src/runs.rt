@@ -1,5 +1,5 @@
 //! The least runs of a graph of switches.
-ghost use Rattle.std.specs.Prelude.{◌≡◌, IfOk};
+ghost use Rattle.std.specs.Prelude.{◌≡◌, ⊤, IfOk};
 ghost use Rattle.search_tests.specs.Switches.{HasSwitch, switch};
 
 use best_steps::{Step, Steps, best_steps};
@@ -34,6 +34,10 @@ impl Steps for Switches {
 
     ghost level = { λ s n. n };
 
+    ghost ready = { λ s. ⊤ };
+
+    ghost later = { λ s t. ⊤ };
+
     fn first_steps(&mut self, alloc: Global, node: u64, wanted: usize) -> Result<List<Step>, Mem> {
         let off = switch_by(alloc, node, 0)?;
         let on = switch_by(alloc, node, 1)?;
@@ -43,6 +47,12 @@ impl Steps for Switches {
         both.truncate(wanted);
         Ok(List::from_vec(both))
     }
+
+    ghost unasked = { λ s. tt };
+
+    ghost still_ready = { λ s t l r. tt };
+
+    ghost further = { λ s t u l m. tt };
 }
 
 /// Asserts that these are the `k` least runs from a node of `Switches`: their prices, and their words joined.

@@ -20,11 +20,19 @@ down-init g c =
       same = same_self has;
       nodes = refl;
       level = λ n. refl;
+      later = g.met.S.Steps.unasked c.args.steps.now;
       root = refl;
       drawn = refl;
       kept = c.requires.search.kept;
       drawing = subst (λ z. Drawing has s.root (length s.drawn) (StandsIn has (opens s.waiting)) (Stands has (opened b.cost z b.node b.place b.step)) (opened b.cost z b.node b.place b.step) ws) (sym c.cut-front.ensures) d;
     }
+
+pub wait_at-requires-clause-ready : goal.wait_at-requires-clause-ready
+wait_at-requires-clause-ready g c = g.met.S.Steps.still_ready c.args.steps.now c.down.steps c.down.invariant.later c.requires.ready
+
+pub step_at-requires-clause-ready : goal.step_at-requires-clause-ready
+step_at-requires-clause-ready g c =
+    g.met.S.Steps.still_ready c.args.steps.now c.wait_at.new.steps (g.met.S.Steps.further c.args.steps.now c.down.steps c.wait_at.new.steps c.down.invariant.later c.wait_at.ensures.later) c.requires.ready
 
 pub wait_at-requires-clause-node : goal.wait_at-requires-clause-node
 wait_at-requires-clause-node g c =
@@ -137,6 +145,7 @@ down-preserved g c =
       same = same_more has (g.S.Steps.has c.wait_at.new.steps) (g.S.Steps.has c.step_at.new.steps) same c.step_at.ensures.same;
       nodes = c.step_at.ensures.nodes ∙ c.wait_at.ensures.nodes ∙ inv.nodes;
       level = λ n. c.step_at.ensures.level n ∙ c.wait_at.ensures.level n ∙ inv.level n;
+      later = g.met.S.Steps.further c.args.steps.now c.wait_at.new.steps c.step_at.new.steps (g.met.S.Steps.further c.args.steps.now c.down.steps c.wait_at.new.steps inv.later c.wait_at.ensures.later) c.step_at.ensures.later;
       root = inv.root;
       drawn = inv.drawn;
       kept = kept_same (g.S.Steps.has c.wait_at.new.steps) has (same_back has (g.S.Steps.has c.wait_at.new.steps) same) c.step_at.new.kept c.in_ok-first-in-Some-next.ensures.kept;
