@@ -1,0 +1,6 @@
+//! The judgement of requests.
+#![tactic(auto)]
+
+mod judging;
+
+pub use judging::request_ok;
