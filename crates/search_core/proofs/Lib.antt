@@ -1,1 +1,4 @@
+pub mod Causes
+pub mod GraphRows
 pub mod Places
+pub mod RunTickets

@@ -1,5 +1,5 @@
 -- The places that a book knows: those of its rows. Needed by the judgement of requests.
-use Rattle.std.proofs.Common.{◌≡◌, true, false, Bool, ◌||◌, List, [], ◌∷◌, is_some, if◌then◌else◌, Option, Some, Result, Ok, Err, OnOk, refl, option_map}
+use Rattle.std.proofs.Common.{◌≡◌, true, false, Bool, ◌||◌, List, [], ◌∷◌, is_some, if◌then◌else◌, Option, Some, refl, option_map}
 use Rattle.fare_law.specs.declared.names.Place.{Place}
 use Rattle.fare_law.specs.declared.rows.PlaceRow.{PlaceRow}
 use Rattle.fare_law.specs.Book.{same_place}
@@ -20,7 +20,3 @@ connect_found false row rest known e = e
 pub connect_known : (rows : List PlaceRow) (p : Place) → is_some (connect_of rows p) ≡ is_known (known_rows rows) p
 connect_known [] p = refl
 connect_known (row ∷ rows) p = connect_found (same_place p row.place) row _ _ (connect_known rows p)
-
-pub on_ok : {A E : Type 0} (r : Result A E) (P Q : Type 0) → (P → Q) → OnOk r P → OnOk r Q
-on_ok (Ok a) P Q f h = f h
-on_ok (Err e) P Q f h = tt

@@ -5,6 +5,7 @@ ghost use Rattle.fare_law.specs.Limits.{IsRequest};
 ghost use Rattle.fare_law.specs.Requests.{are_known, departs, has_window, in_century, is_known, judged, known_places, within};
 ghost use Rattle.search_core.specs.KnownPlaces.{known_rows};
 
+use crate::schedules::schedule_of;
 use fare_book::Book;
 use fare_law::{Place, Request, Slice, Why, requests_are_judged};
 use schedule_book::Schedule;
@@ -17,7 +18,7 @@ pub fn request_ok(book: &Book, request: &Request) -> Result<(), Why>
     ensures wrong { IfErr result (λ why. judged (known_places book.now) request.now ≡ Some why) }
 {
     requests_are_judged();
-    let schedule = book.timetable().schedule();
+    let schedule = schedule_of(book);
     schedule.limits();
     judge(schedule, request)
 }

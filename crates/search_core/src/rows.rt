@@ -1,0 +1,35 @@
+//! The rows of a certificate.
+ghost use Rattle.std.specs.Prelude.{◌≡◌, map, IfOk};
+ghost use Rattle.certificate.specs.CertOf.{RowsAre};
+ghost use Rattle.fare_law.specs.declared.requests.Request.{Request as Asking};
+ghost use Rattle.fare_law.specs.Book.{Book as Version};
+ghost use Rattle.graph_walk.specs.Steps.{AreLive, rows_of};
+ghost use Rattle.pricing_graph.specs.Graphs.{IsGraph};
+ghost use Rattle.search_core.specs.Answers.{node_of};
+ghost use Rattle.search_steps.specs.Keys.{live, state};
+
+use certificate::CertRow;
+use fare_component::OfferSource;
+use fare_law::{List, Mem};
+use pricing_graph::Graph;
+use search_steps::SearchSteps;
+use std::alloc::Global;
+
+/// The residuals of a graph, in order, each with its least price.
+pub fn rows_of<O: OfferSource>(
+    alloc: Global,
+    graph: &Graph,
+    steps: &SearchSteps<O>,
+) -> Result<List<CertRow>, Mem>
+    requires { AreLive (live steps.now) graph.now.rows.entries }
+    ensures nodes { IfOk result (λ rows. map node_of rows ≡ rows_of (state steps.now) graph.now.rows.entries) }
+    ensures rows { IfOk result (λ rows. (b : Version) (q : Asking) → IsGraph b q (rows_of (state steps.now) graph.now.rows.entries) → RowsAre b q rows) }
+{
+    let mut rows = List::new(alloc);
+    for node in 0..graph.size() {
+        let residual = graph.residual(steps, node);
+        let bound = graph.bound(node);
+        rows.push(CertRow { residual, bound })?;
+    }
+    Ok(rows)
+}

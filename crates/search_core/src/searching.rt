@@ -1,0 +1,70 @@
+//! The search.
+ghost use Rattle.std.specs.Prelude.{IfErr, IfOk, OnOk, ◌≡◌};
+ghost use Rattle.certificate.specs.Checks.{Checks};
+ghost use Rattle.fare_component.specs.Keys.{Asked, asked};
+ghost use Rattle.fare_law.specs.declared.market.OfferKey.{OfferKey};
+ghost use Rattle.fare_law.specs.Limits.{IsRequest};
+ghost use Rattle.residual_keys.specs.AskedKeys.{Keys};
+ghost use Rattle.residual_keys.specs.Searches.{ReachesMoreThan};
+ghost use Rattle.search_core.specs.Answers.{HasCause, IsAnswer, IsTooLarge, Searchable};
+ghost use Rattle.search_steps.specs.Cases.{IsSameCase};
+
+use crate::answering::{answer_of, answers_meet_checks};
+use crate::rows::rows_of;
+use crate::runs::answers_of;
+use crate::{Answer, SearchFault, request_ok};
+use fare_book::Book;
+use fare_component::OfferSource;
+use fare_law::Request;
+use pricing_graph::Graph;
+use search_steps::SearchSteps;
+use std::alloc::Global;
+
+/// The best lawful tickets of a request on a book, each with its price, and the certificate of the
+/// search, which meets the five checks. A request that is none is refused as `request_ok` refuses it; the
+/// search is too large exactly where more residuals are reached than the budget. After `Ok` whatever the
+/// keys of the search ask for is settled with the source of offers.
+pub fn search<O: OfferSource>(
+    alloc: Global,
+    book: &Book,
+    request: &Request,
+    budget: u32,
+    offers: &mut O,
+) -> Result<Answer, SearchFault>
+    ensures answer { IfOk result (IsAnswer book.now request.now) }
+    ensures checks { IfOk result (λ a. Checks a.certificate book.now request.now) }
+    ensures fits { OnOk result (Searchable book.now request.now budget) }
+    ensures cause { IfErr result (HasCause book.now request.now budget) }
+    ensures settled { OnOk result ((key : OfferKey) → Keys book.now request.now key → O.settled offers.new (asked key)) }
+    ensures base { O.base offers.new ≡ O.base offers.old }
+    ensures stays { (a : Asked) → O.settled offers.old a → O.settled offers.new a }
+{
+    request_ok(book, request)?;
+    answers_meet_checks(book, request);
+    let mut steps = SearchSteps::new(book, request, offers);
+    answer_by(alloc, budget, &mut steps)
+}
+
+/// The answer of these steps.
+fn answer_by<O: OfferSource>(
+    alloc: Global,
+    budget: u32,
+    steps: &mut SearchSteps<O>,
+) -> Result<Answer, SearchFault>
+    requires { IsRequest steps.old.case.request.now }
+    ensures answer { IfOk result (IsAnswer steps.old.case.book.now steps.old.case.request.now) }
+    ensures fits { OnOk result (ReachesMoreThan budget steps.old.case.book.now steps.old.case.request.now → ⊥) }
+    ensures large { IfErr result (IsTooLarge steps.old.case.book.now steps.old.case.request.now budget) }
+    ensures settled { OnOk result ((key : OfferKey) → Keys steps.old.case.book.now steps.old.case.request.now key → O.settled steps.new.offers.now (asked key)) }
+    ensures same_offers { steps.new.offers.ghost_name ≡ steps.old.offers.ghost_name }
+    ensures case { IsSameCase steps.old steps.new }
+    ensures base { O.base steps.new.offers.now ≡ O.base steps.old.offers.now }
+    ensures stays { (a : Asked) → O.settled steps.old.offers.now a → O.settled steps.new.offers.now a }
+{
+    let graph = Graph::build(alloc, budget, steps)?;
+    let rows = rows_of(alloc, &graph, steps)?;
+    let case = steps.case();
+    let runs = graph.runs(alloc, steps, u32::from(case.request.best))?;
+    let answers = answers_of(alloc, runs)?;
+    Ok(answer_of(alloc, case.book, case.request, answers, rows)?)
+}
