@@ -1,4 +1,7 @@
 pub mod Numbers
-pub mod Found
-pub mod Texts
+pub mod Lines
+pub mod Cases
+pub mod Searches
+pub mod Makes
 pub mod Says
+pub mod Complete

@@ -1,8 +1,12 @@
-//! The program's top call over any source and sink: the words, the input, the answer, the status.
+//! The program's top call over any source and sink: words, input, what a command makes of it, the text that is
+//! written, the status. Each command is a module of its own, and a definition of what it makes.
 #![tactic(auto)]
 
+mod outcomes;
 mod program;
+mod searching;
 mod status;
+mod words;
 
 pub use program::run;
 pub use status::Status;

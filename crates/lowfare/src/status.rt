@@ -7,9 +7,9 @@ ghost use Rattle.lowfare.specs.Numbers.{number_of};
 pub enum Status {
     /// The command was done, and its text was written.
     Done,
-    /// The input is no case that is built.
+    /// The input is no lawful case.
     Refused,
-    /// The words are no command; nothing was read.
+    /// The words are no command line; nothing was read.
     Usage,
     /// The source failed; nothing was written.
     ReadFault,

@@ -1,0 +1,88 @@
+-- A run whose counts didn't rise has the status that is due.
+use Rattle.std.proofs.Common.{◌≡◌, ◌⊎◌, ◌≤◌, ◌<◌, ℕ, List, length, Option, Some, refl, sym, ap, subst, ◌∙◌, inl, inr, arith}
+use Rattle.fare_io.specs.Streams.{ReadsPast, ReadsWhole}
+use Rattle.whole_case.specs.Cases.{search_case}
+use Rattle.whole_case.specs.Stages.{IsOne}
+use Rattle.lowfare.specs.Complete.{IsComplete, NoneRose}
+use Rattle.lowfare.specs.Lines.{AreLine, Asks}
+use Rattle.lowfare.specs.Makes.{Owes}
+use Rattle.lowfare.specs.Says.{Due, Ends, Says, most_bytes}
+use Rattle.lowfare.specs.declared.status.Status.{Status}
+use Rattle.lowfare.specs.declared.status.Status.TheVariants.{Done, Refused, Usage, ReadFault, WriteFault, OutOfMemory, TooLarge, No, TooLong}
+use Rattle.lowfare.proofs.Owing.{made_owed, owes_one}
+use Rattle.program_words.specs.declared.commands.Command.{Command}
+
+some_same : {A : Type 0} (a b : A) → Some a ≡ Some b → a ≡ b
+some_same a b e = cc
+
+-- memory ran out, or a text is due with the status
+settled : (status : Status) (words : List (List ℕ)) (left left' held held' : Option (List ℕ)) (r r' w w' s s' : ℕ) → NoneRose r r' w w' s s' → Says status words left left' held held' r r' w w' s s'
+    → (status ≡ OutOfMemory) ⊎ ((text : List ℕ) × Due status words left left' text)
+settled Done words left left' held held' r r' w w' s s' n h = inr (h.text, h.due)
+settled Refused words left left' held held' r r' w w' s s' n h = inr (h.text, h.due)
+settled Usage words left left' held held' r r' w w' s s' n h = inr (h.text, h.due)
+settled TooLarge words left left' held held' r r' w w' s s' n h = inr (h.text, h.due)
+settled No words left left' held held' r r' w w' s s' n h = inr (h.text, h.due)
+settled TooLong words left left' held held' r r' w w' s s' n h = inr (h.text, h.due)
+settled ReadFault words left left' held held' r r' w w' s s' n h = absurd (n.reads h.1)
+settled WriteFault words left left' held held' r r' w w' s s' n h = elim h.cause [ inl a ↦ absurd (n.writes a) | inr b ↦ absurd (n.stalls b) ]
+settled OutOfMemory words left left' held held' r r' w w' s s' n h = inl refl
+
+-- what a text that is due says of its status: it is one of words, of too many bytes, or of a command
+abbrev Cause : Status → List (List ℕ) → Option (List ℕ) → Option (List ℕ) → List ℕ → Type 0
+Cause status words left left' text =
+    ((status ≡ Usage) × (AreLine words → ⊥)) ⊎ (((status ≡ TooLong) × AreLine words × ReadsPast left left' most_bytes) ⊎ Ends status words left left' text)
+
+cause_of : (status : Status) (words : List (List ℕ)) (left left' : Option (List ℕ)) (text : List ℕ) → Due status words left left' text → Cause status words left left' text
+cause_of Done words left left' text d = inr (inr d)
+cause_of Refused words left left' text d = inr (inr d)
+cause_of TooLarge words left left' text d = inr (inr d)
+cause_of No words left left' text d = inr (inr d)
+cause_of Usage words left left' text d = inl (refl, d.0)
+cause_of TooLong words left left' text d = inr (inl (refl, d.0, d.1))
+cause_of ReadFault words left left' text d = absurd d
+cause_of WriteFault words left left' text d = absurd d
+cause_of OutOfMemory words left left' text d = absurd d
+
+-- all bytes were read, and they are these
+read_are : (left left' : Option (List ℕ)) (read bytes : List ℕ) → ReadsWhole left left' read → left ≡ Some bytes → read ≡ bytes
+read_are left left' read bytes h e = (subst (λ x. ReadsWhole x left' read) e h).0
+
+too_many : (left left' : Option (List ℕ)) (bytes : List ℕ) → ReadsPast left left' most_bytes → left ≡ Some bytes → most_bytes < length bytes
+too_many left left' bytes h e = (subst (λ x. ReadsPast x left' most_bytes) e h).0
+
+module _ (one : (best at : Option ℕ) (bytes : List ℕ) → IsOne (search_case best at bytes)) (status : Status) (words : List (List ℕ)) (left left' : Option (List ℕ)) (text : List ℕ) where
+  of_words : Cause status words left left' text → (AreLine words → ⊥) → status ≡ Usage
+  of_words (inl (e, n)) none = e
+  of_words (inr (inl (e, line, past))) none = absurd (none line)
+  of_words (inr (inr d)) none = absurd (none (d.command, d.asked))
+
+  of_length : Cause status words left left' text → (bytes : List ℕ) → AreLine words → left ≡ Some bytes → most_bytes < length bytes → status ≡ TooLong
+  of_length (inl (e, n)) bytes line known long = absurd (n line)
+  of_length (inr (inl (e, also, past))) bytes line known long = e
+  of_length (inr (inr d)) bytes line known long =
+      let same = ap length (read_are left left' d.bytes bytes d.read known) in
+      absurd (omega (arith, d.fits, same, long))
+
+  of_command : Cause status words left left' text → (c : Command) (bytes : List ℕ) (due : Status) → Asks words c → left ≡ Some bytes → length bytes ≤ most_bytes → Owes c bytes due → status ≡ due
+  of_command (inl (e, n)) c bytes due asks known fits owes = absurd (n (c, asks))
+  of_command (inr (inl (e, also, past))) c bytes due asks known fits owes = absurd (omega (arith, too_many left left' bytes past known, fits))
+  of_command (inr (inr d)) c bytes due asks known fits owes =
+      let line = some_same d.command c (sym d.asked.line ∙ asks.line) in
+      let made = made_owed d.command d.bytes status text d.asked.built d.made in
+      owes_one one c bytes status due asks.built (subst (λ x. Owes c x status) (read_are left left' d.bytes bytes d.read known) (subst (λ x. Owes x d.bytes status) line made)) owes
+
+pub complete : ((best at : Option ℕ) (bytes : List ℕ) → IsOne (search_case best at bytes))
+    → (status : Status) (words : List (List ℕ)) (left left' held held' : Option (List ℕ)) (r r' w w' s s' : ℕ) → Says status words left left' held held' r r' w w' s s'
+    → NoneRose r r' w w' s s' → IsComplete status words left
+complete one status words left left' held held' r r' w w' s s' says none = by (settled status words left left' held held' r r' w w' s s' none says)
+  where
+    by : (status ≡ OutOfMemory) ⊎ ((text : List ℕ) × Due status words left left' text) → IsComplete status words left
+    by (inl e) = record { usage = λ n. inr e; long = λ bytes line known long. inr e; owed = λ c bytes due asks known fits owes. inr e }
+    by (inr (text, due)) =
+        let cause = cause_of status words left left' text due in
+        record {
+          usage = λ n. inl (of_words one status words left left' text cause n);
+          long = λ bytes line known long. inl (of_length one status words left left' text cause bytes line known long);
+          owed = λ c bytes due asks known fits owes. inl (of_command one status words left left' text cause c bytes due asks known fits owes);
+        }

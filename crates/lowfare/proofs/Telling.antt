@@ -1,0 +1,48 @@
+-- The text of an answer tells the best tickets of its case; and a request that is right is within its limits.
+use Rattle.std.proofs.Common.{◌≡◌, ℕ, List, [], ◌∷◌, ◌++◌, map, codes, decimal, ap, ◌∙◌, append_assoc}
+use Rattle.answer_text.specs.Answer.{AnswerText, IsRight}
+use Rattle.certificate.specs.Checks.{Checks}
+use Rattle.certificate_text.specs.CertText.{CertText}
+use Rattle.fare_law.specs.Best.{Costs}
+use Rattle.fare_law.specs.Book.{Book}
+use Rattle.fare_law.specs.Lawful.{Lawful}
+use Rattle.fare_law.specs.Limits.{IsPlace, IsPlaceRow}
+use Rattle.fare_law.specs.Lists.{Each}
+use Rattle.fare_law.specs.declared.requests.Request.{Request}
+use Rattle.fare_law.specs.declared.rows.PlaceRow.{PlaceRow}
+use Rattle.fare_law.specs.declared.tickets.Priced.{Priced}
+use Rattle.lowfare.specs.Searches.{TellsBest}
+use Rattle.search_core.specs.Answers.{IsAnswer}
+use Rattle.search_core.specs.declared.outcome.Answer.{Answer}
+use Rattle.whole_case.specs.declared.search.SearchCase.{SearchCase}
+
+-- lawful tickets at their prices are right
+are_right : (b : Book) (q : Request) (tickets : List Priced) → Each (λ t. Lawful t b q) (map (λ p. p.ticket) tickets) → Each (λ t. Costs t.ticket b q t.price) tickets → Each (IsRight b q) tickets
+are_right b q [] lawful costs = tt
+are_right b q (t ∷ ts) lawful costs = ((lawful.0, costs.0), are_right b q ts lawful.1 costs.1)
+
+-- the version's line, the answer and the certificate, which were added one after another
+joined : (a b c answer proof head mid text : List ℕ) → head ≡ a ++ (b ++ c) → mid ≡ head ++ answer → text ≡ mid ++ proof → text ≡ a ++ (b ++ (c ++ (answer ++ proof)))
+joined a b c answer proof head mid text h m t =
+    t ∙ ap (λ x. x ++ proof) (m ∙ ap (λ x. x ++ answer) h) ∙ append_assoc (a ++ (b ++ c)) answer proof ∙ append_assoc a (b ++ c) (answer ++ proof) ∙ ap (λ x. a ++ x) (append_assoc b c (answer ++ proof))
+
+pub tells_best : (found : SearchCase) (a : Answer) (answer proof head mid text : List ℕ) → IsAnswer found.book found.request a → Checks a.certificate found.book found.request
+    → ((q : Request) → Each (IsRight found.book q) a.tickets → AnswerText found.book q (map (λ p. p.ticket) a.tickets) answer) → CertText a.certificate proof
+    → head ≡ codes "version " ++ (decimal a.number ++ codes "\n") → mid ≡ head ++ answer → text ≡ mid ++ proof → TellsBest found text
+tells_best found a answer proof head mid text is meets told written h m t = record {
+  tickets = map (λ p. p.ticket) a.tickets;
+  best = is.best;
+  answer = answer;
+  tells = told found.request (are_right found.book found.request a.tickets is.best.each is.prices);
+  certificate = a.certificate;
+  made = is.certificate;
+  meets = meets;
+  proof = proof;
+  written = written;
+  whole = joined (codes "version ") (decimal a.number) (codes "\n") answer proof head mid text h m t ∙ ap (λ n. codes "version " ++ (decimal n ++ (codes "\n" ++ (answer ++ proof)))) is.number;
+}
+
+-- the places of rows within their limits
+pub places_formed : (rows : List PlaceRow) → Each IsPlaceRow rows → Each IsPlace (map (λ row. row.place) rows)
+places_formed [] h = tt
+places_formed (row ∷ rows) h = (h.0.place, places_formed rows h.1)

@@ -1,0 +1,25 @@
+-- The command lines of a run: those of the commands that are built.
+use Rattle.std.specs.Prelude.{◌≡◌, ℕ, List, Some, IfSome}
+use Rattle.std.specs.Int.{IsInRange}
+use Rattle.program_words.specs.Lines.{line_of}
+use Rattle.program_words.specs.declared.commands.Command.{Command}
+use Rattle.program_words.specs.declared.commands.Command.TheVariants.{Search}
+
+-- the command is built
+abbrev pub IsBuilt : Command → Type 0
+IsBuilt (Search best budget at) = Unit {0}
+IsBuilt c = ⊥
+
+-- The words are this command line.
+pub record Asks (words : List (List ℕ)) (c : Command) : Type 0 where
+  pub line : line_of words ≡ Some c
+  pub built : IsBuilt c
+
+-- the words are a command line
+abbrev pub AreLine : List (List ℕ) → Type 0
+AreLine words = (c : Command) × Asks words c
+
+-- the number of tickets of a search, where it is given, is 1 to 1,000
+abbrev pub HasRange : Command → Type 0
+HasRange (Search best budget at) = IfSome best (IsInRange 1 1000)
+HasRange c = Unit {0}

@@ -1,0 +1,30 @@
+-- What each command makes of the bytes of its input, by the status that it ends with. A command that is built later adds its lines.
+use Rattle.std.specs.Prelude.{ℕ, List}
+use Rattle.lowfare.specs.Cases.{ExceedsBudget, FitsBudget, HasRefusal}
+use Rattle.lowfare.specs.Searches.{IsRefused, IsTooLarge, Searches}
+use Rattle.lowfare.specs.declared.status.Status.{Status}
+use Rattle.lowfare.specs.declared.status.Status.TheVariants.{Done, Refused, TooLarge, No}
+use Rattle.program_words.specs.declared.commands.Command.{Command}
+use Rattle.program_words.specs.declared.commands.Command.TheVariants.{Search}
+
+-- the text that a command makes
+abbrev pub Makes : Command → List ℕ → Status → List ℕ → Type 0
+Makes (Search best budget at) bytes Done text = Searches best budget at bytes text
+Makes (Search best budget at) bytes TooLarge text = IsTooLarge best budget at bytes text
+Makes (Search best budget at) bytes Refused text = IsRefused best at bytes text
+Makes c bytes status text = ⊥
+
+-- what the bytes are, where a command is to end with this status
+abbrev pub Owes : Command → List ℕ → Status → Type 0
+Owes (Search best budget at) bytes Done = FitsBudget best budget at bytes
+Owes (Search best budget at) bytes TooLarge = ExceedsBudget best budget at bytes
+Owes (Search best budget at) bytes Refused = HasRefusal best at bytes
+Owes c bytes status = ⊥
+
+-- a status that a command ends with
+abbrev pub IsEnd : Status → Type 0
+IsEnd Done = Unit {0}
+IsEnd Refused = Unit {0}
+IsEnd TooLarge = Unit {0}
+IsEnd No = Unit {0}
+IsEnd status = ⊥

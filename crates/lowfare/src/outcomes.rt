@@ -1,0 +1,32 @@
+//! What commands make of their input.
+ghost use Rattle.std.specs.Prelude.{◌≤◌, length, IfOk};
+ghost use Rattle.lowfare.specs.Lines.{HasRange, IsBuilt};
+ghost use Rattle.lowfare.specs.Makes.{IsEnd, Makes};
+ghost use Rattle.lowfare.specs.Says.{most_bytes};
+
+use crate::Status;
+use crate::searching::searched;
+use fare_law::{List, Mem};
+use program_words::Command;
+use std::alloc::Global;
+
+/// A status with the text that is due.
+#[derive(Drop)]
+pub(crate) struct Outcome {
+    pub status: Status,
+    pub text: List<u8>,
+}
+
+/// What a command makes of the bytes of its input.
+pub(crate) fn outcome_of(alloc: Global, command: &Command, bytes: &[u8]) -> Result<Outcome, Mem>
+    requires built { IsBuilt command.now }
+    requires range { HasRange command.now }
+    requires fits { length bytes.now ≤ most_bytes }
+    ensures makes { IfOk result (λ o. Makes command.now bytes.now o.status o.text) }
+    ensures ends { IfOk result (λ o. IsEnd o.status) }
+{
+    match *command {
+        Command::Search { best, budget, at } => searched(alloc, bytes, best, budget, at),
+        _ => unreachable!(),
+    }
+}
