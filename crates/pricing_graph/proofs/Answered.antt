@@ -18,7 +18,7 @@ use Rattle.pricing_graph.specs.Givers.{step_as}
 use Rattle.pricing_graph.specs.NodeSteps.{BoundIn, HasNodeStep, IsNextNode}
 use Rattle.pricing_graph.proofs.Keyed.{found_in, key_of_row, place_of, row_found, rows_stay, state_in, still_live}
 use Rattle.pricing_graph.proofs.Matching.{matched_least}
-use Rattle.pricing_graph.proofs.NodeLaws.{one_node, some_same}
+use Rattle.pricing_graph.proofs.NodePlaces.{one_node, some_same}
 
 module _ {K : Type 0} (b : Book) (q : Request) (live : K → Type 0) (state : K → State) (same : K → K → Bool) (es : List (K × Option ℕ)) (alive : AreLive live es) (tells : TellsStates live state same)
     (different : AllDifferent (states (rows_of state es))) where

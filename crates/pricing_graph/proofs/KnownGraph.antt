@@ -1,5 +1,5 @@
 -- What is known of the graph of a search: its states are what moves reach, each once, with the least prices of runs.
-use Rattle.std.proofs.Common.{◌≡◌, ◌≢◌, ◌⊎◌, ◌∙◌, ℕ, ◌+◌, ◌*◌, ◌≤◌, ◌<◌, ◌^◌, List, [], ◌∷◌, ◌++◌, length, slice_get, Option, Some, None, refl, sym, ap, subst, inl, inr, arith}
+use Rattle.std.proofs.Common.{◌≡◌, ◌≢◌, ◌⊎◌, ◌∙◌, ℕ, ◌≤◌, List, [], ◌∷◌, ◌++◌, length, Option, Some, None, refl, sym, ap, subst, inl, inr, arith}
 use Rattle.fare_law.specs.declared.flights.Flight.{Flight}
 use Rattle.fare_law.specs.declared.moves.Move.{Move}
 use Rattle.fare_law.specs.declared.requests.Request.{Request}
@@ -9,7 +9,7 @@ use Rattle.fare_law.specs.Book.{Book}
 use Rattle.fare_law.specs.Codes.{move_code}
 use Rattle.fare_law.specs.Limits.{HasKeys, IsRequest}
 use Rattle.fare_law.specs.RuleLimits.{IsRule}
-use Rattle.fare_law.specs.Lists.{AllDifferent, Each, EachPair, IsIn}
+use Rattle.fare_law.specs.Lists.{AllDifferent, EachPair, IsIn}
 use Rattle.fare_law.specs.Parts.{price_of, stopover_charge, surcharges}
 use Rattle.flight_paths.specs.declared.positions.Position.{Position}
 use Rattle.flight_paths.specs.Positions.{Flies}
@@ -18,7 +18,7 @@ use Rattle.graph_walk.specs.Walks.Reached.{further}
 use Rattle.residual_keys.specs.declared.residual.Chosen.{Chosen}
 use Rattle.residual_keys.specs.declared.residual.Next.TheVariants.{At}
 use Rattle.residual_keys.specs.OneNext.{MoveLeavesOne}
-use Rattle.residual_keys.specs.Residuals.{Moves, Run, State, begins, no_part, part_with}
+use Rattle.residual_keys.specs.Residuals.{Moves, State, begins, no_part, part_with}
 use Rattle.residual_keys.specs.ResidualOrder.{IsStrictOrder, StateBefore}
 use Rattle.residual_keys.specs.Searches.{IsLeast, Least}
 use Rattle.residual_keys.specs.Short.{ReachedFits}
@@ -30,7 +30,7 @@ use Rattle.search_steps.proofs.Bridge.{reached_is}
 use Rattle.ticket_order.specs.Coding.{Apart, Coded}
 use Rattle.pricing_graph.specs.Graphs.{IsGraph}
 use Rattle.pricing_graph.specs.NodeSteps.{BoundIn}
-use Rattle.pricing_graph.proofs.NodeLaws.{Known, least_one}
+use Rattle.pricing_graph.proofs.NodeMoves.{Known, least_one}
 use Rattle.pricing_graph.proofs.Whole.{first_position, low_moves}
 
 -- what holds of the moves of a search

@@ -2,6 +2,9 @@ pub mod Whole
 pub mod Reordered
 pub mod Keyed
 pub mod Matching
+pub mod NodePlaces
+pub mod NodeMoves
+pub mod StepRuns
 pub mod NodeLaws
 pub mod KnownGraph
 pub mod RunsRead

@@ -1,9 +1,8 @@
 -- Runs of steps from the root's node, read as moves, are runs from the root; and what runs cost.
-use Rattle.std.proofs.Common.{◌≡◌, ◌∙◌, ℕ, suc, ◌+◌, ◌*◌, ◌≤◌, ◌<◌, ◌^◌, List, [], ◌∷◌, ◌++◌, length, map, slice_get, Option, Some, None, refl, sym, ap, subst, arith}
+use Rattle.std.proofs.Common.{◌≡◌, ◌∙◌, ℕ, suc, ◌*◌, ◌≤◌, ◌<◌, ◌^◌, List, [], ◌∷◌, length, map, Option, Some, None, refl, sym, ap, subst, arith}
 use Rattle.best_k.specs.declared.lattice.Derivation.{Derivation}
 use Rattle.best_k.specs.Derivations.{Under}
-use Rattle.best_steps.specs.Runs.{IsRun, LeastRuns, price_of as steps_price, word_of}
-use Rattle.fare_law.specs.declared.flights.Flight.{Flight}
+use Rattle.best_steps.specs.Runs.{IsRun, LeastRuns}
 use Rattle.fare_law.specs.declared.moves.Move.{Move}
 use Rattle.fare_law.specs.declared.requests.Request.{Request}
 use Rattle.fare_law.specs.Best.{Before}
@@ -25,7 +24,8 @@ use Rattle.pricing_graph.specs.declared.drawn.DrawnRun.{DrawnRun}
 use Rattle.pricing_graph.specs.DrawnRuns.{HasMoves, IsReadAs, run_of_drawn}
 use Rattle.pricing_graph.specs.NodeSteps.{BoundIn, HasNodeStep, IsRootNode}
 use Rattle.pricing_graph.proofs.Matching.{matched_least}
-use Rattle.pricing_graph.proofs.NodeLaws.{Known, ends_chosen, goes_chosen, run_steps, steps_run}
+use Rattle.pricing_graph.proofs.NodeMoves.{Known, ends_chosen, goes_chosen}
+use Rattle.pricing_graph.proofs.StepRuns.{run_steps, steps_run}
 
 pub as_many_nodes : {X : Type 0} (nodes : List (X × Option ℕ)) → length (states nodes) ≡ length nodes
 as_many_nodes [] = refl

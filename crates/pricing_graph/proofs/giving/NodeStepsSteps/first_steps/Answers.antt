@@ -1,10 +1,8 @@
-use Rattle.std.proofs.Common.{◌≡◌, ◌∙◌, ◌<◌, ◌^◌, ℕ, List, Option, length, map, option_and_then, sym, ap, subst, arith}
+use Rattle.std.proofs.Common.{◌≡◌, ◌∙◌, ◌<◌, ◌^◌, map, option_and_then, sym, ap, subst, arith}
 use Rattle.std.specs.Map.{lookup}
 use Rattle.std.proofs.lemmas.Result.{IfOk-weaker}
-use Rattle.best_steps.specs.declared.steps.Step.{Step}
 use Rattle.best_steps.specs.Runs.{Sooner}
-use Rattle.fare_law.specs.Lists.{AllDifferent, Each, KLeast}
-use Rattle.graph_walk.specs.Walks.{states}
+use Rattle.fare_law.specs.Lists.{Each, KLeast}
 use Rattle.indexmap.specs.IndexMap.{index_of}
 use Rattle.residual_keys.specs.Written.{InLimits}
 use Rattle.search_steps.specs.contracts.key.KeyPartialEq.TheImpl as key

@@ -1,9 +1,9 @@
-use Rattle.std.proofs.Common.{◌≡◌, ◌∙◌, Some, sym, subst}
+use Rattle.std.proofs.Common.{◌∙◌, sym, subst}
 use Rattle.graph_walk.specs.Steps.{rows_of}
 use Rattle.search_steps.specs.contracts.key.KeyPartialEq.TheImpl as key
 use Rattle.search_steps.specs.Keys.{state}
 use Rattle.pricing_graph.specs.NodeSteps.{IsRootNode}
-use Rattle.pricing_graph.proofs.NodeLaws.{some_same}
+use Rattle.pricing_graph.proofs.NodePlaces.{some_same}
 use Rattle.pricing_graph.proofs.RootNode.{root_there}
 use Rattle.pricing_graph.proofs.graph.Graph.root.Goals as goal
 

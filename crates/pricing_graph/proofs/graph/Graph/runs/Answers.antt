@@ -1,9 +1,6 @@
-use Rattle.std.proofs.Common.{◌≡◌, ◌<◌, ℕ, List, length, map, sym, subst}
+use Rattle.std.proofs.Common.{◌<◌, map, sym, subst}
 use Rattle.std.proofs.lemmas.Result.{IfOk-weaker}
-use Rattle.best_k.specs.declared.lattice.Derivation.{Derivation}
 use Rattle.best_steps.specs.Runs.{IsRun}
-use Rattle.fare_law.specs.declared.requests.Request.{Request}
-use Rattle.fare_law.specs.Book.{Book}
 use Rattle.fare_law.specs.Limits.{IsRequest}
 use Rattle.fare_law.specs.Lists.{Each, Matched}
 use Rattle.graph_walk.specs.Steps.{rows_of}
@@ -12,12 +9,11 @@ use Rattle.residual_keys.specs.Searches.{BestRuns}
 use Rattle.residual_keys.specs.Written.{InLimits}
 use Rattle.residual_keys.proofs.LeastOne.{weaken}
 use Rattle.search_steps.specs.Keys.{live, state}
-use Rattle.pricing_graph.specs.declared.drawn.DrawnRun.{DrawnRun}
 use Rattle.pricing_graph.specs.DrawnRuns.{HasMoves, IsReadAs, run_of_drawn}
 use Rattle.pricing_graph.specs.Graphs.{IsGraph}
 use Rattle.pricing_graph.specs.NodeSteps.{HasNodeStep}
 use Rattle.pricing_graph.proofs.Keyed.{rows_stay}
-use Rattle.pricing_graph.proofs.NodeLaws.{at_within}
+use Rattle.pricing_graph.proofs.NodePlaces.{at_within}
 use Rattle.pricing_graph.proofs.RootNode.{graph_stays}
 use Rattle.pricing_graph.proofs.RunsRead.{as_many_nodes}
 use Rattle.pricing_graph.proofs.graph.Graph.runs.Goals as goal
