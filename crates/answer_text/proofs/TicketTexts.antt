@@ -194,9 +194,17 @@ count_same [] = refl
 count_same (p ∷ tickets) = ap suc (count_same tickets)
 
 -- the line that counts the tickets, and their texts, are the answer's text
-pub all_added : (b : Book) (q : Request) (tickets : List Priced) (old new : List ℕ) → old ≡ tickets_line (length tickets) → Added 1 (PricedText b q) tickets old new → AnswerText b q (map (λ p. p.ticket) tickets) new
-all_added b q tickets old new e h = record {
-  texts = h.texts;
-  each = of_tickets b q 1 tickets h.texts h.each;
-  written = h.whole ∙ ap (λ t. t ++ concat h.texts) (e ∙ ap tickets_line (sym (count_same tickets)));
+pub all_added : (b : Book) (q : Request) (tickets : List Priced) (old mid new : List ℕ) → mid ≡ old ++ tickets_line (length tickets) → Added 1 (PricedText b q) tickets mid new → Adds (AnswerText b q (map (λ p. p.ticket) tickets)) old new
+all_added b q tickets old mid new e h = record {
+  added = tickets_line (length tickets) ++ concat h.texts;
+  is = record {
+    texts = h.texts;
+    each = of_tickets b q 1 tickets h.texts h.each;
+    written = ap (λ n. tickets_line n ++ concat h.texts) (sym (count_same tickets));
+  };
+  whole = h.whole ∙ ap (λ t. t ++ concat h.texts) e ∙ append_assoc old (tickets_line (length tickets)) (concat h.texts);
 }
+
+-- a text that was added to none is the whole
+pub added_alone : (Is : List ℕ → Type 0) (old new : List ℕ) → old ≡ [] → Adds Is old new → Is new
+added_alone Is old new e h = subst Is (sym (h.whole ∙ ap (λ t. t ++ h.added) e)) h.is

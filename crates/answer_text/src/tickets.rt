@@ -28,11 +28,19 @@ pub fn answer_text(alloc: Global, book: &Book, tickets: &[Priced]) -> Result<Lis
     ensures { IfOk result (λ text. (request : Request) → Each (IsRight book.now request) tickets.now → AnswerText book.now request (map (λ p. p.ticket) tickets.now) text) }
 {
     let mut text = Vec::new(alloc);
-    push_tickets(&mut text, tickets.len())?;
-    for (at, priced) in tickets.iter().enumerate() {
-        push_priced(&mut text, at + 1, priced, book)?;
-    }
+    push_answer_text(&mut text, book, tickets)?;
     Ok(List::from_vec(text))
+}
+
+/// Adds that text at the end of another.
+pub fn push_answer_text(text: &mut Vec<u8>, book: &Book, tickets: &[Priced]) -> Result<(), Mem>
+    ensures { OnOk result ((request : Request) → Each (IsRight book.now request) tickets.now → Adds (AnswerText book.now request (map (λ p. p.ticket) tickets.now)) text.old.items text.new.items) }
+{
+    push_tickets(text, tickets.len())?;
+    for (at, priced) in tickets.iter().enumerate() {
+        push_priced(text, at + 1, priced, book)?;
+    }
+    Ok(())
 }
 
 // Adds the text of a ticket.

@@ -44,6 +44,12 @@ pub record CertText (c : Certificate) (text : List ℕ) : Type 0 where
   pub is : IsRequestText c.request request
   pub written : text ≡ text_of (cert_lines c request)
 
+-- The text of the certificate was added at the end.
+pub record AddsCertText (c : Certificate) (old new : List ℕ) : Type 0 where
+  pub added : List ℕ
+  pub is : CertText c added
+  pub whole : new ≡ old ++ added
+
 -- The lines are those of the certificate.
 pub record CertLines (c : Certificate) (lines : List TextLine) : Type 0 where
   pub request : List ℕ

@@ -18,4 +18,4 @@ mod writing;
 pub use certificates::{read_case_cert, read_cert};
 pub use faults::CertFault;
 pub use laws::one_reading;
-pub use writing::cert_text;
+pub use writing::{cert_text, push_cert_text};

@@ -1,6 +1,6 @@
 //! Writing a certificate.
 ghost use Rattle.std.specs.Prelude.{◌≡◌, ◌++◌, ◌∷◌, [], length, map, IfOk, OnOk};
-ghost use Rattle.certificate_text.specs.CertText.{CertText, answer_lines, head_lines, row_lines, text_of};
+ghost use Rattle.certificate_text.specs.CertText.{AddsCertText, CertText, answer_lines, head_lines, row_lines, text_of};
 ghost use Rattle.fare_law.specs.Limits.{IsRequest};
 
 use crate::lines::{push_answer, push_number_line, push_row};
@@ -14,13 +14,26 @@ pub fn cert_text(alloc: Global, certificate: &Certificate) -> Result<List<u8>, M
     requires { IsRequest certificate.now.request }
     ensures { IfOk result (CertText certificate.now) }
 {
-    let request = request_text(alloc, &certificate.request)?;
     let mut text = Vec::new(alloc);
-    push_head(&mut text, certificate.number, request.as_slice())?;
-    push_answers(&mut text, certificate.answers.as_slice())?;
-    push_rows(&mut text, certificate.rows.as_slice())?;
-    text.extend_from_slice(b"end\n")?;
+    push_cert_text(alloc, &mut text, certificate)?;
     Ok(List::from_vec(text))
+}
+
+/// Adds that text at the end of another.
+pub fn push_cert_text(
+    alloc: Global,
+    text: &mut Vec<u8>,
+    certificate: &Certificate,
+) -> Result<(), Mem>
+    requires { IsRequest certificate.now.request }
+    ensures { OnOk result (AddsCertText certificate.now text.old.items text.new.items) }
+{
+    let request = request_text(alloc, &certificate.request)?;
+    push_head(text, certificate.number, request.as_slice())?;
+    push_answers(text, certificate.answers.as_slice())?;
+    push_rows(text, certificate.rows.as_slice())?;
+    text.extend_from_slice(b"end\n")?;
+    Ok(())
 }
 
 fn push_head(text: &mut Vec<u8>, number: u32, request: &[u8]) -> Result<(), Mem>

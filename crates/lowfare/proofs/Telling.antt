@@ -1,8 +1,9 @@
 -- The text of an answer tells the best tickets of its case; and a request that is right is within its limits.
 use Rattle.std.proofs.Common.{◌≡◌, ℕ, List, [], ◌∷◌, ◌++◌, map, codes, decimal, ap, ◌∙◌, append_assoc}
 use Rattle.answer_text.specs.Answer.{AnswerText, IsRight}
+use Rattle.answer_text.specs.Lines.{Adds}
 use Rattle.certificate.specs.Checks.{Checks}
-use Rattle.certificate_text.specs.CertText.{CertText}
+use Rattle.certificate_text.specs.CertText.{AddsCertText}
 use Rattle.fare_law.specs.Best.{Costs}
 use Rattle.fare_law.specs.Book.{Book}
 use Rattle.fare_law.specs.Lawful.{Lawful}
@@ -26,21 +27,24 @@ joined : (a b c answer proof head mid text : List ℕ) → head ≡ a ++ (b ++ c
 joined a b c answer proof head mid text h m t =
     t ∙ ap (λ x. x ++ proof) (m ∙ ap (λ x. x ++ answer) h) ∙ append_assoc (a ++ (b ++ c)) answer proof ∙ append_assoc a (b ++ c) (answer ++ proof) ∙ ap (λ x. a ++ x) (append_assoc b c (answer ++ proof))
 
-pub tells_best : (found : SearchCase) (a : Answer) (answer proof head mid text : List ℕ) → IsAnswer found.book found.request a → Checks a.certificate found.book found.request
-    → ((q : Request) → Each (IsRight found.book q) a.tickets → AnswerText found.book q (map (λ p. p.ticket) a.tickets) answer) → CertText a.certificate proof
-    → head ≡ codes "version " ++ (decimal a.number ++ codes "\n") → mid ≡ head ++ answer → text ≡ mid ++ proof → TellsBest found text
-tells_best found a answer proof head mid text is meets told written h m t = record {
-  tickets = map (λ p. p.ticket) a.tickets;
-  best = is.best;
-  answer = answer;
-  tells = told found.request (are_right found.book found.request a.tickets is.best.each is.prices);
-  certificate = a.certificate;
-  made = is.certificate;
-  meets = meets;
-  proof = proof;
-  written = written;
-  whole = joined (codes "version ") (decimal a.number) (codes "\n") answer proof head mid text h m t ∙ ap (λ n. codes "version " ++ (decimal n ++ (codes "\n" ++ (answer ++ proof)))) is.number;
-}
+pub tells_best : (found : SearchCase) (a : Answer) (head mid text : List ℕ) → IsAnswer found.book found.request a → Checks a.certificate found.book found.request → head ≡ codes "version " ++ (decimal a.number ++ codes "\n")
+    → ((q : Request) → Each (IsRight found.book q) a.tickets → Adds (AnswerText found.book q (map (λ p. p.ticket) a.tickets)) head mid) → AddsCertText a.certificate mid text → TellsBest found text
+tells_best found a head mid text is meets h told written =
+    let answer = told found.request (are_right found.book found.request a.tickets is.best.each is.prices) in
+    record {
+      tickets = map (λ p. p.ticket) a.tickets;
+      best = is.best;
+      answer = answer.added;
+      tells = answer.is;
+      certificate = a.certificate;
+      made = is.certificate;
+      meets = meets;
+      proof = written.added;
+      written = written.is;
+      whole =
+          joined (codes "version ") (decimal a.number) (codes "\n") answer.added written.added head mid text h answer.whole written.whole
+          ∙ ap (λ n. codes "version " ++ (decimal n ++ (codes "\n" ++ (answer.added ++ written.added)))) is.number;
+    }
 
 -- the places of rows within their limits
 pub places_formed : (rows : List PlaceRow) → Each IsPlaceRow rows → Each IsPlace (map (λ row. row.place) rows)

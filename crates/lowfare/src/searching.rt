@@ -13,8 +13,8 @@ ghost use Rattle.whole_case.specs.Texts as Texts;
 
 use crate::Status;
 use crate::outcomes::Outcome;
-use answer_text::answer_text;
-use certificate_text::cert_text;
+use answer_text::push_answer_text;
+use certificate_text::push_cert_text;
 use fare_component::Plain;
 use fare_law::{List, Mem, requests_are_judged};
 use search_core::{Answer, SearchFault, search};
@@ -62,10 +62,8 @@ fn done(alloc: Global, found: &SearchCase, answer: &Answer) -> Result<Outcome, M
     tell_limits(found);
     let number = answer.number;
     let mut text = format!(in alloc; "version {number}\n")?.into_bytes();
-    let tickets = answer_text(alloc, &found.book, answer.tickets.as_slice())?;
-    text.extend_from_slice(tickets.as_slice())?;
-    let certificate = cert_text(alloc, &answer.certificate)?;
-    text.extend_from_slice(certificate.as_slice())?;
+    push_answer_text(&mut text, &found.book, answer.tickets.as_slice())?;
+    push_cert_text(alloc, &mut text, &answer.certificate)?;
     Ok(Outcome {
         status: Status::Done,
         text: List::from_vec(text),

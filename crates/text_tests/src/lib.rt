@@ -1,10 +1,8 @@
-//! Tests of the public calls on texts, from the bytes of a case to its answer: streams, dates, names and members, rows and
-//! whole cases, requests, rules and filings, scripts, certificates, answers, and the top call. Each has memory at hand: a
-//! call that answers want of memory meets its contract, and these tests refuse it. Nothing stands on this crate.
+//! Tests of the public calls on texts that no case of the program shows: streams and their faults, cases of other kinds, filings, rules,
+//! scripts and certificates, both ways. Each has memory at hand: a call that answers want of memory meets its contract, and these tests
+//! refuse it. Nothing stands on this crate.
 #![tactic(auto)]
 
-#[cfg(test)]
-mod answers;
 #[cfg(test)]
 mod cases;
 #[cfg(test)]
@@ -14,12 +12,6 @@ mod dates;
 #[cfg(test)]
 mod filings;
 #[cfg(test)]
-mod lone_fares;
-#[cfg(test)]
-mod parts;
-#[cfg(test)]
-mod readers;
-#[cfg(test)]
 mod rules;
 #[cfg(test)]
 mod runs;
@@ -27,5 +19,3 @@ mod runs;
 mod scripts;
 #[cfg(test)]
 mod streams;
-#[cfg(test)]
-mod words;

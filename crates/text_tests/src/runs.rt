@@ -19,35 +19,6 @@ QX,101,LON,*,Y9
 #end
 "#;
 
-const ANSWER: &[u8] = br#"version 1
-tickets 1
-ticket 1 price 20000
-component 1 unit 1 one_way forward QX LON NYC Y1 20000
-flight QX 101 2031-03-03 LON NYC
-certificate 1
-version 1
-request {"best":3,"party":1,"sale":"2031-02-01","slices":[{"days":1,"first":"2031-03-03","from":"LON","to":"NYC"}]}
-answers 1
-answer 20000 1 0 QX Y1 0 0
-rows 1
-row 0 0 LON - 0 1 - 0:0:- 20000
-end
-"#;
-
-// The answer of version 0, which has no fare, for one ticket at most.
-const NO_TICKET: &[u8] = br#"version 0
-tickets 0
-certificate 1
-version 0
-request {"best":1,"party":1,"sale":"2031-02-01","slices":[{"days":1,"first":"2031-03-03","from":"LON","to":"NYC"}]}
-answers 0
-rows 1
-row 0 0 LON - 0 1 - 0:0:- -
-end
-"#;
-
-const USAGE: &[u8] = b"usage: lowfare search|check|make|serve|calendar|verdict\n";
-
 fn words(alloc: Global, line: &str) -> Result<Vec<String>, Fail> {
     let mut words = Vec::new(alloc);
     for word in line.split(' ') {
@@ -77,27 +48,6 @@ fn only_call(alloc: Global, number: u32) -> Result<List<u32>, Fail> {
 }
 
 #[test]
-fn answers_cases(rt: HostRuntime) -> Result<(), Fail> {
-    let cut = &CASE[..CASE.len() - b"#end\n".len()];
-    let cases: [(&str, &[u8], Status, &[u8]); 6] = [
-        ("search", CASE, Status::Done, ANSWER),
-        ("search --at 0 --best=1", CASE, Status::Done, NO_TICKET),
-        ("search --at 2", CASE, Status::Refused, b"refused 0 NoVersion\n"),
-        ("search", cut, Status::Refused, b"refused 12 NoEnd\n"),
-        ("search --best 0", CASE, Status::Usage, USAGE),
-        ("serve", CASE, Status::Usage, USAGE),
-    ];
-    for (line, input, status, text) in cases {
-        let mut source = MemSource::new(bytes(rt.alloc(), input)?);
-        let mut sink = MemSink::new(rt.alloc(), 1000)?;
-        let found = ended(rt.alloc(), line, &mut source, &mut sink)?;
-        assert_eq!(rt; found, status, "{line}");
-        assert_eq!(rt; sink.as_slice(), text, "{line}");
-    }
-    Ok(())
-}
-
-#[test]
 fn tells_a_failing_source(rt: HostRuntime) -> Result<(), Fail> {
     let calls = only_call(rt.alloc(), 1)?;
     let mut source = FailSource::new(bytes(rt.alloc(), CASE)?, calls);
@@ -115,22 +65,5 @@ fn tells_a_failing_sink(rt: HostRuntime) -> Result<(), Fail> {
     let status = ended(rt.alloc(), "search", &mut source, &mut sink)?;
     assert_eq!(rt; status, Status::WriteFault);
     assert_eq!(rt; sink.as_slice(), b"vers".as_slice());
-    Ok(())
-}
-
-#[test]
-fn stops_past_the_limit(rt: HostRuntime) -> Result<(), Fail> {
-    let cases: [(usize, Status, &[u8]); 2] = [
-        (67_108_864, Status::Refused, b"refused 1 Order\n"),
-        (67_108_865, Status::TooLong, b"too long\n"),
-    ];
-    for (length, status, text) in cases {
-        let bytes = List::from_vec(Vec::from_elem(rt.alloc(), b'a', length)?);
-        let mut source = MemSource::new(bytes);
-        let mut sink = MemSink::new(rt.alloc(), 1000)?;
-        let found = ended(rt.alloc(), "search", &mut source, &mut sink)?;
-        assert_eq!(rt; found, status);
-        assert_eq!(rt; sink.as_slice(), text);
-    }
     Ok(())
 }

@@ -1,22 +1,9 @@
-use Rattle.std.proofs.Common.{◌∙◌, ◌++◌, List, ℕ, length, map, ap, subst, sym}
-use Rattle.answer_text.specs.Answer.{AnswerText, IsRight}
-use Rattle.answer_text.specs.Lines.{tickets_line}
-use Rattle.answer_text.proofs.TicketTexts.{PricedText, all_added, all_of, each_there, one_added}
+use Rattle.std.proofs.Common.{map, subst, sym}
+use Rattle.answer_text.specs.Answer.{AnswerText}
+use Rattle.answer_text.proofs.TicketTexts.{added_alone}
 use Rattle.answer_text.proofs.tickets.answer_text.Goals as goal
-
-pub loop-at-preserved : goal.loop-at-preserved
-loop-at-preserved c q right =
-    let b = c.args.book.now in
-    let tickets = c.args.tickets.now in
-    let at = c.loop-at.at in
-    let x = c.index-tickets-at.result in
-    one_added (PricedText b q) tickets at x x c.push_tickets.new.text.items c.loop-at.text.items c.push_priced.new.text.items c.loop-at-test.true c.index-tickets-at.is (c.loop-at.invariant q right)
-    (c.in_ok-push_priced.ensures q (each_there (IsRight b q) tickets at x x right c.loop-at-test.true c.index-tickets-at.is))
 
 pub returns : goal.returns
 returns c q right =
-    let b = c.args.book.now in
-    let tickets = c.args.tickets.now in
-    let counted = c.in_ok-push_tickets.ensures ∙ ap (λ (t : List ℕ). t ++ tickets_line (length tickets)) c.new-text.ensures.items in
-    subst (AnswerText b q (map (λ p. p.ticket) tickets)) (sym c.from_vec.ensures)
-    (all_added b q tickets c.push_tickets.new.text.items c.loop-at.text.items counted (all_of (PricedText b q) tickets c.loop-at.at c.push_tickets.new.text.items c.loop-at.text.items c.loop-at-test.false (c.loop-at.invariant q right)))
+    let is = AnswerText c.args.book.now q (map (λ p. p.ticket) c.args.tickets.now) in
+    subst is (sym c.from_vec.ensures) (added_alone is c.new-text.result.items c.push_answer_text.new.text.items c.new-text.ensures.items (c.in_ok-push_answer_text.ensures q right))

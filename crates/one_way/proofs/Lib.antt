@@ -1,4 +1,0 @@
-pub mod FlightSeats
-pub mod OnlyTicket
-pub mod Converse
-pub mod OneDay

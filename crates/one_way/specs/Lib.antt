@@ -1,2 +1,0 @@
-pub mod OneWay
-pub mod Dated

@@ -1,4 +1,0 @@
-pub mod LoneFare
-pub mod Sections
-pub mod Shown
-pub mod Case
