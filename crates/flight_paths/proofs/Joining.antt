@@ -6,7 +6,7 @@ use Rattle.fare_law.specs.Book.{Book}
 use Rattle.fare_law.specs.Lists.{IsIn, OnFirst, OnLast}
 use Rattle.flight_paths.specs.declared.positions.Path.{Path}
 use Rattle.flight_paths.specs.declared.positions.Position.{Position}
-use Rattle.flight_paths.specs.Heads.{AreTails, Crosses, Crossing, Follows, IsHead, IsJoined, IsTail, Stays}
+use Rattle.flight_paths.specs.Heads.{AreSomeTails, Crosses, Crossing, Follows, IsHead, IsJoined, IsTail, Stays}
 use Rattle.flight_paths.specs.Positions.{Flies, LeadsTo, before_slice, position_before, position_inside, via_after}
 use Rattle.flight_paths.specs.Ways.{AreFlightsOf}
 use Rattle.flight_paths.proofs.Growing.{flies_one}
@@ -102,9 +102,9 @@ module _ (b : Book) (sl : List Slice) (at : Position) where
   pub same_middle : (h t : Path) (middle : Position) → Crossing b sl at h middle → (f : Follows b sl at h t) → f.middle ≡ middle
   same_middle h t middle c f = same_some f.middle middle (sym f.crossing.after ∙ c.after)
 
-  pub tail_count : (i : ℕ) (ts : List Path) → AreTails b sl i ts → (t : Path) → IsIn t ts → (1 ≤ length t.flights) × (length t.flights ≤ 3)
+  pub tail_count : (i : ℕ) (ts : List Path) → AreSomeTails b sl i ts → (t : Path) → IsIn t ts → (1 ≤ length t.flights) × (length t.flights ≤ 3)
   tail_count i ts d t k =
-      let w = (d.are t).0 k in
+      let w = d.each t k in
       (some t.flights w.1.path.some, omega (arith, w.1.few, matched_length _ t.flights w.0 (tail_flights i t.flights w.0 t.after w.1)))
     where
       some : (ns : List ℕ) → ns ≢ [] → 1 ≤ length ns

@@ -7,7 +7,7 @@ use Rattle.fare_law.specs.Book.{Book}
 use Rattle.fare_law.specs.Lists.{EachPair, IsIn, OnFirst, Less}
 use Rattle.flight_paths.specs.declared.positions.Path.{Path}
 use Rattle.flight_paths.specs.declared.positions.Position.{Position}
-use Rattle.flight_paths.specs.Heads.{AreRest, AreRestOf, AreTails, Crossing, Follows, IsJoined, stands_before}
+use Rattle.flight_paths.specs.Heads.{AreRest, AreRestOf, AreSomeTails, Crossing, Follows, IsJoined, stands_before}
 use Rattle.flight_paths.specs.Paths.{Precedes}
 use Rattle.flight_paths.specs.Ranges.{first_of}
 use Rattle.flight_paths.proofs.Apart.{different_more, first_of_all}
@@ -180,11 +180,11 @@ module _ (b : Book) (sl : List Slice) (at : Position) (h : Path) (ts : List Path
   pub two_parts : (ps qs : List Path) → AreRestOf b sl at h ts 1 ps → AreRestOf b sl at h ts 2 qs → IsTwo (ps ++ qs)
   two_parts ps qs p q = record { first = ps; second = qs; is = refl; one = p; two = q }
 
-  pub counts : (xs rs : List Path) → AreTails b sl (suc at.slice) ts → IsTwo xs → AreRestOf b sl at h ts 3 rs → AreRest b sl at h ts (xs ++ rs)
+  pub counts : (xs rs : List Path) → AreSomeTails b sl (suc at.slice) ts → IsTwo xs → AreRestOf b sl at h ts 3 rs → AreRest b sl at h ts (xs ++ rs)
   counts xs rs d w three = subst (λ ys. AreRest b sl at h ts (ys ++ rs)) (sym w.is) (three_parts w.first w.second rs d w.one w.two three)
     where
       -- the tails are of one, two or three flights
-      three_parts : (ps qs rs : List Path) → AreTails b sl (suc at.slice) ts → AreRestOf b sl at h ts 1 ps → AreRestOf b sl at h ts 2 qs → AreRestOf b sl at h ts 3 rs → AreRest b sl at h ts ((ps ++ qs) ++ rs)
+      three_parts : (ps qs rs : List Path) → AreSomeTails b sl (suc at.slice) ts → AreRestOf b sl at h ts 1 ps → AreRestOf b sl at h ts 2 qs → AreRestOf b sl at h ts 3 rs → AreRest b sl at h ts ((ps ++ qs) ++ rs)
       three_parts ps qs rs d one two three = record {
         once = different_more (ps ++ qs) rs (different_more ps qs one.once two.once (λ x i j. let w = (one.are x).0 i in let v = (two.are x).0 j in differ x w.0 v.0 w.3 v.3 (λ e. omega (arith, w.2, v.2, ap (λ y. length y.flights) e)))) three.once
             (λ x i j. let v = (three.are x).0 j in elim (in_either x ps qs i) [

@@ -1,17 +1,25 @@
 -- Each path that begins with a head, and each path of a position, once.
-use Rattle.std.proofs.Common.{◌≡◌, ◌⊎◌, ◌↔◌, suc, List, [], ◌∷◌, ◌++◌, Some, refl, sym, ap, subst, ◌∙◌, inl, inr, Result, Ok, Err, OnOk, append-nil, append_assoc}
+use Rattle.std.proofs.Common.{◌≡◌, ◌⊎◌, ◌↔◌, Bool, true, suc, List, [], ◌∷◌, ◌++◌, Some, refl, sym, ap, subst, ◌∙◌, inl, inr, Result, Ok, Err, OnOk, append-nil, append_assoc}
 use Rattle.fare_law.specs.declared.flights.Flight.{Flight}
+use Rattle.fare_law.specs.declared.names.Place.{Place}
 use Rattle.fare_law.specs.declared.requests.Slice.{Slice}
 use Rattle.fare_law.specs.Book.{Book}
-use Rattle.fare_law.specs.Lists.{AllDifferent, IsIn}
+use Rattle.fare_law.specs.Lists.{AllDifferent, IsIn, OnFirst, OnLast}
 use Rattle.flight_paths.specs.declared.positions.Path.{Path}
 use Rattle.flight_paths.specs.declared.positions.Position.{Position}
-use Rattle.flight_paths.specs.Heads.{AreAll, AreFrom, AreHeads, AreRest, AreTails, Crosses, Crossing, Follows, IsHead, IsJoined, Saw}
+use Rattle.flight_paths.specs.Heads.{AreFrom, AreHeads, AreReached, AreRest, AreSomeTails, Crosses, Crossing, EndWanted, Follows, HasTails, IsHead, IsJoined, Saw}
 use Rattle.flight_paths.specs.Positions.{IsPath}
 use Rattle.flight_paths.proofs.Orders.{in_either, in_left, in_one, in_right}
 use Rattle.flight_paths.proofs.Crossing.{heads_and_tails}
 use Rattle.flight_paths.proofs.Apart.{different_more, longer_not, none_is, same_path}
 use Rattle.flight_paths.proofs.Joining.{crosses_joined, head_not_joined, joined_crosses, joined_head, joined_tail}
+
+-- the last of two parts is the second's
+last_right : {X : Type 0} (P Q : X → Type 0) (xs ys : List X) → OnFirst Q ys → OnLast P (xs ++ ys) → OnLast P ys
+last_right P Q [] ys some h = h
+last_right P Q (x ∷ []) [] some h = absurd some
+last_right P Q (x ∷ []) (y ∷ ys) some h = h
+last_right P Q (x ∷ z ∷ xs) ys some h = last_right P Q (z ∷ xs) ys some h
 
 module _ (b : Book) (sl : List Slice) (at : Position) where
   -- the paths that go on from a head, tail by tail
@@ -95,9 +103,13 @@ module _ (b : Book) (sl : List Slice) (at : Position) where
         | inr k ↦ in_right p ps qs ((f.are p).1 (subst (λ y. (p ≡ y) ⊎ ((tail : Path) × IsIn tail ts × IsJoined b sl at y tail p)) (in_one g h k) w))
       ]
 
-  -- which are the paths of the position
-  pub seen_all : (ts hs ps : List Path) → AreHeads b sl at hs → AreTails b sl (suc at.slice) ts → AreSeen ts hs ps → AreAll b sl at ps
-  seen_all ts hs ps a d r = record { once = r.once; are = λ p. (λ i. let w = (r.are p).0 i in forth p w.0 w.1 w.2, λ w. (r.are p).1 (back p w.0 ((heads_and_tails b sl at p.flights w.0 p.after).0 w.1))) }
+  -- which are paths of the position, and all that end where they are wanted
+  pub seen_reached : (wanted : Place → Bool) (ts hs ps : List Path) → AreHeads b sl at hs → AreSomeTails b sl (suc at.slice) ts → HasTails b sl (suc at.slice) wanted ts → AreSeen ts hs ps → AreReached b sl at wanted ps
+  seen_reached wanted ts hs ps a d all r = record {
+    once = r.once;
+    each = λ p i. let w = (r.are p).0 i in forth p w.0 w.1 w.2;
+    all = λ p fs h e. (r.are p).1 (back p fs e ((heads_and_tails b sl at p.flights fs p.after).0 h));
+  }
     where
       forth : (p h : Path) → IsIn h hs → (p ≡ h) ⊎ ((tail : Path) × IsIn tail ts × IsJoined b sl at h tail p) → (fs : List Flight) × IsPath b sl at p.flights fs p.after
       forth p h i (inl e) = subst (λ x. (fs : List Flight) × IsPath b sl at x.flights fs x.after) (sym e) (let w = (a.are h).0 i in (w.0, w.1.path))
@@ -105,12 +117,13 @@ module _ (b : Book) (sl : List Slice) (at : Position) where
           let fs = w.2.follows.crossing.flights ++ w.2.follows.flights in
           (fs, (heads_and_tails b sl at p.flights fs p.after).1 (inr (joined_crosses b sl at h w.0 p w.2)))
 
-      back : (p : Path) (fs : List Flight) → IsHead b sl at p.flights fs p.after ⊎ Crosses b sl at p.flights fs p.after → (h : Path) × IsIn h hs × ((p ≡ h) ⊎ ((tail : Path) × IsIn tail ts × IsJoined b sl at h tail p))
-      back p fs (inl h) = (p, (a.are p).1 (fs, h), inl refl)
-      back p fs (inr c) =
+      back : (p : Path) (fs : List Flight) → EndWanted wanted fs → IsHead b sl at p.flights fs p.after ⊎ Crosses b sl at p.flights fs p.after → (h : Path) × IsIn h hs × ((p ≡ h) ⊎ ((tail : Path) × IsIn tail ts × IsJoined b sl at h tail p))
+      back p fs e (inl h) = (p, (a.are p).1 (fs, h), inl refl)
+      back p fs e (inr c) =
           let h : Path = record { flights = c.head; after = Some c.middle } in
           let t : Path = record { flights = c.tail; after = p.after } in
-          (h, (a.are h).1 (c.head_flights, c.is_head), inr (t, (d.are t).1 (c.tail_flights, c.is_tail), crosses_joined b sl at p fs c))
+          let ends = last_right (λ f. wanted f.to ≡ true) (λ g. g.from ≡ c.slice.to) c.head_flights c.tail_flights c.begins (subst (EndWanted wanted) c.flights e) in
+          (h, (a.are h).1 (c.head_flights, c.is_head), inr (t, all t c.tail_flights c.is_tail ends, crosses_joined b sl at p fs c))
 
 -- what was told
 pub saw_none : (told : List Path → Type 0) (P : List Path → Type 0) → P [] → Saw told told P

@@ -1,12 +1,13 @@
 -- The tails of a slice, and heads and tails over any book of a schedule.
-use Rattle.std.proofs.Common.{◌≡◌, ℕ, List, [], length, slice_get, Option, Some, None, sym, subst, ◌∙◌, arith}
+use Rattle.std.proofs.Common.{◌≡◌, Bool, ℕ, List, [], length, slice_get, Option, Some, None, sym, subst, ◌∙◌, arith}
 use Rattle.fare_law.specs.declared.flights.Flight.{Flight}
+use Rattle.fare_law.specs.declared.names.Place.{Place}
 use Rattle.fare_law.specs.declared.requests.Slice.{Slice}
 use Rattle.fare_law.specs.Book.{Book}
 use Rattle.fare_law.specs.Lists.{IsIn}
 use Rattle.flight_paths.specs.declared.positions.Path.{Path}
 use Rattle.flight_paths.specs.declared.positions.Position.{Position}
-use Rattle.flight_paths.specs.Heads.{AreAll, AreHeads, AreShort, AreTails, IsHead, IsTail}
+use Rattle.flight_paths.specs.Heads.{AreHeads, AreReached, AreShort, AreTails, HasTails, IsHead, IsTail}
 use Rattle.flight_paths.specs.Positions.{IsPath, position_before}
 use Rattle.flight_paths.proofs.AnyBook.{Alike, alike_back, before_same, path_same}
 use Rattle.flight_paths.proofs.Growth.{flies_numbers}
@@ -64,11 +65,12 @@ tails_any b c a sl i tails h = record {
   );
 }
 
-pub all_any : (b c : Book) → Alike b c → (sl : List Slice) (at : Position) (paths : List Path) → AreAll b sl at paths → AreAll c sl at paths
-all_any b c a sl at paths h = record {
+pub has_any : (b c : Book) → Alike b c → (sl : List Slice) (i : ℕ) (wanted : Place → Bool) (tails : List Path) → HasTails b sl i wanted tails → HasTails c sl i wanted tails
+has_any b c a sl i wanted tails h = λ p fs t e. h p fs (tail_same c b (alike_back b c a) sl i p.flights fs p.after t) e
+
+pub reached_any : (b c : Book) → Alike b c → (sl : List Slice) (at : Position) (wanted : Place → Bool) (paths : List Path) → AreReached b sl at wanted paths → AreReached c sl at wanted paths
+reached_any b c a sl at wanted paths h = record {
   once = h.once;
-  are = λ p. (
-    λ i. let r = (h.are p).0 i in (r.0, path_same b c a sl at p.flights r.0 p.after r.1),
-    λ r. (h.are p).1 (r.0, path_same c b (alike_back b c a) sl at p.flights r.0 p.after r.1),
-  );
+  each = λ p i. let r = h.each p i in (r.0, path_same b c a sl at p.flights r.0 p.after r.1);
+  all = λ p fs x e. h.all p fs (path_same c b (alike_back b c a) sl at p.flights fs p.after x) e;
 }

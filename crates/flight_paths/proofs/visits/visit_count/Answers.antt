@@ -20,7 +20,7 @@ pub visit_each-requires-clause-order : goal.visit_each-requires-clause-order
 visit_each-requires-clause-order g c = part_ordered c.args.tails.now c.place_of-from.result (c.place_of-to.result - c.place_of-from.result) c.requires.tails.in_order
 
 pub visit_each-requires-clause-each : goal.visit_each-requires-clause-each
-visit_each-requires-clause-each g c = λ t i. (c.requires.tails.are t).0 (part_of c.args.tails.now c.place_of-from.result (c.place_of-to.result - c.place_of-from.result) t i)
+visit_each-requires-clause-each g c = λ t i. c.requires.tails.each t (part_of c.args.tails.now c.place_of-from.result (c.place_of-to.result - c.place_of-from.result) t i)
 
 pub returns : goal.returns
 returns g c =

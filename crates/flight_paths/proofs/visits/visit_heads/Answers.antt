@@ -1,10 +1,10 @@
 use Rattle.std.proofs.Common.{◌≡◌, ◌+◌, ◌++◌, ◌∷◌, [], take, sym, ap, subst, ◌∙◌}
 use Rattle.std.proofs.lemmas.List.{take_all}
 use Rattle.fare_law.specs.Lists.{IsIn}
-use Rattle.flight_paths.specs.Heads.{AreAll, AreFrom, Saw}
+use Rattle.flight_paths.specs.Heads.{AreFrom, AreReached, Saw}
 use Rattle.flight_paths.specs.Plans.{plan_book}
 use Rattle.flight_paths.proofs.Apart.{not_before}
-use Rattle.flight_paths.proofs.Seeing.{AreSeen, saw_like, saw_more, seen_all, seen_more}
+use Rattle.flight_paths.proofs.Seeing.{AreSeen, saw_like, saw_more, seen_more, seen_reached}
 use Rattle.flight_paths.proofs.Orders.{in_front}
 use Rattle.flight_paths.proofs.Places.{front_is, in_list}
 use Rattle.flight_paths.proofs.visits.visit_heads.Goals as goal
@@ -33,11 +33,11 @@ loop-head-preserved g c =
     (λ ps qs a d. seen_more b sl at ts (take i hs) ps h qs (λ x k. (c.requires.heads.are x).0 (in_front x hs (i + 1) (subst (IsIn x) (sym front) k))) a d new))
 
 pub returns : goal.returns
-returns g c =
+returns g c = λ wanted all.
     let b = plan_book c.args.schedule.now in
     let sl = c.args.slices.now in
     let at = c.args.start.now in
     let hs = c.args.heads.now in
     let ts = c.args.tails.now in
-    saw_like (g.V.PathVisitor.told c.args.visitor.now) (g.V.PathVisitor.told c.loop-head.visitor) (AreSeen b sl at ts (take c.loop-head.head-index hs)) (AreAll b sl at) c.loop-head.invariant
-    (λ ps a. seen_all b sl at ts hs ps c.requires.heads c.requires.tails (subst (λ xs. AreSeen b sl at ts xs ps) (take_all c.loop-head.head-index hs c.loop-head-test.false) a))
+    saw_like (g.V.PathVisitor.told c.args.visitor.now) (g.V.PathVisitor.told c.loop-head.visitor) (AreSeen b sl at ts (take c.loop-head.head-index hs)) (AreReached b sl at wanted) c.loop-head.invariant
+    (λ ps a. seen_reached b sl at wanted ts hs ps c.requires.heads c.requires.tails all (subst (λ xs. AreSeen b sl at ts xs ps) (take_all c.loop-head.head-index hs c.loop-head-test.false) a))
