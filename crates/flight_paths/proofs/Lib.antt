@@ -26,3 +26,4 @@ pub mod Joining
 pub mod Seeing
 pub mod Timely
 pub mod Ranging
+pub mod Wanting

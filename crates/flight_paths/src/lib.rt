@@ -4,6 +4,7 @@
 //! The layers above read the definitions in `specs/`: takeable flights, ranges, paths, heads and tails.
 #![tactic(auto)]
 
+mod ends;
 mod laws;
 mod parts;
 mod paths;
@@ -14,6 +15,7 @@ mod steps;
 mod visits;
 mod ways;
 
+pub use ends::{Ends, tails_to};
 pub use laws::{crosses_in_time, heads_and_tails, heads_are_short};
 pub use parts::{heads, tails};
 pub use paths::{component_paths, root_position, slice_paths};
