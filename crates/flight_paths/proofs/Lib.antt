@@ -15,3 +15,15 @@ pub mod Itineraries
 pub mod OneSlice
 pub mod AnyBook
 pub mod Ended
+pub mod Parting
+pub mod Cutting
+pub mod Crossing
+pub mod Shorts
+pub mod Confined
+pub mod Tailed
+pub mod Apart
+pub mod Joining
+pub mod Seeing
+pub mod Timely
+pub mod Ranging
+pub mod Wanting

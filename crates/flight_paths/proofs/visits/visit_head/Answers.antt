@@ -1,0 +1,28 @@
+use Rattle.std.proofs.Common.{◌≡◌, ◌++◌, ◌∷◌, [], refl, sym, subst}
+use Rattle.flight_paths.specs.Heads.{AreFrom, AreRest, Saw}
+use Rattle.flight_paths.specs.Plans.{plan_book}
+use Rattle.flight_paths.proofs.Seeing.{from_alone, from_rest, on_ok, saw_more, saw_one}
+use Rattle.flight_paths.proofs.visits.visit_head.Goals as goal
+
+pub returns-in-Some : goal.returns-in-Some
+returns-in-Some g c =
+    let b = plan_book c.args.schedule.now in
+    let sl = c.args.slices.now in
+    let at = c.args.start.now in
+    let h = c.args.head.now in
+    let ts = c.args.tails.now in
+    let old = g.V.PathVisitor.told c.args.visitor.now in
+    let mid = g.V.PathVisitor.told c.visit.new.self in
+    let new = g.V.PathVisitor.told c.visit_tails.new.visitor in
+    on_ok (Saw mid new (AreRest b sl at h ts)) (Saw old new (AreFrom b sl at h ts)) c.visit_tails.result c.visit_tails.ensures
+    (λ rest. saw_more old mid new (λ ps. ps ≡ h ∷ []) (AreRest b sl at h ts) (AreFrom b sl at h ts) (saw_one old mid (λ ps. ps ≡ h ∷ []) h c.in_ok-visit.ensures refl) rest
+    (λ ps qs e r. subst (λ xs. AreFrom b sl at h ts (xs ++ qs)) (sym e) (from_rest b sl at h ts qs r)))
+
+pub returns-in-None : goal.returns-in-None
+returns-in-None g c =
+    let b = plan_book c.args.schedule.now in
+    let sl = c.args.slices.now in
+    let at = c.args.start.now in
+    let h = c.args.head.now in
+    let ts = c.args.tails.now in
+    saw_one (g.V.PathVisitor.told c.args.visitor.now) (g.V.PathVisitor.told c.visit.new.self) (AreFrom b sl at h ts) h c.in_ok-visit.ensures (from_alone b sl at h ts c.in-None.ensures.none)

@@ -1,0 +1,63 @@
+//! Places where paths are wanted to end, and the tails that end there.
+ghost use Rattle.std.specs.Prelude.{◌≡◌, ℕ, Bool, List as Items, filter, IfOk};
+ghost use Rattle.fare_law.specs.declared.names.Place.{Place as PlaceName};
+ghost use Rattle.fare_law.specs.declared.requests.Slice.{Slice as RequestSlice};
+ghost use Rattle.fare_law.specs.Book.{Book};
+ghost use Rattle.flight_paths.specs.Heads.{AreTails, TailsTo, ends_wanted, last_wanted, number_wanted};
+ghost use Rattle.flight_paths.specs.Plans.{HasPlan};
+
+use crate::Path;
+use fare_law::{Flight, List, Mem, Place};
+use schedule_book::Schedule;
+use std::alloc::Global;
+
+/// Tells at which places paths are wanted to end.
+pub trait Ends {
+    // Whether an end is wanted.
+    ghost wanted: { Self → PlaceName → Bool };
+
+    /// Whether an end is wanted.
+    fn wants(&self, place: Place) -> bool
+        ensures { result ≡ wanted self.now place };
+}
+
+/// The tails that end where they are wanted, in their order. A caller keeps them for all positions at one
+/// place.
+pub fn tails_to<E: Ends>(
+    alloc: Global,
+    schedule: &Schedule,
+    tails: &[Path],
+    ends: &E,
+) -> Result<List<Path>, Mem>
+    ensures those { IfOk result (λ some. some ≡ filter (ends_wanted schedule.now.flights (E.wanted ends.now)) tails.now) }
+    ensures tails { IfOk result (λ some. (b : Book) (slices : Items RequestSlice) (i : ℕ) → HasPlan b schedule.now → AreTails b slices i tails.now → TailsTo b slices i (E.wanted ends.now) some) }
+{
+    let flights = schedule.flights();
+    let mut some = List::new(alloc);
+    for tail in tails {
+        if ends_wanted(flights, tail.flights.as_slice(), ends) {
+            some.push(tail.copied())?;
+        }
+    }
+    Ok(some)
+}
+
+/// Whether the last of the flights of these numbers ends at a wanted place.
+fn ends_wanted<E: Ends>(flights: &[Flight], numbers: &[u32], ends: &E) -> bool
+    ensures { result ≡ last_wanted flights.now (E.wanted ends.now) numbers.now }
+{
+    match numbers {
+        [.., last] => is_wanted(flights, *last, ends),
+        [] => false,
+    }
+}
+
+/// Whether the flight of this number ends at a wanted place.
+fn is_wanted<E: Ends>(flights: &[Flight], number: u32, ends: &E) -> bool
+    ensures { result ≡ number_wanted flights.now (E.wanted ends.now) number }
+{
+    match flights.get(number as usize) {
+        Some(flight) => ends.wants(flight.to),
+        None => false,
+    }
+}
