@@ -1,4 +1,4 @@
--- Lists of moves, as they grow: what is added one part after another.
+-- Lists of moves, as they grow: what is added one part after another. Given on to the crates above.
 use Rattle.std.proofs.Common.{◌≡◌, ◌≢◌, ◌⊎◌, ◌↔◌, List, [], ◌∷◌, ◌++◌, map, append-nil, append_assoc, refl, sym, ap, subst, ◌∙◌, inl, inr}
 use Rattle.fare_law.specs.declared.moves.Move.{Move}
 use Rattle.fare_law.specs.Lists.{AllDifferent, Each, IsIn}

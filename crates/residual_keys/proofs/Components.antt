@@ -1,4 +1,4 @@
--- The flights of a component from their numbers, its legs, and its last flight.
+-- The flights of a component from their numbers, its legs, and its last flight. Given on to the crates above.
 use Rattle.std.proofs.Common.{◌≡◌, ℕ, zero, suc, pos, ◌-◌, ◌≤◌, ◌<◌, List, [], ◌∷◌, ◌++◌, length, take, get_or, slice_get, All, Some, refl, sym, ap, subst, arith}
 use Rattle.std.proofs.lemmas.List.Elements.{All-cons, All-nil}
 use Rattle.fare_law.specs.declared.flights.Flight.{Flight}

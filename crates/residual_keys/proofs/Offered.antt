@@ -1,4 +1,4 @@
--- The moves with the fares of a sheet, offer by offer.
+-- The moves with the fares of a sheet, offer by offer. Given on to the crates above.
 use Rattle.std.proofs.Common.{◌≡◌, ◌⊎◌, ℕ, zero, suc, ◌+◌, ◌<◌, Bool, true, false, List, [], ◌∷◌, ◌++◌, length, take, get_or, slice_get, MatchBool, Some, refl, sym, ap, subst, ◌∙◌, inl, inr, arith}
 use Rattle.std.proofs.Math.Seq.{take-suc}
 use Rattle.fare_book.specs.Keeping.{Limited}

@@ -1,4 +1,4 @@
--- Runs, and the machines that each look at one side of them.
+-- Runs, and the machines that each look at one side of them. Given on to the crates above.
 use Rattle.std.proofs.Common.{◌≡◌, ◌≢◌, ℕ, ◌+◌, List, [], ◌∷◌, ◌++◌, map, set, remove, flat_map, sum_by, Option, Some, None, IfNone, sym, refl, ap, ◌∙◌, subst, arith}
 use Rattle.std.proofs.lemmas.List.Sums.{sum_by-cons}
 use Rattle.fare_law.specs.declared.flights.Flight.{Flight}

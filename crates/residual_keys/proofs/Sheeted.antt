@@ -1,4 +1,4 @@
--- The rows of a book's sheet: in a strict order, live, within limits, and the sheet is one.
+-- The rows of a book's sheet: in a strict order, live, within limits, and the sheet is one. Given on to the crates above.
 use Rattle.std.proofs.Common.{◌≡◌, ◌≢◌, ◌⊎◌, ℕ, zero, suc, ◌+◌, ◌≤◌, ◌<◌, List, [], ◌∷◌, length, map, slice_get, Option, Some, None, IsSome, All, refl, sym, ap, subst, ◌∙◌, inl, inr, arith}
 use Rattle.fare_book.specs.Keeping.{IsLive, Limited}
 use Rattle.std.proofs.lemmas.List.Elements.{All-head, All-tail}

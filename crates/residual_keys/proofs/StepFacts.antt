@@ -1,4 +1,4 @@
--- The fare that a move names on its flights, and the component over it.
+-- The fare that a move names on its flights, and the component over it. Given on to the crates above.
 use Rattle.std.proofs.Common.{◌≡◌, ℕ, ◌≤◌, ◌<◌, Bool, true, false, List, [], ◌∷◌, All, IsBitSet, MatchBool, Option, Some, sym, ap, ◌∙◌, subst, inl, inr}
 use Rattle.std.proofs.lemmas.List.Elements.{All-cons, All-head, All-nil, All-tail}
 use Rattle.fare_law.specs.declared.fares.FareKey.{FareKey}

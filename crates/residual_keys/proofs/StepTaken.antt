@@ -1,4 +1,4 @@
--- A move over given flights is the step that the calls take.
+-- A move over given flights is the step that the calls take. Given on to the crates above.
 use Rattle.std.proofs.Common.{◌≡◌, ◌↔◌, ℕ, ◌≤◌, ◌<◌, Bool, true, false, List, [], ◌∷◌, length, Option, Some, None, IfNone, IfSome, sym, refl, ap, ap₂, ◌∙◌, subst, arith}
 use Rattle.fare_law.specs.declared.fares.FareKey.{FareKey}
 use Rattle.fare_law.specs.declared.flights.Flight.{Flight}

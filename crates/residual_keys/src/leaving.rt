@@ -38,7 +38,7 @@ pub fn next_after(
 
 /// Where a search stands with these open units and this ticket part. None where the journey is complete
 /// and a unit is open.
-fn standing(after: Option<Position>, units: &OpenUnits, part: TicketPart) -> Option<Next>
+pub fn standing(after: Option<Position>, units: &OpenUnits, part: TicketPart) -> Option<Next>
     requires { PartKept part }
     ensures some { IfSome result (λ next. IfNone after (units.now ≡ []) × (next ≡ left_at after units.now part)) }
     ensures none { IfNone result (IfNone after (units.now ≡ []) → ⊥) }

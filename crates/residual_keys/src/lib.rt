@@ -24,13 +24,17 @@ mod words;
 
 pub use beginning::root;
 pub use choosing::moves;
+pub use component::{first_of, last_of};
 pub use laws::{
     best_runs, nothing_lost, one_best, one_next, one_size, reached_is_written, residual_order,
     runs_are_short,
 };
+pub use leaving::{next_after, standing};
 pub use limits::book_limits;
-pub use parts::TicketPart;
+pub use open_units::OpenUnits;
+pub use parts::{TicketPart, one_more, part_allows, with_end};
 pub use reading::{one_residual_text, read_residual};
 pub use residual::{Chosen, Next, Residual};
 pub use stepping::step;
 pub use text::{push_residual, residual_text};
+pub use way::Way;

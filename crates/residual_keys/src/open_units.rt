@@ -127,7 +127,7 @@ impl OpenUnits {
     }
 
     /// One more open unit, where there is room.
-    fn with(self, unit: OpenUnit) -> OpenUnits
+    pub fn with(self, unit: OpenUnit) -> OpenUnits
         requires room { length self < 2 }
         requires unit { UnitInRanges unit }
         ensures { result ≡ self ++ unit ∷ [] }
@@ -145,7 +145,7 @@ impl OpenUnits {
     }
 
     /// Another unit in a slot that has one.
-    fn replaced(self, slot: u8, unit: OpenUnit) -> OpenUnits
+    pub fn replaced(self, slot: u8, unit: OpenUnit) -> OpenUnits
         requires taken { slot < length self }
         requires unit { UnitInRanges unit }
         ensures { result ≡ set self slot unit }
@@ -164,7 +164,7 @@ impl OpenUnits {
     }
 
     /// The units without that of a slot which has one.
-    fn without(self, slot: u8) -> OpenUnits
+    pub fn without(self, slot: u8) -> OpenUnits
         requires { slot < length self }
         ensures { result ≡ remove self slot }
     {
@@ -189,6 +189,7 @@ impl OpenUnits {
         Residual::new(at, self.first, self.second, part)
     }
 
+    /// Whether no unit is open.
     pub fn is_empty(&self) -> bool
         ensures { IsTrue result ↔ (self.now ≡ []) }
     {

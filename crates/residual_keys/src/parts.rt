@@ -37,7 +37,7 @@ pub fn part_with(part: &TicketPart, begins_unit: bool, piece: &Piece) -> TicketP
 }
 
 /// Units begun, with one more or not.
-fn one_more(begins_unit: bool, units: u8) -> u8
+pub fn one_more(begins_unit: bool, units: u8) -> u8
     requires { units ≤ 2 }
     ensures value { result ≡ one_more begins_unit units }
     ensures kept { result ≤ 2 }
@@ -61,7 +61,8 @@ fn ends_with(combine: &Option<CombineRule>, ends: u8) -> u8
     }
 }
 
-fn with_end(end: EndOnEnd, ends: u8) -> u8
+/// What is asked of the whole ticket, with what one more end on end asks.
+pub fn with_end(end: EndOnEnd, ends: u8) -> u8
     requires { ends ≤ 3 }
     ensures value { result ≡ with_end end ends }
     ensures kept { result ≤ 3 }

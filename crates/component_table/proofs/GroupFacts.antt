@@ -1,0 +1,140 @@
+-- A group that is put in on the flights of a path.
+use Rattle.std.proofs.Common.{◌≡◌, ◌≢◌, ℕ, ℤ, pos, ◌+◌, ◌≤◌, Bool, List, [], ◌∷◌, length, All, Option, Some, None, IsBitSet, refl, sym, ap, subst, ◌∙◌, arith}
+use Rattle.std.proofs.lemmas.Int.{ints}
+use Rattle.std.proofs.lemmas.List.Elements.{All-head, All-tail}
+use Rattle.component_table.specs.declared.markets.Market.{Market}
+use Rattle.component_table.specs.declared.ways.Flown.{Flown}
+use Rattle.component_table.specs.Tables.{GroupDone, HasRow, IsEntry, IsOver, IsRowOf, Lowered}
+use Rattle.component_table.proofs.Lower.{goes_lowered, goes_self}
+use Rattle.fare_groups.specs.declared.group.FareGroup.{FareGroup}
+use Rattle.fare_groups.specs.declared.group.GroupKey.{GroupKey}
+use Rattle.fare_groups.specs.declared.group.GroupedFare.{GroupedFare}
+use Rattle.fare_groups.specs.Grouping.{Cheapest, IsGroup}
+use Rattle.fare_groups.specs.Groups.{Permits, extra_of}
+use Rattle.fare_groups.proofs.Grouped.{each_in, in_each}
+use Rattle.fare_groups.proofs.OneGroup.{classes_are_low, fares_are_rows}
+use Rattle.fare_law.specs.declared.fares.FareKind.{FareKind}
+use Rattle.fare_law.specs.declared.fares.FareKind.TheVariants.{O, R, S}
+use Rattle.fare_law.specs.declared.flights.Flight.{Flight}
+use Rattle.fare_law.specs.declared.requests.Request.{Request}
+use Rattle.fare_law.specs.declared.rules.Rule.{Rule}
+use Rattle.fare_law.specs.declared.sheets.SheetRow.{SheetRow}
+use Rattle.fare_law.specs.Book.{Book, live_rule}
+use Rattle.fare_law.specs.Days.{IsCalendarDay}
+use Rattle.fare_law.specs.Limits.{IsFlight}
+use Rattle.fare_law.specs.Lists.{Each, IsIn, OnFirst, OnLast}
+use Rattle.fare_law.specs.Parts.{share}
+use Rattle.fare_law.specs.RuleLimits.{IsRule}
+use Rattle.fare_law.specs.Sheets.{IsLiveRow}
+use Rattle.flight_paths.specs.declared.positions.Position.{Position}
+use Rattle.flight_paths.specs.Positions.{Flies, IsPath}
+use Rattle.outlines.specs.declared.outline.Entry.{Entry}
+use Rattle.outlines.specs.declared.outline.Outline.{Outline}
+use Rattle.outlines.specs.ByGroups.{OutlineOver, OverMarket}
+use Rattle.outlines.specs.Outlines.{Outlined}
+use Rattle.outlines.proofs.ByGroups.{groups_give}
+use Rattle.residual_keys.proofs.OneNext.{some_one}
+use Rattle.residual_keys.proofs.Sheeted.{got_in}
+use Rattle.rule_unit.specs.Ranges.{IsDayWithin}
+
+-- a path has flights
+pub path_some : (b : Book) (q : Request) (at : Position) (ns : List ℕ) (fs : List Flight) (next : Option Position) → IsPath b q.slices at ns fs next → fs ≢ []
+path_some b q at ns fs next h = go ns fs h.some h.flies
+  where
+    go : (ns : List ℕ) (fs : List Flight) → (ns ≡ [] → ⊥) → Flies b q.slices (Some at) ns fs next → fs ≢ []
+    go [] fs some k = absurd (some refl)
+    go (n ∷ ns) [] some k = absurd k
+    go (n ∷ ns) (f ∷ fs) some k = λ e. cc
+
+pub some_counted : (fs : List Flight) → fs ≢ [] → 1 ≤ length fs
+some_counted [] ne = absurd (ne refl)
+some_counted (f ∷ fs) ne = omega arith
+
+-- days within their limits
+day_within : (d : ℤ) → IsCalendarDay d → IsDayWithin (pos 99000) d
+day_within d h = let low = h.0 in let high = h.1 in (omega (arith, ints, low), omega (arith, ints, high))
+
+first_day : (d : ℤ) (fs : List Flight) → All IsFlight fs → OnFirst (λ f. d ≡ f.day) fs → IsDayWithin (pos 99000) d
+first_day d [] a h = absurd h
+first_day d (f ∷ fs) a h = subst (IsDayWithin (pos 99000)) (sym h) (day_within f.day (All-head IsFlight f fs a).day)
+
+last_day : (o : Outline) (fs : List Flight) → All IsFlight fs → OnLast (λ f. (o.end ≡ f.to) × (o.last ≡ f.day)) fs → IsDayWithin (pos 99000) o.last
+last_day o [] a h = absurd h
+last_day o (f ∷ []) a h = subst (IsDayWithin (pos 99000)) (sym h.1) (day_within f.day (All-head IsFlight f [] a).day)
+last_day o (f ∷ g ∷ fs) a h = last_day o (g ∷ fs) (All-tail IsFlight f (g ∷ fs) a) h
+
+-- what a fare costs for one component is at most its amount
+low_share : (kind : FareKind) (amount : ℕ) → amount ≤ 1000000000 → share kind amount ≤ 1000000000
+low_share O n h = h
+low_share R n h = omega (arith, h)
+low_share S n h = h
+
+module _ (b : Book) (q : Request) (at : Position) (flown : Flown) (reverse : Bool) (m : Market) (g : FareGroup) (is : IsOver b q at flown reverse m) (i : IsIn g m.groups) where
+  over : OverMarket b q at flown.way.path flown.way.flights flown.way.legs flown.classes reverse m.sheet.value m.groups
+  over = is.over
+
+  live_of : (row : SheetRow) → IsIn row m.sheet.value.rows → IsLiveRow b m.sheet.value.from m.sheet.value.to row
+  live_of row j = (over.sheet_is.live row).0 j
+
+  pub low_classes : Each (λ (f : GroupedFare). f.class ≤ 25) g.fares
+  low_classes = each_in (λ (x : FareGroup). Each (λ (f : GroupedFare). f.class ≤ 25) x.fares) m.groups g (classes_are_low m.sheet.value.rows m.groups over.groups_are
+      (in_each (λ (row : SheetRow). row.fare.class ≤ 25) m.sheet.value.rows (λ row j. (over.limited.fares row.fare.key row.fare (live_of row j).fare).1.class))) i
+
+  pub has_row : HasRow m.sheet.value.rows g
+  has_row = record {
+    some = (each_in (IsGroup m.sheet.value.rows) m.groups g over.groups_are.each i).some;
+    are = λ f j. let x = fares_are_rows m.sheet.value.rows m.groups over.groups_are g i f j in (x.row, x.stands, x.key_is);
+  }
+
+  pub rule_live : (row : SheetRow) → IsRowOf m.sheet.value.rows g row → live_rule b g.key.carrier g.key.number ≡ Some row.rule
+  rule_live row r = subst (λ (k : GroupKey). live_rule b k.carrier k.number ≡ Some row.rule) r.key (live_of row r.within).rule
+
+  pub rule_within : (row : SheetRow) → IsRowOf m.sheet.value.rows g row → IsRule row.rule
+  rule_within row r = over.limited.rules row.fare.key.carrier row.fare.rule row.rule (live_of row r.within).rule
+
+  -- a least share is low
+  pub share_low : (least : ℕ) → Cheapest flown.classes g.fares (Some least) → least ≤ 1000000000
+  share_low least c =
+      let x = fares_are_rows m.sheet.value.rows m.groups over.groups_are g i c.fare c.within in
+      let amount = (over.limited.fares x.row.fare.key x.row.fare (live_of x.row (got_in m.sheet.value.rows c.fare.place x.row x.stands)).fare).1.amount in
+      subst (λ n. n ≤ 1000000000) (sym (sym c.costs ∙ ap (λ (f : GroupedFare). f.share) x.fare)) (low_share x.row.fare.kind x.row.fare.amount amount)
+
+  pub none_cheap : (old : List Entry) → Cheapest flown.classes g.fares None → GroupDone b q at flown reverse g old old
+  none_cheap old none = record {
+    goes = goes_self b q at old;
+    has = λ rule live permits least c. absurd (each_in (λ (f : GroupedFare). IsBitSet flown.classes f.class → ⊥) g.fares c.fare none c.within c.open_class);
+  }
+
+  pub none_extra : (old : List Entry) (row : SheetRow) → IsRowOf m.sheet.value.rows g row → (Permits row.rule g.key.carrier flown.way.flights → ⊥) → GroupDone b q at flown reverse g old old
+  none_extra old row r none = record {
+    goes = goes_self b q at old;
+    has = λ rule live permits least c. absurd (none (subst (λ x. Permits x g.key.carrier flown.way.flights) (some_one (live_rule b g.key.carrier g.key.number) rule row.rule live (rule_live row r)) permits));
+  }
+
+  pub group_had : (old new : List Entry) (row : SheetRow) (least charges : ℕ) (o : Outline) → IsRowOf m.sheet.value.rows g row → Cheapest flown.classes g.fares (Some least) → Permits row.rule g.key.carrier flown.way.flights → charges ≡ extra_of row.rule flown.way.flights
+      → OutlineOver o flown.way.path.after flown.way.flights g.key reverse → Lowered (record { outline = o; rule = row.rule; price = least + charges }) old new → GroupDone b q at flown reverse g old new
+  group_had old new row mine charges o r cheap permits extra oo l = record {
+    goes = goes_lowered b q at x old new entry l;
+    has = λ rule live p least c.
+        let same = some_one (live_rule b g.key.carrier g.key.number) row.rule rule (rule_live row r) live in
+        (l.has.entry, l.has.within, subst (λ (z : Outline). OutlineOver z flown.way.path.after flown.way.flights g.key reverse) (sym l.has.outline) oo, below rule same least c);
+  }
+    where
+      x : Entry
+      x = record { outline = o; rule = row.rule; price = mine + charges }
+
+      entry : IsEntry b q at x
+      entry = record {
+        outlined = subst (λ n. Outlined b q at o (mine + n)) (sym extra) (groups_give b q at flown.way.path flown.way.flights flown.way.legs flown.classes reverse m.sheet.value m.groups over g i row.rule (rule_live row r) permits mine cheap o oo);
+        rule = ap (λ c. live_rule b c o.number) oo.carrier ∙ ap (live_rule b g.key.carrier) oo.number ∙ rule_live row r;
+        within = record { first = first_day o.first flown.way.flights is.limits oo.first; last = last_day o flown.way.flights is.limits oo.ends; rule = rule_within row r };
+      }
+
+      cheap_le : (least : ℕ) → Cheapest flown.classes g.fares (Some least) → mine ≤ least
+      cheap_le least c = subst (λ n. mine ≤ n) c.costs (each_in (λ (f : GroupedFare). IsBitSet flown.classes f.class → mine ≤ f.share) g.fares c.fare cheap.below c.within c.open_class)
+
+      sums : (p least y z : ℕ) → p ≤ mine + y → mine ≤ least → y ≡ z → p ≤ least + z
+      sums p least y z h k e = omega (arith, h, k, e)
+
+      below : (rule : Rule) → row.rule ≡ rule → (least : ℕ) → Cheapest flown.classes g.fares (Some least) → l.has.entry.price ≤ least + extra_of rule flown.way.flights
+      below rule same least c = sums l.has.entry.price least charges (extra_of rule flown.way.flights) l.has.below (cheap_le least c) (extra ∙ ap (λ z. extra_of z flown.way.flights) same)

@@ -1,0 +1,26 @@
+use Rattle.std.proofs.Common.{◌≡◌, ◌≤◌, [], ◌∷◌, ◌++◌, ap, length, slice_get, subst, sym, ◌∙◌, arith}
+use Rattle.std.specs.Arc.{arc_value}
+use Rattle.component_table.specs.declared.markets.Market.{Market}
+use Rattle.component_table.proofs.PathFacts.{last_got, own_sheet}
+use Rattle.fare_law.specs.Sheets.{Sheet}
+use Rattle.residual_keys.proofs.Sheeted.{is_sheet}
+use Rattle.component_table.proofs.markets.Markets.add.Goals as goal
+
+pub groups_of-requires : goal.groups_of-requires
+groups_of-requires c =
+    let laws = c.order_laws.ensures in
+    let sheet = arc_value c.args.sheet.now in
+    let is = is_sheet laws.less_never laws.less_trans laws.less_total c.args.book.now c.limits.ensures sheet (own_sheet c.args.book.now c.args.key.from c.args.key.to sheet c.requires.sheet) in
+    subst (λ rows. length rows ≤ 20000) (sym (c.as_slice.ensures ∙ ap (λ (s : Sheet). s.rows) (c.behind-sheet.view_is ∙ c.deref.ensures))) is.few
+
+pub returns-clause-found : goal.returns-clause-found
+returns-clause-found c =
+    let old = c.args.self.now.kept.items in
+    let m : Market = record { sheet = c.in_ok-sheet.sheet; groups = c.in_ok-groups.groups } in
+    let n : c.len-at.result ≡ length old = omega (arith, c.len-at.ensures) in
+    record {
+      market = m;
+      stands = ap (λ xs. slice_get xs c.len-at.result) c.in_ok-push.ensures.items ∙ ap (slice_get (old ++ m ∷ [])) n ∙ last_got old m;
+      from = ap (λ (s : Sheet). s.from) c.in_ok-sheet.ensures ∙ c.requires.sheet.filed_from;
+      to = ap (λ (s : Sheet). s.to) c.in_ok-sheet.ensures ∙ c.requires.sheet.filed_to;
+    }

@@ -1,0 +1,119 @@
+-- A table as it grows: what it has stands there at no more, and each group of a path's market is put in.
+use Rattle.std.specs.Prelude.{◌≡◌, ◌≢◌, ◌⊎◌, ◌↔◌, ℕ, ◌+◌, ◌≤◌, ◌<◌, Bool, List, [], slice_get, Some, All, IsBitSet}
+use Rattle.component_table.specs.declared.markets.Market.{Market}
+use Rattle.component_table.specs.declared.ways.Flown.{Flown}
+use Rattle.fare_groups.specs.declared.group.FareGroup.{FareGroup}
+use Rattle.fare_groups.specs.declared.group.GroupedFare.{GroupedFare}
+use Rattle.fare_groups.specs.Grouping.{Cheapest}
+use Rattle.fare_groups.specs.Groups.{HasClass, Permits, extra_of, group_of}
+use Rattle.fare_law.specs.declared.flights.Flight.{Flight}
+use Rattle.fare_law.specs.declared.requests.Request.{Request}
+use Rattle.fare_law.specs.declared.rules.Rule.{Rule}
+use Rattle.fare_law.specs.declared.sheets.SheetRow.{SheetRow}
+use Rattle.fare_law.specs.Book.{Book, live_rule}
+use Rattle.fare_law.specs.Limits.{IsFlight}
+use Rattle.fare_law.specs.Lists.{Each, IsIn}
+use Rattle.flight_paths.specs.declared.positions.Path.{Path}
+use Rattle.flight_paths.specs.declared.positions.Position.{Position}
+use Rattle.flight_paths.specs.Positions.{IsPath}
+use Rattle.outlines.specs.declared.outline.Entry.{Entry}
+use Rattle.outlines.specs.declared.outline.Outline.{Outline}
+use Rattle.outlines.specs.ByGroups.{OutlineOver, OverMarket, PathDone}
+use Rattle.outlines.specs.Outcomes.{EntryWithin, HasRule, Tabled}
+use Rattle.outlines.specs.Outlines.{Outlined}
+use Rattle.residual_keys.specs.Gathered.{AreLegs}
+
+-- an entry of this outline stands at this place
+pub record HasAt (entries : List Entry) (o : Outline) (at : ℕ) : Type 0 where
+  pub entry : Entry
+  pub stands : slice_get entries at ≡ Some entry
+  pub outline : entry.outline ≡ o
+
+-- the outline stands there at this price or less
+pub record HasBelow (entries : List Entry) (o : Outline) (price : ℕ) : Type 0 where
+  pub entry : Entry
+  pub within : IsIn entry entries
+  pub outline : entry.outline ≡ o
+  pub below : entry.price ≤ price
+
+-- each outline that stood there stands there still, at no more
+abbrev pub Covers : List Entry → List Entry → Type 0
+Covers old new = (e : Entry) → IsIn e old → HasBelow new e.outline e.price
+
+-- An entry was put in: its outline stands there at its price or less, and nothing but it is new.
+pub record Lowered (x : Entry) (old new : List Entry) : Type 0 where
+  pub covers : Covers old new
+  pub has : HasBelow new x.outline x.price
+  pub only : (e : Entry) → IsIn e new → IsIn e old ⊎ (e ≡ x)
+
+-- an entry of the position: some component has its outline and price, and its rule is the live one
+pub record IsEntry (b : Book) (q : Request) (at : Position) (e : Entry) : Type 0 where
+  pub outlined : Outlined b q at e.outline e.price
+  pub rule : HasRule b e
+  pub within : EntryWithin e
+
+-- The table of the position goes on: what it has stands there at no more, and entries of the position stay so.
+pub record GoesOn (b : Book) (q : Request) (at : Position) (old new : List Entry) : Type 0 where
+  pub covers : Covers old new
+  pub right : Each (IsEntry b q at) old → Each (IsEntry b q at) new
+
+-- The table has the outline of a group that permits the flights and has a fare in an open class, at no more than its least price.
+abbrev pub HasGroup : Book → Path → List Flight → ℕ → Bool → FareGroup → List Entry → Type 0
+HasGroup b path fs classes reverse g table = (rule : Rule) → live_rule b g.key.carrier g.key.number ≡ Some rule → Permits rule g.key.carrier fs → (least : ℕ) → Cheapest classes g.fares (Some least)
+    → (e : Entry) × IsIn e table × OutlineOver e.outline path.after fs g.key reverse × (e.price ≤ least + extra_of rule fs)
+
+-- A flown path of the position, over a market of the book that is filed this way.
+pub record IsOver (b : Book) (q : Request) (at : Position) (flown : Flown) (reverse : Bool) (m : Market) : Type 0 where
+  pub over : OverMarket b q at flown.way.path flown.way.flights flown.way.legs flown.classes reverse m.sheet.value m.groups
+  pub limits : All IsFlight flown.way.flights
+
+-- A flown path of the position, with the classes that are open in all of its legs.
+pub record IsFlown (b : Book) (q : Request) (at : Position) (flown : Flown) : Type 0 where
+  pub path : IsPath b q.slices at flown.way.path.flights flown.way.flights flown.way.path.after
+  pub legs : AreLegs b q flown.way.flights flown.way.legs
+  pub classes : (class : ℕ) → class < 32 → IsBitSet flown.classes class ↔ HasClass class flown.way.legs
+  pub limits : All IsFlight flown.way.flights
+
+-- a path of the position
+abbrev pub IsPathFrom : Book → Request → Position → Path → Type 0
+IsPathFrom b q at path = (fs : List Flight) × IsPath b q.slices at path.flights fs path.after
+
+-- the row of some fare of a group
+pub record IsRowOf (rows : List SheetRow) (g : FareGroup) (row : SheetRow) : Type 0 where
+  pub within : IsIn row rows
+  pub key : group_of row ≡ g.key
+
+-- the group's first fare is that of a row of its key
+pub record HasRow (rows : List SheetRow) (g : FareGroup) : Type 0 where
+  pub some : g.fares ≢ []
+  pub are : (f : GroupedFare) → IsIn f g.fares → (row : SheetRow) × (slice_get rows f.place ≡ Some row) × (group_of row ≡ g.key)
+
+-- a group was put in
+pub record GroupDone (b : Book) (q : Request) (at : Position) (flown : Flown) (reverse : Bool) (g : FareGroup) (old new : List Entry) : Type 0 where
+  pub goes : GoesOn b q at old new
+  pub has : HasGroup b flown.way.path flown.way.flights flown.classes reverse g new
+
+-- the groups of a market were put in
+pub record MarketDone (b : Book) (q : Request) (at : Position) (flown : Flown) (reverse : Bool) (m : Market) (old new : List Entry) : Type 0 where
+  pub goes : GoesOn b q at old new
+  pub has : (g : FareGroup) → IsIn g m.groups → HasGroup b flown.way.path flown.way.flights flown.classes reverse g new
+
+-- a path was put in with the fares that are filed this way
+pub record WayDone (b : Book) (q : Request) (at : Position) (path : Path) (fs : List Flight) (reverse : Bool) (old new : List Entry) : Type 0 where
+  pub goes : GoesOn b q at old new
+  pub done : PathDone b q at path fs reverse new
+
+-- a path is done both ways
+abbrev pub IsDone : Book → Request → Position → Path → List Entry → Type 0
+IsDone b q at path table = (fs : List Flight) → IsPath b q.slices at path.flights fs path.after → (reverse : Bool) → PathDone b q at path fs reverse table
+
+-- a path was put in
+pub record PathAdded (b : Book) (q : Request) (at : Position) (path : Path) (old new : List Entry) : Type 0 where
+  pub goes : GoesOn b q at old new
+  pub done : IsDone b q at path new
+
+-- The table of a position, with live rules.
+pub record IsTable (b : Book) (q : Request) (at : Position) (table : List Entry) : Type 0 where
+  pub tabled : Tabled b q at table
+  pub rules : Each (HasRule b) table
+  pub within : Each EntryWithin table
