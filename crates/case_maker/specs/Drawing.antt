@@ -27,15 +27,15 @@ abbrev pub drawing : ℕ → (ℕ → Making) → Making
 drawing n make x = make (drawn_below n (after x)) (after x)
 
 -- what was made, and after it what is made next
-abbrev pub going_on : Made → Making → Made
+unfoldable pub going_on : Made → Making → Made
 going_on made next = record { text = made.text ++ (next made.last).text; last = (next made.last).last }
 
 infixr 5 ◌before◌
 -- the one, and after it the other
-abbrev pub ◌before◌ : Making → Making → Making
+unfoldable pub ◌before◌ : Making → Making → Making
 (one before other) x = going_on (one x) other
 
 -- what is made of each number below n, in order
-pub each_below : ℕ → (ℕ → Making) → Making
+unfoldable pub each_below : ℕ → (ℕ → Making) → Making
 each_below zero make = said []
 each_below (suc n) make = each_below n make before make n

@@ -14,5 +14,5 @@ abbrev pub sections : ℕ → Making
 sections size = places size before flights size before seats size before filing size before request
 
 -- the case of a seed and of so many hubs
-pub made_case : ℕ → ℕ → List ℕ
+unfoldable pub made_case : ℕ → ℕ → List ℕ
 made_case seed size = (sections size seed).text

@@ -47,6 +47,7 @@ pub(crate) fn push_filing(page: &mut Page, size: u32) -> Result<(), Mem>
 }
 
 // Adds a fare for the whole way out.
+#[tactic(auto, unfolding(crate::specs::Drawing::going_on))]
 fn push_way_fare(page: &mut Page, j: u32) -> Result<(), Mem>
     requires { j < 1000 }
     ensures { OnOk result (page.new ≡ going_on page.old (Filing.way_fare j)) }
@@ -77,6 +78,7 @@ fn push_hub_fares(page: &mut Page, i: u32) -> Result<(), Mem>
     push_short_fare(page, hub, AWAY)
 }
 
+#[tactic(auto, unfolding(crate::specs::Drawing::going_on))]
 fn push_short_fare(page: &mut Page, from: [u8; 3], to: [u8; 3]) -> Result<(), Mem>
     ensures { OnOk result (page.new ≡ going_on page.old (Filing.short_fare from to)) }
 {

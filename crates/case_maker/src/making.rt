@@ -18,7 +18,7 @@ pub fn make(alloc: Global, seed: u32, size: u32) -> Result<List<u8>, Mem>
     requires { IsInRange 1 100 size }
     ensures { IfOk result (λ text. text ≡ made_case seed size) }
 {
-    let mut page = Page::new(alloc, seed.into());
+    let mut page = Page::new(alloc, seed);
     push_places(&mut page, size)?;
     push_flights(&mut page, size)?;
     push_seats(&mut page, size)?;

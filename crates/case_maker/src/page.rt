@@ -1,6 +1,6 @@
 //! A growing text, and the numbers that are drawn for it.
-ghost use Rattle.std.specs.Prelude.{◌≡◌, ◌≤◌, ◌<◌, ◌++◌, [], map, codes, OnOk};
-ghost use Rattle.std.specs.List.{concat, join_with_byte};
+ghost use Rattle.std.specs.Prelude.{◌≡◌, ◌≤◌, ◌<◌, ◌++◌, [], map, flat_map, OnOk};
+ghost use Rattle.std.specs.List.{join_with_byte};
 ghost use Rattle.case_maker.specs.Drawing.{Made, after, drawn_below, going_on, said};
 ghost use Rattle.case_maker.specs.Tables.{row};
 
@@ -24,12 +24,12 @@ impl Model for Page {
 
 impl Page {
     /// A page without text, on which the numbers follow the seed.
-    pub fn new(alloc: Global, seed: u64) -> Page
+    pub fn new(alloc: Global, seed: u32) -> Page
         ensures { result ≡ said [] seed }
     {
         Page {
             text: Vec::new(alloc),
-            last: seed,
+            last: seed as u64,
         }
     }
 
@@ -49,6 +49,7 @@ impl Page {
     }
 
     /// Adds bytes.
+    #[tactic(auto, unfolding(crate::specs::Drawing::going_on))]
     pub fn say(&mut self, bytes: &[u8]) -> Result<(), Mem>
         ensures { OnOk result (self.new ≡ going_on self.old (said bytes.now)) }
     {
@@ -57,16 +58,15 @@ impl Page {
     }
 
     /// Adds pieces one after another.
+    #[tactic(auto, unfolding(crate::specs::Drawing::going_on))]
     pub fn say_all(&mut self, pieces: &[&[u8]]) -> Result<(), Mem>
-        ensures { OnOk result (self.new ≡ going_on self.old (said (concat (map (λ p. p.now) pieces.now)))) }
+        ensures { OnOk result (self.new ≡ going_on self.old (said (flat_map (λ p. p.now) pieces.now))) }
     {
-        for piece in pieces {
-            self.text.extend_from_slice(piece)?;
-        }
-        Ok(())
+        push_pieces(&mut self.text, pieces)
     }
 
     /// Adds a line of columns with commas between.
+    #[tactic(auto, unfolding(crate::specs::Drawing::going_on))]
     pub fn say_row(&mut self, columns: &[&[u8]]) -> Result<(), Mem>
         ensures { OnOk result (self.new ≡ going_on self.old (row (map (λ c. c.now) columns.now))) }
     {
@@ -81,4 +81,13 @@ impl Page {
     {
         List::from_vec(self.text)
     }
+}
+
+fn push_pieces(text: &mut Vec<u8>, pieces: &[&[u8]]) -> Result<(), Mem>
+    ensures { OnOk result (text.new.items ≡ text.old.items ++ flat_map (λ p. p.now) pieces.now) }
+{
+    for piece in pieces {
+        text.extend_from_slice(piece)?;
+    }
+    Ok(())
 }

@@ -1,5 +1,5 @@
 //! The line of a summary.
-ghost use Rattle.std.specs.Prelude.{◌≡◌, ◌++◌, decimal, OnOk};
+ghost use Rattle.std.specs.Prelude.{◌≡◌, ◌++◌, codes, decimal, OnOk};
 ghost use Rattle.case_maker.specs.SummaryLine.{price_word, summary_line};
 
 use crate::Summary;
@@ -17,10 +17,7 @@ pub fn push_summary(text: &mut Vec<u8>, summary: &Summary) -> Result<(), Mem>
     push_named(text, b" flights ", summary.flights as u64)?;
     push_named(text, b" residuals ", summary.residuals as u64)?;
     push_named(text, b" tickets ", summary.tickets as u64)?;
-    match summary.cheapest {
-        Some(price) => push_named(text, b" cheapest ", price)?,
-        None => text.extend_from_slice(b" cheapest -")?,
-    }
+    push_price(text, summary.cheapest)?;
     text.extend_from_slice(b" checked yes\n")?;
     Ok(())
 }
@@ -32,4 +29,14 @@ fn push_named(text: &mut Vec<u8>, name: &[u8], number: u64) -> Result<(), Mem>
     text.extend_from_slice(name)?;
     text.extend_from_slice(Buffer::new().format(number).as_bytes())?;
     Ok(())
+}
+
+// Adds the price, or a dash where there is none.
+fn push_price(text: &mut Vec<u8>, price: Option<u64>) -> Result<(), Mem>
+    ensures { OnOk result (text.new.items ≡ text.old.items ++ (codes " cheapest " ++ price_word price)) }
+{
+    match price {
+        Some(price) => push_named(text, b" cheapest ", price),
+        None => Ok(text.extend_from_slice(b" cheapest -")?),
+    }
 }

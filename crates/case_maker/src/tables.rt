@@ -54,7 +54,6 @@ fn push_hub_flights(page: &mut Page, i: u32) -> Result<(), Mem>
     ensures { OnOk result (page.new ≡ going_on page.old (Tables.hub_flights i)) }
 {
     let hub = hub_name(i);
-    let i = u64::from(i);
     let out_to = Leg {
         number: 1000 + i,
         from: HOME,
@@ -86,6 +85,7 @@ fn push_hub_flights(page: &mut Page, i: u32) -> Result<(), Mem>
 }
 
 // Adds a flight that departs in the two hours from the earliest minute on, and takes up to an hour more than the shortest.
+#[tactic(auto, unfolding(crate::specs::Drawing::going_on))]
 fn push_drawn_flight(page: &mut Page, leg: Leg, earliest: u64, shortest: u64) -> Result<(), Mem>
     requires earliest { earliest ≤ 720 }
     requires shortest { shortest ≤ 240 }
@@ -101,15 +101,17 @@ fn push_flight(page: &mut Page, leg: Leg, departs: u64, arrives: u64) -> Result<
     requires arrives { arrives < 1440 }
     ensures { OnOk result (page.new ≡ going_on page.old (Tables.flight_row leg departs arrives)) }
 {
-    let mut number = Buffer::new();
+    let mut numbers = Buffer::new();
+    let number = numbers.format(leg.number).as_bytes();
+    let (departure, arrival) = (clock_time(departs), clock_time(arrives));
     let columns: [&[u8]; 12] = [
         b"MX",
-        number.format(leg.number).as_bytes(),
+        number,
         &leg.from,
         &leg.to,
-        &clock_time(departs),
+        &departure,
         b"+00:00",
-        &clock_time(arrives),
+        &arrival,
         b"+00:00",
         b"0",
         &leg.date,
@@ -139,14 +141,14 @@ fn push_hub_seats(page: &mut Page, i: u32) -> Result<(), Mem>
     ensures { OnOk result (page.new ≡ going_on page.old (Tables.hub_seats i)) }
 {
     let hub = hub_name(i);
-    let i = u64::from(i);
     push_seat_row(page, 1000 + i, HOME)?;
     push_seat_row(page, 2000 + i, hub)?;
     push_seat_row(page, 3000 + i, AWAY)?;
     push_seat_row(page, 4000 + i, hub)
 }
 
-fn push_seat_row(page: &mut Page, number: u64, from: [u8; 3]) -> Result<(), Mem>
+#[tactic(auto, unfolding(crate::specs::Drawing::going_on))]
+fn push_seat_row(page: &mut Page, number: u32, from: [u8; 3]) -> Result<(), Mem>
     ensures { OnOk result (page.new ≡ going_on page.old (Tables.seat_row number from)) }
 {
     let in_m = page.draw(10) as u8;
