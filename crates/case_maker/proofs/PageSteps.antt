@@ -1,6 +1,6 @@
 -- What is made one after another on a page, also for each number of a loop.
-use Rattle.std.proofs.Common.{◌≡◌, ◌≤◌, ◌+◌, ℕ, suc, List, ◌++◌, append_assoc, append-nil, ap, sym, subst, ◌∙◌, Result, Ok, Err, OnOk, arith}
-use Rattle.case_maker.specs.Drawing.{Made, Making, said, going_on, ◌before◌, each_below}
+use Rattle.std.proofs.Common.{◌≡◌, ◌≤◌, ◌+◌, ℕ, suc, List, append_assoc, append-nil, ap, sym, subst, ◌∙◌, Result, Ok, Err, OnOk, arith}
+use Rattle.case_maker.specs.Drawing.{Made, Making, going_on, ◌before◌, each_below}
 
 -- what follows where a call went well
 pub whenever : {T E : Type 0} (r : Result T E) (P Q : Type 0) → (P → Q) → OnOk r P → OnOk r Q

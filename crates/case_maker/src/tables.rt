@@ -105,18 +105,8 @@ fn push_flight(page: &mut Page, leg: Leg, departs: u64, arrives: u64) -> Result<
     let number = numbers.format(leg.number).as_bytes();
     let (departure, arrival) = (clock_time(departs), clock_time(arrives));
     let columns: [&[u8]; 12] = [
-        b"MX",
-        number,
-        &leg.from,
-        &leg.to,
-        &departure,
-        b"+00:00",
-        &arrival,
-        b"+00:00",
-        b"0",
-        &leg.date,
-        &leg.date,
-        b"1",
+        b"MX", number, &leg.from, &leg.to, &departure, b"+00:00", &arrival, b"+00:00", b"0",
+        &leg.date, &leg.date, b"1",
     ];
     page.say_row(&columns)
 }

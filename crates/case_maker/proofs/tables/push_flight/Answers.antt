@@ -1,8 +1,8 @@
-use Rattle.std.proofs.Common.{◌≡◌, ◌∙◌, ap, List, ℕ, [], ◌∷◌, codes, decimal}
+use Rattle.std.proofs.Common.{◌∙◌, ap, List, ℕ, [], ◌∷◌, codes, decimal}
 use Rattle.market_time.specs.Clock.{time_text}
 use Rattle.case_maker.specs.declared.legs.Leg.{Leg}
 use Rattle.case_maker.specs.Drawing.{Made, going_on}
-use Rattle.case_maker.specs.Tables.{row, flight_row}
+use Rattle.case_maker.specs.Tables.{row}
 use Rattle.case_maker.proofs.PageSteps.{whenever}
 use Rattle.case_maker.proofs.tables.push_flight.Goals as goal
 

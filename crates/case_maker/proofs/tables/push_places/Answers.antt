@@ -1,6 +1,5 @@
 use Rattle.std.proofs.Common.{ap, ◌∙◌, ◌∷◌, [], codes}
-use Rattle.case_maker.specs.Drawing.{going_on, each_below, said}
-use Rattle.case_maker.specs.Names.{hub}
+use Rattle.case_maker.specs.Drawing.{going_on}
 use Rattle.case_maker.specs.Tables.{row}
 use Rattle.case_maker.proofs.PageSteps.{none, more, two, all}
 use Rattle.case_maker.proofs.tables.push_places.Goals as goal

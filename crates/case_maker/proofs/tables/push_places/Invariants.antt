@@ -1,4 +1,4 @@
-use Rattle.std.proofs.Common.{◌≡◌, ◌≤◌, ◌∷◌, [], codes}
+use Rattle.std.proofs.Common.{◌≡◌, ◌∷◌, [], codes}
 use Rattle.case_maker.specs.Drawing.{going_on, each_below}
 use Rattle.case_maker.specs.Names.{hub}
 use Rattle.case_maker.specs.Tables.{row}
