@@ -1,5 +1,6 @@
 -- The ticket that lines spell: a component's line begins a component, and a flight's line belongs to the last one.
-use Rattle.std.specs.Prelude.{◌≡◌, ◌==◌, ◌&&◌, ℕ, Bool, nat_lt, drop, List, [], ◌∷◌, ◌++◌, length, Option, Some, None, option_map, option_and_then, position, unwrap_or, Result, Ok, Err, if◌then◌else◌}
+use Rattle.std.specs.Prelude.{◌≡◌, ◌==◌, ◌&&◌, ℕ, Bool, nat_lt, drop, List, [], ◌∷◌, ◌++◌, length, Option, Some, None, option_map, option_and_then, unwrap_or, Result, Ok, Err, if◌then◌else◌}
+use Rattle.std.specs.List.{position_from}
 use Rattle.std.specs.Ordering.{int_eq}
 use Rattle.fare_law.specs.declared.fares.FareKey.{FareKey}
 use Rattle.fare_law.specs.declared.flights.Flight.{Flight}
@@ -20,7 +21,7 @@ names name f = int_eq f.day name.day && (f.number == name.number) && same_carrie
 
 -- the number of the flight of this name among these, or one that is unknown
 abbrev pub flight_named : List Flight → FlightName → ℕ
-flight_named flights name = unwrap_or (position (names name) flights) 4294967295
+flight_named flights name = unwrap_or (position_from (names name) 0 flights) 4294967295
 
 -- the components with one more, which has no flight yet: at most 18
 abbrev pub with_component : List Component → ℕ → FareKey → Option (List Component)

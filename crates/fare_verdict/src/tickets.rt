@@ -50,7 +50,7 @@ fn read_flights(lines: &[TextLine], book: &Book) -> Result<ArrayVec<u32, 4>, Tic
     let mut numbers = ArrayVec::new();
     for line in lines {
         let Some(TicketLine::Flight { name }) = line_of(line.bytes.as_slice()) else {
-            break;
+            return Ok(numbers);
         };
         if numbers.is_full() {
             return Err(TicketFault::Line { line: line.line });
@@ -64,11 +64,20 @@ fn read_flights(lines: &[TextLine], book: &Book) -> Result<ArrayVec<u32, 4>, Tic
 fn number_of_flight(book: &Book, name: FlightName) -> u32
     ensures { result ≡ flight_named book.now.timetable.flights name }
 {
-    let flights = book.timetable().schedule().flights();
-    match flights.iter().position(|flight| is_named(flight, name)) {
-        Some(number) => number as u32,
-        None => UNKNOWN,
+    place_of_name(book.timetable().schedule().flights(), name)
+}
+
+/// The number of the flight of this name among at most 200,000, or one that is unknown.
+fn place_of_name(flights: &[Flight], name: FlightName) -> u32
+    requires { length flights.now ≤ 200000 }
+    ensures { result ≡ flight_named flights.now name }
+{
+    for number in 0..flights.len() {
+        if is_named(&flights[number], name) {
+            return number as u32;
+        }
     }
+    UNKNOWN
 }
 
 /// Whether this is the name of the flight.
