@@ -1,0 +1,6 @@
+pub mod Growth
+pub mod Stands
+pub mod RuleTurns
+pub mod UnitsAlone
+pub mod FirstFindings
+pub mod Spelling
