@@ -1,14 +1,12 @@
 -- The compact text of an action that puts a fare or seats: it is read again as the action.
-use Rattle.std.proofs.Common.{◌≡◌, ◌≢◌, ◌<◌, ◌≤◌, ◌+◌, ◌^◌, ℕ, nat_le, Bool, true, false, List, [], ◌∷◌, ◌++◌, Option, Some, Ok, codes, decimal, length, refl, sym, ap, subst, ◌∙◌, arith, append_assoc}
-use Rattle.json.specs.Print.{escape, escape_byte, IsNumber}
-use Rattle.json.specs.Tree.{HasNumbers, depth as json_depth}
+use Rattle.std.proofs.Common.{◌≡◌, ◌<◌, ◌≤◌, ◌+◌, ◌^◌, ℕ, Bool, true, false, List, [], ◌∷◌, ◌++◌, codes, decimal, refl, sym, ap, ◌∙◌, arith, append_assoc}
+use Rattle.json.specs.Print.{escape, escape_byte}
 use Rattle.json.proofs.Printed.Decimals.{IsNumber-decimal}
 use Rattle.json.proofs.Printed.Strings.{escape_byte_plain}
 use Rattle.serde_json.proofs.Numbers.{number_of-decimal}
 use Rattle.serde_json.specs.Data.{Data, null, boolean, number, string, array, object, Members, no_members, member}
-use Rattle.serde_json.specs.Written.{comma_if, compact_text, members_text, outline}
-use Rattle.fare_law.specs.FilingLimits.{IsAction}
-use Rattle.fare_law.specs.Limits.{AreSeats, IsCapital, IsFare, IsSeatKey}
+use Rattle.serde_json.specs.Written.{comma_if, compact_text, members_text}
+use Rattle.fare_law.specs.Limits.{IsCapital, IsFare, IsSeatKey}
 use Rattle.fare_law.specs.Lists.{Each}
 use Rattle.fare_law.specs.Names.{IsCharacter}
 use Rattle.fare_law.specs.declared.fares.Fare.{Fare}
@@ -17,9 +15,7 @@ use Rattle.fare_law.specs.declared.fares.FareKind.TheVariants.{O, R, S}
 use Rattle.fare_law.specs.declared.filings.Action.TheVariants.{PutFare, PutSeats}
 use Rattle.fare_law.specs.declared.filings.SeatKey.{SeatKey}
 use Rattle.name_text.specs.Again.{NamesReadAgain}
-use Rattle.name_text.specs.Seats.{seat_day_of, seats_of}
-use Rattle.fare_filing.specs.Compact.{Begins, IsPlain, ReadsBack, SeatsAction, Spells, fare_action, seats_action}
-use Rattle.fare_filing.specs.Reading.{action_spelled}
+use Rattle.fare_filing.specs.Compact.{Begins, IsPlain, ReadsBack, SeatsAction, fare_action, seats_action}
 use Rattle.fare_filing.specs.Text.{fare_data, kind_text, seats_data, sole}
 use Rattle.fare_filing.proofs.AgainLemmas.{fare_again, le_true}
 

@@ -1,10 +1,10 @@
 -- Names that a text spells are the text.
-use Rattle.std.proofs.Common.{◌≡◌, ℕ, Bool, true, false, if◌then◌else◌, List, Option, Some, None, sym, ap, ◌∙◌, ◌++◌}
+use Rattle.std.proofs.Common.{◌≡◌, ℕ, Bool, true, false, if◌then◌else◌, List, Some, None, sym, ap, ◌∙◌, ◌++◌}
 use Rattle.fare_law.specs.declared.names.Basis.{Basis}
 use Rattle.fare_law.specs.declared.names.Carrier.{Carrier}
 use Rattle.fare_law.specs.declared.names.Place.{Place}
 use Rattle.name_text.specs.Names.{basis_of, carrier_of, place_of}
-use Rattle.fare_filing.specs.Compact.{Cuts, Follows}
+use Rattle.fare_filing.specs.Compact.{Follows}
 
 held : {A : Type 0} (b : Bool) (x y : A) → (if b then Some x else None) ≡ Some y → x ≡ y
 held true x y e = cc

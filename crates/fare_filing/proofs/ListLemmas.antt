@@ -1,22 +1,21 @@
 -- Actions of compact text one after another, and the filing that they are.
-use Rattle.std.proofs.Common.{◌≡◌, ◌≤◌, ◌+◌, ℕ, suc, max, nat_le, true, List, [], ◌∷◌, ◌++◌, length, Option, Some, Ok, codes, refl, sym, ap, subst, ◌∙◌, arith, append_assoc, append-nil, length-append}
+use Rattle.std.proofs.Common.{◌≡◌, ◌≤◌, ◌+◌, ℕ, suc, true, List, [], ◌∷◌, ◌++◌, length, Some, Ok, codes, refl, sym, ap, subst, ◌∙◌, arith, append_assoc, append-nil, length-append}
 use Rattle.std.specs.Str.{IsUtf8}
 use Rattle.json.specs.Lex.{tokens}
 use Rattle.json.specs.Json as json
-use Rattle.json.specs.Print.{escape_byte, print}
+use Rattle.json.specs.Print.{escape_byte}
 use Rattle.json.specs.Tree.{HasNumbers, ItemsHaveNumbers, depth as json_depth, items_depth as json_items_depth, json_tokens}
 use Rattle.json.proofs.Printed.Tokens.{tokens-print}
 use Rattle.json.proofs.Printed.Trees.{ArePrintable-json_tokens, value-json_tokens}
-use Rattle.serde_json.specs.Data.{Data, Items, no_items, item, array, object, member, no_members}
+use Rattle.serde_json.specs.Data.{Data, array}
 use Rattle.serde_json.specs.Read.{max_depth, of_items, of_json, read}
-use Rattle.serde_json.specs.Written.{comma_if, compact_text, items_outline, items_text, outline}
+use Rattle.serde_json.specs.Written.{compact_text, items_outline, items_text, outline}
 use Rattle.serde_json.proofs.Texts.{print-outline}
-use Rattle.fare_law.specs.FilingLimits.{IsAction, IsFiling}
+use Rattle.fare_law.specs.FilingLimits.{IsAction}
 use Rattle.fare_law.specs.Lists.{Each, Matched}
 use Rattle.fare_law.specs.declared.filings.Action.{Action}
-use Rattle.fare_law.specs.declared.filings.Filing.{Filing}
 use Rattle.rule_text.specs.Members.{item_count}
-use Rattle.fare_filing.specs.Compact.{Begins, Begun, Ended, ReadsBack, Spells, items_of, with_commas}
+use Rattle.fare_filing.specs.Compact.{Begins, Begun, Ended, Spells, items_of, with_commas}
 use Rattle.fare_filing.specs.Reading.{actions_from, filing_of, filing_spelled}
 use Rattle.fare_filing.specs.Text.{sole}
 use Rattle.fare_filing.proofs.ActionLemmas.{each_more}

@@ -1,5 +1,5 @@
 -- Compact text, with members ascending by name, from its beginning on: a piece of it, and what follows.
-use Rattle.std.specs.Prelude.{◌≡◌, ◌≢◌, ◌≤◌, ◌+◌, ℕ, List, [], ◌∷◌, ◌++◌, Option, Some, Ok, codes, decimal}
+use Rattle.std.specs.Prelude.{◌≡◌, ◌≢◌, ◌≤◌, ◌+◌, ℕ, List, [], ◌∷◌, ◌++◌, Some, Ok, codes, decimal}
 use Rattle.json.specs.Tree.{HasNumbers, depth as json_depth}
 use Rattle.serde_json.specs.Data.{Data, Items, no_items, item, array}
 use Rattle.serde_json.specs.Read.{of_json}
