@@ -39,7 +39,7 @@ use Rattle.fare_filing.proofs.SeatLemmas.{seats_again}
 abbrev pub StandAside : Type 0
 StandAside = (carrier n : Data) (ms : Members) → rule_of (object (put (codes "carrier") carrier (put (codes "rule") n ms))) ≡ rule_of (object ms)
 
-le_true : (a b : ℕ) → a ≤ b → nat_le a b ≡ true
+pub le_true : (a b : ℕ) → a ≤ b → nat_le a b ≡ true
 le_true a b h = grind (arith, nat_tests)
 
 kind_again : (kind : FareKind) → kind_of (kind_text kind) ≡ Some kind
@@ -52,7 +52,7 @@ module _ (names : NamesReadAgain) where
   key_again key h =
       rw (names.carriers key.carrier h.carrier, names.places key.from h.from, names.places key.to h.to, names.bases key.basis h.basis) refl
 
-  fare_again : (fare : Fare) → IsFare fare → fare_spelled (fare_data fare) ≡ Some fare
+  pub fare_again : (fare : Fare) → IsFare fare → fare_spelled (fare_data fare) ≡ Some fare
   unfolding fare_spelled
   fare_again fare h =
       rw (
@@ -151,7 +151,7 @@ filing_again names aside filing d h w =
       actions_again names aside filing.actions w.items 1 h.each w.actions,
     ) refl)
 
-spelled_again : (text : List ℕ) (d : Data) → IsUtf8 text → read text ≡ Some d → spelled text ≡ Some d
+pub spelled_again : (text : List ℕ) (d : Data) → IsUtf8 text → read text ≡ Some d → spelled text ≡ Some d
 unfolding spelled
 spelled_again text d utf8 e = rw (is_utf8-from_IsUtf8 text utf8, e) refl
 

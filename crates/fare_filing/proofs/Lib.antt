@@ -4,3 +4,7 @@ pub mod DateLemmas
 pub mod SeatLemmas
 pub mod PlainLemmas
 pub mod AgainLemmas
+pub mod PieceLemmas
+pub mod FieldLemmas
+pub mod CompactLemmas
+pub mod ListLemmas

@@ -1,3 +1,4 @@
 pub mod Actions
 pub mod Reading
 pub mod Text
+pub mod Compact

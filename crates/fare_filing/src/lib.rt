@@ -4,8 +4,11 @@
 #![tactic(auto)]
 
 mod actions;
+mod compact;
 mod fares;
 mod fault;
+mod fields;
+mod pieces;
 mod reading;
 mod rows;
 mod rules;

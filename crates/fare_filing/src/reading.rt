@@ -8,6 +8,7 @@ ghost use Rattle.fare_filing.specs.Reading.{Tells};
 
 use crate::FilingFault;
 use crate::actions::read_action;
+use crate::compact::compact_filing;
 use fare_law::{Action, Filing, List, Mem};
 use json_form::{has_members, items_at, read_value};
 use serde_json::Value;
@@ -19,6 +20,17 @@ use std::alloc::Global;
 /// is no object of `actions` alone, a list of at most 5,000. Else `Shape` or `Rule` exactly at the
 /// first action that has such a fault.
 pub fn read_filing(alloc: Global, bytes: &[u8]) -> Result<Filing, FilingFault>
+    ensures told { Tells result (Reading.filing_of bytes.now) }
+    ensures limits { IfOk result IsFiling }
+{
+    match compact_filing(alloc, bytes)? {
+        Some(filing) => Ok(filing),
+        None => spelled_filing(alloc, bytes),
+    }
+}
+
+// The filing of any bytes, by the tree of their JSON.
+fn spelled_filing(alloc: Global, bytes: &[u8]) -> Result<Filing, FilingFault>
     ensures told { Tells result (Reading.filing_of bytes.now) }
     ensures limits { IfOk result IsFiling }
 {
