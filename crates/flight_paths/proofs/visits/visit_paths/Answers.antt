@@ -29,7 +29,7 @@ returns g c =
     on_ok ((wanted : Place → Bool) → HasTails (plan_book plan) c.as_slice-slices.result.now (suc at.slice) wanted ts → Saw old new (AreReached (plan_book plan) c.as_slice-slices.result.now at wanted))
     ((b : Book) → HasPlan b plan → (wanted : Place → Bool) → HasTails b sl (at.slice + 1) wanted ts → Saw old new (AreReached b sl at wanted)) c.visit_heads.result c.visit_heads.ensures
     (λ s b k wanted all.
-        let there = has_any b (plan_book plan) (alike_back (plan_book plan) b (alike_plan b plan k)) sl (suc at.slice) wanted ts (subst (λ i. HasTails b sl i wanted ts) (one_more at.slice) all) in
-        let has = subst (λ x. HasTails (plan_book plan) x (suc at.slice) wanted ts) (sym c.as_slice-slices.ensures.items) there in
-        saw_like old new (AreReached (plan_book plan) c.as_slice-slices.result.now at wanted) (AreReached b sl at wanted) (s wanted has)
-        (λ ps a. reached_any (plan_book plan) b (alike_plan b plan k) sl at wanted ps (subst (λ x. AreReached (plan_book plan) x at wanted ps) c.as_slice-slices.ensures.items a)))
+    let there = has_any b (plan_book plan) (alike_back (plan_book plan) b (alike_plan b plan k)) sl (suc at.slice) wanted ts (subst (λ i. HasTails b sl i wanted ts) (one_more at.slice) all) in
+    let has = subst (λ x. HasTails (plan_book plan) x (suc at.slice) wanted ts) (sym c.as_slice-slices.ensures.items) there in
+    saw_like old new (AreReached (plan_book plan) c.as_slice-slices.result.now at wanted) (AreReached b sl at wanted) (s wanted has)
+    (λ ps a. reached_any (plan_book plan) b (alike_plan b plan k) sl at wanted ps (subst (λ x. AreReached (plan_book plan) x at wanted ps) c.as_slice-slices.ensures.items a)))
