@@ -2,25 +2,10 @@ use Rattle.std.proofs.Common.{◌≡◌, ◌+◌, ◌++◌, ◌∷◌, [], take,
 use Rattle.fare_law.specs.Lists.{IsIn}
 use Rattle.flight_paths.specs.Heads.{AreRest, Saw}
 use Rattle.flight_paths.specs.Plans.{plan_book}
-use Rattle.flight_paths.specs.Ways.{AreFlightsOf}
 use Rattle.flight_paths.proofs.Apart.{not_before}
-use Rattle.flight_paths.proofs.Joining.{head_flights}
 use Rattle.flight_paths.proofs.Seeing.{rest_more, saw_more}
 use Rattle.flight_paths.proofs.Places.{front_is, in_list}
 use Rattle.flight_paths.proofs.visits.visit_each.Goals as goal
-
-pub arrivals-places-requires-clause-known : goal.arrivals-places-requires-clause-known
-arrivals-places-requires-clause-known g c =
-    let b = plan_book c.args.schedule.now in
-    let h = c.args.head.now in
-    let x = c.requires.crossing in
-    let known = head_flights b c.args.slices.now c.args.start.now h.flights x.flights _ x.is_head in
-    (x.flights, subst (λ ns. AreFlightsOf c.flights.result.now ns x.flights) (sym c.as_slice.ensures.items) (subst (λ xs. AreFlightsOf xs h.flights x.flights) (sym c.flights.ensures.flights) known))
-
-pub visit_joined-requires-clause-places : goal.visit_joined-requires-clause-places
-visit_joined-requires-clause-places g c = λ fs known.
-    let there = subst (λ ns. AreFlightsOf c.flights.result.now ns fs) (sym c.as_slice.ensures.items) (subst (λ xs. AreFlightsOf xs c.args.head.now.flights fs) (sym c.flights.ensures.flights) known) in
-    c.as_slice-in-loop-tail.ensures.items ∙ c.arrivals-places.ensures fs there
 
 pub visit_joined-requires-clause-tail : goal.visit_joined-requires-clause-tail
 visit_joined-requires-clause-tail g c =
@@ -31,10 +16,10 @@ visit_joined-requires-clause-tail g c =
 
 pub loop-tail-preserved : goal.loop-tail-preserved
 loop-tail-preserved g c =
-    let b = plan_book c.args.schedule.now in
-    let sl = c.args.slices.now in
-    let at = c.args.start.now in
-    let h = c.args.head.now in
+    let b = plan_book c.args.junction.now.schedule.now in
+    let sl = c.args.junction.now.slices.now in
+    let at = c.args.junction.now.start.now in
+    let h = c.args.junction.now.head.now in
     let ts = c.args.tails.now in
     let i = c.loop-tail.tail-index in
     let t = c.tail-item.result in

@@ -1,6 +1,8 @@
 use Rattle.std.proofs.Common.{◌≡◌, ◌++◌, ◌∷◌, [], refl, sym, subst}
 use Rattle.flight_paths.specs.Heads.{AreFrom, AreRest, Saw}
 use Rattle.flight_paths.specs.Plans.{plan_book}
+use Rattle.flight_paths.specs.Ways.{AreFlightsOf}
+use Rattle.flight_paths.proofs.Joining.{head_flights}
 use Rattle.flight_paths.proofs.Seeing.{from_alone, from_rest, on_ok, saw_more, saw_one}
 use Rattle.flight_paths.proofs.visits.visit_head.Goals as goal
 
@@ -26,3 +28,15 @@ returns-in-None g c =
     let h = c.args.head.now in
     let ts = c.args.tails.now in
     saw_one (g.V.PathVisitor.told c.args.visitor.now) (g.V.PathVisitor.told c.visit.new.self) (AreFrom b sl at h ts) h c.in_ok-visit.ensures (from_alone b sl at h ts c.in-None.ensures.none)
+
+pub arrivals-places-requires-clause-known : goal.arrivals-places-requires-clause-known
+arrivals-places-requires-clause-known g c =
+    let b = plan_book c.args.schedule.now in
+    let h = c.args.head.now in
+    let fs = c.requires.head.0 in
+    let known = head_flights b c.args.slices.now c.args.start.now h.flights fs h.after c.requires.head.1 in
+    (fs, subst (λ ns. AreFlightsOf c.flights.result.now ns fs) (sym c.as_slice.ensures.items) (subst (λ xs. AreFlightsOf xs h.flights fs) (sym c.flights.ensures.flights) known))
+
+pub visit_tails-requires-clause-places : goal.visit_tails-requires-clause-places
+visit_tails-requires-clause-places g c = λ fs known.
+    c.arrivals-places.ensures fs (subst (λ ns. AreFlightsOf c.flights.result.now ns fs) (sym c.as_slice.ensures.items) (subst (λ xs. AreFlightsOf xs c.args.head.now.flights fs) (sym c.flights.ensures.flights) known))

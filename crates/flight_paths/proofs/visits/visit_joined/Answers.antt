@@ -8,18 +8,18 @@ use Rattle.flight_paths.proofs.visits.visit_joined.Goals as goal
 
 pub returns-then-not-follows : goal.returns-then-not-follows
 returns-then-not-follows g c =
-    let b = plan_book c.args.schedule.now in
-    let at = c.args.start.now in
-    let h = c.args.head.now in
+    let b = plan_book c.args.junction.now.schedule.now in
+    let at = c.args.junction.now.start.now in
+    let h = c.args.junction.now.head.now in
     let t = c.args.tail.now in
-    saw_none (g.V.PathVisitor.told c.args.visitor.now) (AreRest b c.args.slices.now at h (t ∷ [])) (rest_not b c.args.slices.now at h t (not_so c.follows.result c.if-not-follows.true c.follows.ensures.1))
+    saw_none (g.V.PathVisitor.told c.args.visitor.now) (AreRest b c.args.junction.now.slices.now at h (t ∷ [])) (rest_not b c.args.junction.now.slices.now at h t (not_so c.follows.result c.if-not-follows.true c.follows.ensures.1))
 
 pub returns : goal.returns
 returns g c =
-    let b = plan_book c.args.schedule.now in
-    let sl = c.args.slices.now in
-    let at = c.args.start.now in
-    let h = c.args.head.now in
+    let b = plan_book c.args.junction.now.schedule.now in
+    let sl = c.args.junction.now.slices.now in
+    let at = c.args.junction.now.start.now in
+    let h = c.args.junction.now.head.now in
     let t = c.args.tail.now in
     let old = g.V.PathVisitor.told c.args.visitor.now in
     let new = g.V.PathVisitor.told c.visit.new.self in

@@ -6,10 +6,10 @@ use Rattle.flight_paths.proofs.visits.visit_tails.Goals as goal
 
 pub returns : goal.returns
 returns g c =
-    let b = plan_book c.args.schedule.now in
-    let sl = c.args.slices.now in
-    let at = c.args.start.now in
-    let h = c.args.head.now in
+    let b = plan_book c.args.junction.now.schedule.now in
+    let sl = c.args.junction.now.slices.now in
+    let at = c.args.junction.now.start.now in
+    let h = c.args.junction.now.head.now in
     let ts = c.args.tails.now in
     let old = g.V.PathVisitor.told c.args.visitor.now in
     let one = g.V.PathVisitor.told c.visit_count.new.visitor in
