@@ -1,6 +1,5 @@
 -- The tails that end where they are wanted.
-use Rattle.std.proofs.Common.{◌≡◌, ℕ, zero, suc, ◌-◌, ◌≤◌, Bool, true, false, cond, filter, option_map, unwrap_or, List, [], ◌∷◌, ◌++◌, length, drop, append-nil, get_or, slice_get, Some, None, refl, sym, ap, subst, ◌∙◌, inl, inr, arith}
-use Rattle.std.proofs.lemmas.Bool.{cases_Bool}
+use Rattle.std.proofs.Common.{◌≡◌, ℕ, zero, suc, ◌-◌, ◌≤◌, Bool, true, false, cond, filter, option_map, unwrap_or, List, [], ◌∷◌, ◌++◌, length, drop, append-nil, get_or, Some, None, refl, sym, ap, subst, ◌∙◌, inl, inr, arith}
 use Rattle.fare_law.specs.declared.flights.Flight.{Flight}
 use Rattle.fare_law.specs.declared.names.Place.{Place}
 use Rattle.fare_law.specs.declared.requests.Slice.{Slice}
