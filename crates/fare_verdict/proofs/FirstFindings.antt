@@ -23,18 +23,9 @@ use Rattle.ticket_whole.proofs.DemandNumbers.{met_unbroken, number_same}
 use Rattle.fare_verdict.specs.declared.finding.Finding.{Finding}
 use Rattle.fare_verdict.specs.Findings.{AreAll, AreFindings, Before, Fails, IsFinding, IsOf, MissesCategory, component_category, whole_category}
 use Rattle.fare_verdict.specs.Stages.{IsTested, JoinedMet, KnownMet}
+use Rattle.fare_verdict.proofs.OneList.{first_least}
 use Rattle.fare_verdict.proofs.RuleTurns.{ByCategory, finding_breaks}
 use Rattle.fare_verdict.proofs.UnitsAlone.{unit_alone}
-
--- the first of a list in order stands before each other
-first_least : (f g : Finding) (fs : List Finding) → EachPair Before (f ∷ fs) → IsIn g (f ∷ fs) → (f ≡ g) ⊎ Before f g
-first_least f g [] h i = elim i [ inl e ↦ inl (sym e) | inr k ↦ absurd k ]
-first_least f g (x ∷ fs) h i = elim i [
-  inl e ↦ inl (sym e)
-  | inr k ↦ inr (elim (first_least x g fs h.1 k) [ inl e ↦ subst (λ y. Before f y) e h.0 | inr below ↦ through f x g h.0 below ]) ]
-  where
-    through : (f x g : Finding) → Before f x → Before x g → Before f g
-    through f x g h k = search (arith, h, k)
 
 module _ (b : Book) (q : Request) (t : Ticket) where
   known : (d : Demand) → 3 < number_of d → ((other : Demand) → number_of other < number_of d → Met b q t other) → KnownMet b q t
@@ -97,8 +88,8 @@ module _ (b : Book) (q : Request) (t : Ticket) where
       (record { rule = refl; fails = inr (record { before = x.before; component = x.component; after = x.after; split = x.split; at = x.at; unit = refl; fails = fails }) })
 
   if_none_pair : {X : Type 0} (o : Option X) (P Q : X → Type 0) → ((IfSome o P → ⊥) → ⊥) → ((IfSome o Q → ⊥) → ⊥) → (IfSome o (λ x. P x × Q x) → ⊥) → ⊥
-  if_none_pair None P Q h k no = no tt
-  if_none_pair (Some x) P Q h k no = h (λ p. k (λ r. no (p, r)))
+  if_none_pair None P Q h k fails = fails tt
+  if_none_pair (Some x) P Q h k fails = h (λ p. k (λ r. fails (p, r)))
 
   if_some_like : {X : Type 0} (o : Option X) (P Q : X → Type 0) → ((x : X) → P x → Q x) → IfSome o P → IfSome o Q
   if_some_like None P Q to h = h
@@ -109,14 +100,14 @@ module _ (b : Book) (q : Request) (t : Ticket) where
   not_unit by tested FareKind number h x none = not_at (OfUnit FareKind) number 0 x none (refl, x.broken)
   not_unit by tested FirstDay number h x none =
       if_none_pair (part_of b q.sale x.component) (CategoryMeets (parts_of b q.sale t.components) Season) (CategoryMeets (parts_of b q.sale t.components) Advance)
-      (λ no. not_at (OfUnit FirstDay) number 3 x none (inl (refl, no)))
-      (λ no. not_at (OfUnit FirstDay) number 5 x none (inr (refl, no)))
+      (λ m. not_at (OfUnit FirstDay) number 3 x none (inl (refl, m)))
+      (λ m. not_at (OfUnit FirstDay) number 5 x none (inr (refl, m)))
       (λ both. x.broken (if_some_like (part_of b q.sale x.component) _ _ (λ part p. (by.first_day _ part).1 p) both))
   not_unit by tested TravelDates number h x none = not_at (OfUnit TravelDates) number 14 x none (refl, x.broken)
   not_unit by tested Stay number h x none =
       if_none_pair (part_of b q.sale x.component) (CategoryMeets (parts_of b q.sale t.components) LeastStay) (CategoryMeets (parts_of b q.sale t.components) GreatestStay)
-      (λ no. not_at (OfUnit Stay) number 6 x none (inl (refl, no)))
-      (λ no. not_at (OfUnit Stay) number 7 x none (inr (refl, no)))
+      (λ m. not_at (OfUnit Stay) number 6 x none (inl (refl, m)))
+      (λ m. not_at (OfUnit Stay) number 7 x none (inr (refl, m)))
       (λ both. x.broken (if_some_like (part_of b q.sale x.component) _ _ (λ part p. (by.stay _ part).1 p) both))
   not_unit by tested Combination number h x none = not_at (OfUnit Combination) number 10 x none (refl, x.broken)
 

@@ -1,4 +1,5 @@
 pub mod Growth
+pub mod OneList
 pub mod Stands
 pub mod RuleTurns
 pub mod UnitsAlone

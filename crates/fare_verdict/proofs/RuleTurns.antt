@@ -121,7 +121,7 @@ module _ (b : Book) (q : Request) (t : Ticket) where
   component_breaks by d f o = go d o.fails
     where
       broken : (e : Demand) → (StandingMeets b q t e o.before o.component → ⊥) → Breaks b q t e f.component
-      broken e no = inr (record { before = o.before; component = o.component; after = o.after; split = o.split; at = o.at; broken = no })
+      broken e misses = inr (record { before = o.before; component = o.component; after = o.after; split = o.split; at = o.at; broken = misses })
       go : (e : Demand) → Fails b q t e f.category o.before o.component → Breaks b q t e f.component
       go HasComponent h = absurd h
       go (OfComponent e) h = broken (OfComponent e) h.1
