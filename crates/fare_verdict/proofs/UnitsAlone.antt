@@ -31,7 +31,7 @@ label_here : (u : ℕ) (c : Component) (cs : List Component) (more : Bool) (test
 label_here u c cs more true e k later = ([], c, cs, refl, (Decides-eqb u c.unit).0 e)
 label_here u c cs more false e k later = let r = later k in (c ∷ r.0, r.1, r.2, ap (λ (xs : List Component). c ∷ xs) r.3, r.4)
 
-label_split : (u : ℕ) (cs : List Component) → comes_in u (map (λ (d : Component). d.unit) cs) ≡ true → LabelAmong u cs
+pub label_split : (u : ℕ) (cs : List Component) → comes_in u (map (λ (d : Component). d.unit) cs) ≡ true → LabelAmong u cs
 label_split u [] h = absurd (cc)
 label_split u (c ∷ cs) h = label_here u c cs (comes_in u (map (λ (d : Component). d.unit) cs)) (u == c.unit) refl h (λ k. label_split u cs k)
 
