@@ -14,7 +14,7 @@ use Rattle.ticket_demands.specs.declared.demand.UnitDemand.TheVariants.{Shape}
 use Rattle.ticket_demands.specs.Breaches.{PartMeets}
 use Rattle.ticket_demands.specs.Categories.{CategoryMeets}
 use Rattle.ticket_demands.specs.Known.{part_of, parts_of}
-use Rattle.fare_verdict.specs.Findings.{FailsInUnit, Misses, MissesCategory}
+use Rattle.fare_verdict.specs.Findings.{FailsInUnit, Misses}
 use Rattle.fare_verdict.specs.Told.{AreCategories}
 use Rattle.fare_verdict.proofs.Stands.{one_split, split_long}
 use Rattle.fare_verdict.proofs.UnitsAlone.{label_split}

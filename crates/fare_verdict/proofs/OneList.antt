@@ -9,14 +9,21 @@ less_less a b c h k = omega (arith, h, k)
 
 through : (f x g : Finding) → Before f x → Before x g → Before f g
 through f x g h k = elim h [
-  inl a ↦ inl (elim k [ inl b ↦ less_less f.rule x.rule g.rule a b | inr b ↦ let e = b.0 in omega (arith, a, e) ])
+  | inl a ↦ inl (elim k [ inl b ↦ less_less f.rule x.rule g.rule a b | inr b ↦ let e = b.0 in omega (arith, a, e) ])
   | inr a ↦ elim k [
-    inl b ↦ inl (let e = a.0 in omega (arith, b, e))
-    | inr b ↦ inr (a.0 ∙ b.0, elim a.1 [
-      inl c ↦ inl (elim b.1 [ inl d ↦ less_less f.component x.component g.component c d | inr d ↦ let e = d.0 in omega (arith, c, e) ])
-      | inr c ↦ elim b.1 [
-        inl d ↦ inl (let e = c.0 in omega (arith, d, e))
-        | inr d ↦ inr (c.0 ∙ d.0, less_less f.category x.category g.category c.1 d.1) ] ]) ] ]
+    | inl b ↦ inl (let e = a.0 in omega (arith, b, e))
+    | inr b ↦ inr (
+      a.0 ∙ b.0,
+      elim a.1 [
+        | inl c ↦ inl (elim b.1 [ inl d ↦ less_less f.component x.component g.component c d | inr d ↦ let e = d.0 in omega (arith, c, e) ])
+        | inr c ↦ elim b.1 [
+          | inl d ↦ inl (let e = c.0 in omega (arith, d, e))
+          | inr d ↦ inr (c.0 ∙ d.0, less_less f.category x.category g.category c.1 d.1)
+        ]
+      ],
+    )
+  ]
+]
 
 never_itself : (f g : Finding) → f ≡ g → Before f g → ⊥
 never_itself f g e h =
@@ -43,11 +50,12 @@ same_lists [] (g ∷ gs) h k to from = absurd (from g (inl refl))
 same_lists (f ∷ fs) [] h k to from = absurd (to f (inl refl))
 same_lists (f ∷ fs) (g ∷ gs) h k to from =
     let same : f ≡ g = elim (first_least g f gs k (to f (inl refl))) [
-      inl e ↦ sym e
-      | inr below ↦ elim (first_least f g fs h (from g (inl refl))) [ inl e ↦ e | inr above ↦ absurd (never_itself f f refl (through f g f above below)) ] ] in
+      | inl e ↦ sym e
+      | inr below ↦ elim (first_least f g fs h (from g (inl refl))) [ inl e ↦ e | inr above ↦ absurd (never_itself f f refl (through f g f above below)) ]
+    ] in
     ap₂ (λ (x : Finding) (xs : List Finding). x ∷ xs) same (same_lists fs gs (rest_order f fs h) (rest_order g gs k)
-      (λ x i. elim (to x (inr i)) [ inl e ↦ absurd (never_itself f x (same ∙ sym e) (first_before f x fs h i)) | inr j ↦ j ])
-      (λ x i. elim (from x (inr i)) [ inl e ↦ absurd (never_itself g x (sym same ∙ sym e) (first_before g x gs k i)) | inr j ↦ j ]))
+    (λ x i. elim (to x (inr i)) [ inl e ↦ absurd (never_itself f x (same ∙ sym e) (first_before f x fs h i)) | inr j ↦ j ])
+    (λ x i. elim (from x (inr i)) [ inl e ↦ absurd (never_itself g x (sym same ∙ sym e) (first_before g x gs k i)) | inr j ↦ j ]))
 
 -- all findings of which something holds are one list
 pub one_list : (Is : Finding → Type 0) (fs gs : List Finding) → AreAll Is fs → AreAll Is gs → fs ≡ gs

@@ -1,6 +1,6 @@
 -- A unit without a kind is first found at its first component. Cited by the law on the first finding.
-use Rattle.std.proofs.Common.{◌≡◌, ◌<◌, ◌≤◌, ◌==◌, ◌||◌, ℕ, ℤ, suc, Bool, true, false, List, [], ◌∷◌, ◌++◌, length, map, refl, sym, ap, subst, ◌∙◌, inl, inr, arith, IfSome, IsSome, Option, Some, None, option_and_then, option_map, append_assoc}
-use Rattle.std.specs.List.{Any, cons_option, filter_map}
+use Rattle.std.proofs.Common.{◌≡◌, ◌≤◌, ◌==◌, ◌||◌, ℕ, ℤ, suc, Bool, true, false, List, [], ◌∷◌, ◌++◌, length, map, refl, sym, ap, subst, ◌∙◌, inr, arith, IfSome, IsSome, Option, Some, None, option_and_then, option_map, append_assoc}
+use Rattle.std.specs.List.{Any, cons_option}
 use Rattle.std.proofs.lemmas.Bool.Decides.{Decides-eqb}
 use Rattle.fare_law.specs.declared.flights.Flight.{Flight}
 use Rattle.fare_law.specs.declared.requests.Request.{Request}
@@ -11,7 +11,6 @@ use Rattle.fare_law.specs.Book.{Book, flight_at}
 use Rattle.fare_law.specs.Lawful.{comes_in, unit_of}
 use Rattle.fare_law.specs.Parts.{Part}
 use Rattle.fare_law.specs.Units.{IsUnit}
-use Rattle.fare_law.specs.declared.rules.UnitKind.{UnitKind}
 use Rattle.ticket_demands.specs.declared.demand.Demand.TheVariants.{OfUnit}
 use Rattle.ticket_demands.specs.declared.demand.UnitDemand.TheVariants.{Shape}
 use Rattle.ticket_demands.specs.Breaches.{BrokenAt, FirstBroken, PartMeets, StandingMeets}
@@ -86,6 +85,7 @@ module _ (b : Book) (q : Request) (t : Ticket) (known : KnownMet b q t) (joined 
           let long = split_long x.before s.0 s.1 s.2 s.3 in
           let at = x.at in
           omega (arith, near, long, at)
+
       go : (test : Bool) → comes_in x.component.unit (map (λ (d : Component). d.unit) x.before) ≡ test → comes_in x.component.unit (map (λ (d : Component). d.unit) x.before) ≡ false
       go true e = absurd (earlier e)
       go false e = e

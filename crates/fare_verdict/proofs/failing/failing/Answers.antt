@@ -1,4 +1,4 @@
-use Rattle.std.proofs.Common.{◌≡◌, suc, length, sym, subst}
+use Rattle.std.proofs.Common.{suc, length, sym, subst}
 use Rattle.ticket_demands.specs.declared.demand.Demand.TheVariants.{Labels}
 use Rattle.ticket_demands.specs.Breaches.{ComponentMeets, FirstBroken}
 use Rattle.fare_verdict.specs.Findings.{Fails, component_category}

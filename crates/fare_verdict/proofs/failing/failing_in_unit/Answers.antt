@@ -1,8 +1,8 @@
-use Rattle.std.proofs.Common.{◌≡◌, ◌⊎◌, ◌↔◌, IsTrue, List, ℕ, ℤ, w32, to_z, of_z, map, true, sym, ◌∙◌, subst, inl, inr, arith}
+use Rattle.std.proofs.Common.{◌≡◌, ◌⊎◌, ◌↔◌, IsTrue, ℤ, w32, to_z, of_z, map, true, sym, ◌∙◌, subst, inl, inr, arith}
 use Rattle.std.proofs.lemmas.Int.{ints}
 use Rattle.fare_law.specs.Lawful.{comes_in}
 use Rattle.ticket_demands.specs.declared.demand.CategoryDemand.TheVariants.{Season, Advance, LeastStay, GreatestStay}
-use Rattle.ticket_demands.specs.declared.demand.UnitDemand.TheVariants.{Shape, FareKind, FirstDay, TravelDates, Stay, Combination}
+use Rattle.ticket_demands.specs.declared.demand.UnitDemand.TheVariants.{FareKind, TravelDates, Combination}
 use Rattle.fare_law.specs.Days.{IsCalendarDay}
 use Rattle.fare_verdict.specs.Findings.{FailsInUnit}
 use Rattle.fare_verdict.specs.Told.{AreCategories}
@@ -16,10 +16,12 @@ plain z h = omega (arith, ints, h.0, h.1)
 pub returns-after-meets : goal.returns-after-meets
 returns-after-meets c =
     let passed : IsTrue c.if-meets.one_failing ↔ (IsTrue c.part_meets-meets.result ⊎ (comes_in c.args.component.now.unit (map (λ x. x.unit) c.args.before.now) ≡ true)) = elim c.if-meets.branch [
-      then-meets w ↦ (λ h. inl w.if-meets.true, λ h. w.one_failing-is ∙ w.if-meets.true)
+      | then-meets w ↦ (λ h. inl w.if-meets.true, λ h. w.one_failing-is ∙ w.if-meets.true)
       | else-meets w ↦ (
         λ h. inr (w.has_label.ensures.0 (sym w.one_failing-is ∙ h)),
-        λ h. elim h [ inl m ↦ let f = w.if-meets.false in absurd (cc) | inr e ↦ w.one_failing-is ∙ w.has_label.ensures.1 e ]) ] in
+        λ h. elim h [ inl m ↦ let f = w.if-meets.false in absurd (cc) | inr e ↦ w.one_failing-is ∙ w.has_label.ensures.1 e ],
+      )
+    ] in
     shape_told c.args.book.now c.args.request.now c.args.ticket.now c.args.before.now c.args.component.now c.as_slice-components.result.now
     (to_z w32 (of_z w32 c.args.request.now.sale)) c.as_slice-components.ensures.items (plain c.args.request.now.sale c.requires.request.sale)
     c.args.demand c.if-meets.one_failing c.part_meets-meets.result c.one_failing.result c.in-Shape.is passed c.part_meets-meets.ensures c.one_failing.ensures

@@ -1,4 +1,4 @@
-use Rattle.std.proofs.Common.{◌≡◌, ◌+◌, ◌∙◌, suc, List, length, take, get_or, sym, ap, subst, arith}
+use Rattle.std.proofs.Common.{◌≡◌, ◌+◌, List, take, get_or, sym, ap, subst, arith}
 use Rattle.std.proofs.lemmas.Result.{on_ok_weaker}
 use Rattle.fare_law.specs.declared.tickets.Component.{Component}
 use Rattle.fare_verdict.specs.declared.finding.Finding.{Finding}
@@ -23,8 +23,8 @@ returns c =
     let before : front ≡ take at t.components = subst (λ (xs : List Component). front ≡ take at xs) items c.split_at.ensures.front in
     let told : AreCategories (λ k. Fails b q t demand k front x) ks = subst (λ xs. AreCategories (λ k. Fails b q t demand k front x) xs) (sym c.as_slice.ensures.items) c.failing-categories.ensures in
     let categories : AreCategories (λ k. Fails b q t demand k (take at t.components) (get_or t.components at x)) ks =
-        subst (λ y. AreCategories (λ k. Fails b q t demand k (take at t.components) y) ks) here
-        (subst (λ xs. AreCategories (λ k. Fails b q t demand k xs x) ks) before told) in
+    subst (λ y. AreCategories (λ k. Fails b q t demand k (take at t.components) y) ks) here
+    (subst (λ xs. AreCategories (λ k. Fails b q t demand k xs x) ks) before told) in
     on_ok_weaker c.push_each.result
     (λ e. added_at b q t demand first at x ks c.args.found.now c.push_each.new.found c.requires.one c.requires.rule (omega arith) (ap (λ (y : Component). y.unit) here) categories e)
     c.push_each.ensures

@@ -1,4 +1,4 @@
-use Rattle.std.proofs.Common.{◌≡◌, ◌≤◌, length, ap, arith}
+use Rattle.std.proofs.Common.{◌≤◌, length, ap, arith}
 use Rattle.fare_verdict.proofs.Stands.{reached_all, reached_more, reached_none}
 use Rattle.fare_verdict.proofs.judging.push_of.Goals as goal
 

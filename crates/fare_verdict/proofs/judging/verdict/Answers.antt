@@ -36,7 +36,8 @@ returns-in-Err-clause-lawful c =
     IfOk-weaker c.all_findings.result (λ findings. AreFindings t b q findings) (λ findings. (findings ≡ []) ↔ Lawful t b q)
     (λ findings are. (
       λ e. absurd (some_found findings (λ f. (f.rule ≡ breach.rule) × (f.component ≡ breach.component)) (c.first_finding_is_first_breach.ensures t b q findings breach are c.in-Err.ensures.breach) e),
-      λ l. let no = c.in-Err.ensures.lawful.1 l in absurd (cc)))
+      λ l. let no = c.in-Err.ensures.lawful.1 l in absurd (cc),
+    ))
     c.all_findings.ensures
 
 pub returns-in-Err-clause-first : goal.returns-in-Err-clause-first
