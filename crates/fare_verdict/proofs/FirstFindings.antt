@@ -1,13 +1,10 @@
 -- The first finding of a ticket and its first breach. Cited by the law on them.
-use Rattle.std.proofs.Common.{◌≡◌, ◌≢◌, ◌<◌, ◌≤◌, ◌+◌, ◌⊎◌, ◌↔◌, ℕ, suc, Bool, true, false, List, [], ◌∷◌, ◌++◌, length, map, refl, sym, ap, subst, ◌∙◌, inl, inr, arith, IfSome, Option, Some, None}
+use Rattle.std.proofs.Common.{◌≡◌, ◌<◌, ◌≤◌, ◌⊎◌, ℕ, List, [], ◌∷◌, refl, sym, ap, subst, ◌∙◌, inl, inr, arith, IfSome, Option, Some, None}
 use Rattle.std.proofs.lemmas.Bool.{cases_order}
 use Rattle.fare_law.specs.declared.requests.Request.{Request}
-use Rattle.fare_law.specs.declared.tickets.Component.{Component}
 use Rattle.fare_law.specs.declared.tickets.Ticket.{Ticket}
 use Rattle.fare_law.specs.Book.{Book}
-use Rattle.fare_law.specs.Lawful.{comes_in}
-use Rattle.fare_law.specs.Lists.{EachPair, IsIn, OnFirst}
-use Rattle.fare_law.specs.Parts.{Part}
+use Rattle.fare_law.specs.Lists.{OnFirst}
 use Rattle.ticket_demands.specs.declared.breach.Breach.{Breach}
 use Rattle.ticket_demands.specs.declared.demand.CategoryDemand.TheVariants.{Season, Advance, LeastStay, GreatestStay}
 use Rattle.ticket_demands.specs.declared.demand.ComponentDemand.TheVariants.{KnownFlights, FlightCount, NoGap, PlacesOnce, LiveFare, FareEnds, Seats, DayTime, Flights, Stopovers, Transfers}
@@ -16,25 +13,16 @@ use Rattle.ticket_demands.specs.declared.demand.Demand.TheVariants.{HasComponent
 use Rattle.ticket_demands.specs.declared.demand.JourneyDemand.TheVariants.{Slices, Length, Places, Connections, Window}
 use Rattle.ticket_demands.specs.declared.demand.UnitDemand.{UnitDemand}
 use Rattle.ticket_demands.specs.declared.demand.UnitDemand.TheVariants.{Shape, FareKind, FirstDay, TravelDates, Stay, Combination}
-use Rattle.ticket_demands.specs.Breaches.{BrokenAt, Breaks, FirstBreach, FirstBroken, Met, PartMeets, StandingMeets, TicketMeets, number_of}
+use Rattle.ticket_demands.specs.Breaches.{BrokenAt, Breaks, FirstBreach, FirstBroken, Met, TicketMeets, number_of}
 use Rattle.ticket_demands.specs.Categories.{CategoryMeets}
 use Rattle.ticket_demands.specs.Known.{part_of, parts_of}
 use Rattle.ticket_whole.proofs.DemandNumbers.{met_unbroken, number_same}
 use Rattle.fare_verdict.specs.declared.finding.Finding.{Finding}
-use Rattle.fare_verdict.specs.Findings.{AreAll, AreFindings, Before, Fails, IsFinding, IsOf, MissesCategory, component_category, whole_category}
+use Rattle.fare_verdict.specs.Findings.{AreFindings, Fails, IsFinding, IsOf, component_category, whole_category}
 use Rattle.fare_verdict.specs.Stages.{IsTested, JoinedMet, KnownMet}
+use Rattle.fare_verdict.proofs.OneList.{first_least}
 use Rattle.fare_verdict.proofs.RuleTurns.{ByCategory, finding_breaks}
 use Rattle.fare_verdict.proofs.UnitsAlone.{unit_alone}
-
--- the first of a list in order stands before each other
-first_least : (f g : Finding) (fs : List Finding) → EachPair Before (f ∷ fs) → IsIn g (f ∷ fs) → (f ≡ g) ⊎ Before f g
-first_least f g [] h i = elim i [ inl e ↦ inl (sym e) | inr k ↦ absurd k ]
-first_least f g (x ∷ fs) h i = elim i [
-  inl e ↦ inl (sym e)
-  | inr k ↦ inr (elim (first_least x g fs h.1 k) [ inl e ↦ subst (λ y. Before f y) e h.0 | inr below ↦ through f x g h.0 below ]) ]
-  where
-    through : (f x g : Finding) → Before f x → Before x g → Before f g
-    through f x g h k = search (arith, h, k)
 
 module _ (b : Book) (q : Request) (t : Ticket) where
   known : (d : Demand) → 3 < number_of d → ((other : Demand) → number_of other < number_of d → Met b q t other) → KnownMet b q t
@@ -82,8 +70,6 @@ module _ (b : Book) (q : Request) (t : Ticket) where
   tested_where_lower EndOnEnd lower = (known EndOnEnd (omega arith) lower, joined EndOnEnd (omega arith) lower)
   tested_where_lower Straddling lower = (known Straddling (omega arith) lower, joined Straddling (omega arith) lower)
 
-
-
   -- No finding of this demand is at this number.
   abbrev NoneAt : Demand → ℕ → Type 0
   NoneAt d number = (f : Finding) → f.component ≡ number → IsOf b q t d f → ⊥
@@ -97,8 +83,8 @@ module _ (b : Book) (q : Request) (t : Ticket) where
       (record { rule = refl; fails = inr (record { before = x.before; component = x.component; after = x.after; split = x.split; at = x.at; unit = refl; fails = fails }) })
 
   if_none_pair : {X : Type 0} (o : Option X) (P Q : X → Type 0) → ((IfSome o P → ⊥) → ⊥) → ((IfSome o Q → ⊥) → ⊥) → (IfSome o (λ x. P x × Q x) → ⊥) → ⊥
-  if_none_pair None P Q h k no = no tt
-  if_none_pair (Some x) P Q h k no = h (λ p. k (λ r. no (p, r)))
+  if_none_pair None P Q h k fails = fails tt
+  if_none_pair (Some x) P Q h k fails = h (λ p. k (λ r. fails (p, r)))
 
   if_some_like : {X : Type 0} (o : Option X) (P Q : X → Type 0) → ((x : X) → P x → Q x) → IfSome o P → IfSome o Q
   if_some_like None P Q to h = h
@@ -109,14 +95,14 @@ module _ (b : Book) (q : Request) (t : Ticket) where
   not_unit by tested FareKind number h x none = not_at (OfUnit FareKind) number 0 x none (refl, x.broken)
   not_unit by tested FirstDay number h x none =
       if_none_pair (part_of b q.sale x.component) (CategoryMeets (parts_of b q.sale t.components) Season) (CategoryMeets (parts_of b q.sale t.components) Advance)
-      (λ no. not_at (OfUnit FirstDay) number 3 x none (inl (refl, no)))
-      (λ no. not_at (OfUnit FirstDay) number 5 x none (inr (refl, no)))
+      (λ m. not_at (OfUnit FirstDay) number 3 x none (inl (refl, m)))
+      (λ m. not_at (OfUnit FirstDay) number 5 x none (inr (refl, m)))
       (λ both. x.broken (if_some_like (part_of b q.sale x.component) _ _ (λ part p. (by.first_day _ part).1 p) both))
   not_unit by tested TravelDates number h x none = not_at (OfUnit TravelDates) number 14 x none (refl, x.broken)
   not_unit by tested Stay number h x none =
       if_none_pair (part_of b q.sale x.component) (CategoryMeets (parts_of b q.sale t.components) LeastStay) (CategoryMeets (parts_of b q.sale t.components) GreatestStay)
-      (λ no. not_at (OfUnit Stay) number 6 x none (inl (refl, no)))
-      (λ no. not_at (OfUnit Stay) number 7 x none (inr (refl, no)))
+      (λ m. not_at (OfUnit Stay) number 6 x none (inl (refl, m)))
+      (λ m. not_at (OfUnit Stay) number 7 x none (inr (refl, m)))
       (λ both. x.broken (if_some_like (part_of b q.sale x.component) _ _ (λ part p. (by.stay _ part).1 p) both))
   not_unit by tested Combination number h x none = not_at (OfUnit Combination) number 10 x none (refl, x.broken)
 
@@ -156,24 +142,35 @@ module _ (b : Book) (q : Request) (t : Ticket) where
       where
         is : IsFinding b q t g
         is = (h.each g).0 (inl refl)
+
         reach : (f : Finding) → f.component ≡ breach.component → IsOf b q t first.demand f → (g.rule < breach.rule) ⊎ ((g.rule ≡ breach.rule) × (g.component ≤ breach.component))
         reach f c of =
             let r : f.rule ≡ breach.rule = of.rule ∙ sym first.number in
             elim (first_least g f fs h.order ((h.each f).1 (record { demand = first.demand; tested = tested; of = of }))) [
-              inl e ↦ inr (ap (λ x. x.rule) e ∙ r, let k = ap (λ (x : Finding). x.component) e in omega (arith, k, c))
+              | inl e ↦ inr (ap (λ x. x.rule) e ∙ r, let k = ap (λ (x : Finding). x.component) e in omega (arith, k, c))
               | inr below ↦ elim below [
-                inl l ↦ inl (omega (arith, l, r))
-                | inr s ↦ inr (s.0 ∙ r, let k = at_most s.1 in omega (arith, k, c)) ] ]
+                | inl l ↦ inl (omega (arith, l, r))
+                | inr s ↦ inr (s.0 ∙ r, let k = at_most s.1 in omega (arith, k, c))
+              ]
+            ]
           where
             at_most : (g.component < f.component) ⊎ ((g.component ≡ f.component) × (g.category < f.category)) → g.component ≤ f.component
             at_most p = elim p [ inl l ↦ omega (arith, l) | inr e ↦ let k = e.0 in omega (arith, k) ]
+
         decided : (r s c d : ℕ) → (r < s → ⊥) → (r ≡ s → d ≤ c) → (((r < s) ⊎ ((r ≡ s) × (c ≤ d)) → ⊥) → ⊥) → (r ≡ s) × (c ≡ d)
         decided r s c d lower near far = elim (cases_order r s) [
-          inl e ↦ (e, elim (cases_order c d) [
-            inl k ↦ k
-            | inr x ↦ elim x [
-              inl l ↦ let n = near e in absurd (omega (arith, n, l))
-              | inr l ↦ absurd (far (λ p. elim p [ inl y ↦ lower y | inr y ↦ let m = y.1 in absurd (omega (arith, m, l)) ])) ] ])
+          | inl e ↦ (
+            e,
+            elim (cases_order c d) [
+              | inl k ↦ k
+              | inr x ↦ elim x [
+                | inl l ↦ let n = near e in absurd (omega (arith, n, l))
+                | inr l ↦ absurd (far (λ p. elim p [ inl y ↦ lower y | inr y ↦ let m = y.1 in absurd (omega (arith, m, l)) ]))
+              ]
+            ],
+          )
           | inr x ↦ elim x [
-            inl l ↦ absurd (lower l)
-            | inr l ↦ absurd (far (λ p. elim p [ inl y ↦ lower y | inr y ↦ let m = y.0 in absurd (omega (arith, m, l)) ])) ] ]
+            | inl l ↦ absurd (lower l)
+            | inr l ↦ absurd (far (λ p. elim p [ inl y ↦ lower y | inr y ↦ let m = y.0 in absurd (omega (arith, m, l)) ]))
+          ]
+        ]

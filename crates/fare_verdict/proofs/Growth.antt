@@ -1,9 +1,9 @@
 -- Lists of all findings of which something holds, and how they grow. Cited where findings are added.
-use Rattle.std.proofs.Common.{◌≡◌, ◌<◌, ◌⊎◌, ◌↔◌, ℕ, List, [], ◌∷◌, ◌++◌, map, refl, sym, ap, subst, ◌∙◌, inl, inr, arith, append_assoc, append-nil}
+use Rattle.std.proofs.Common.{◌⊎◌, List, [], ◌∷◌, ◌++◌, refl, sym, ap, subst, ◌∙◌, inl, inr, append_assoc, append-nil}
 use Rattle.fare_law.specs.Lists.{EachPair, IsIn}
 use Rattle.fare_verdict.specs.declared.finding.Finding.{Finding}
 use Rattle.fare_verdict.specs.Findings.{AreAll, Before}
-use Rattle.fare_verdict.specs.Told.{AreCategories, Extends}
+use Rattle.fare_verdict.specs.Told.{Extends}
 
 pub in_append : {A : Type 0} (x : A) (xs ys : List A) → IsIn x (xs ++ ys) → IsIn x xs ⊎ IsIn x ys
 in_append x [] ys h = inr h
@@ -37,7 +37,8 @@ all_append P Q xs ys h k below = record {
   order = pairs_append Before xs ys h.order k.order (λ f g i j. below f g ((h.each f).0 i) ((k.each g).0 j));
   each = λ f. (
     λ i. elim (in_append f xs ys i) [ inl a ↦ inl ((h.each f).0 a) | inr b ↦ inr ((k.each f).0 b) ],
-    λ p. elim p [ inl a ↦ in_left f xs ys ((h.each f).1 a) | inr b ↦ in_right f xs ys ((k.each f).1 b) ]);
+    λ p. elim p [ inl a ↦ in_left f xs ys ((h.each f).1 a) | inr b ↦ in_right f xs ys ((k.each f).1 b) ],
+  );
 }
 
 -- nothing was added

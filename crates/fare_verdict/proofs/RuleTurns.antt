@@ -1,5 +1,5 @@
 -- Findings of the rules up to one, and what a finding breaks.
-use Rattle.std.proofs.Common.{◌≡◌, ◌<◌, ◌≤◌, ◌+◌, ◌⊎◌, ◌↔◌, ℕ, suc, List, [], ◌∷◌, ◌++◌, length, refl, sym, ap, subst, ◌∙◌, inl, inr, arith, IfSome, Option, Some, None}
+use Rattle.std.proofs.Common.{◌≡◌, ◌<◌, ◌≤◌, ◌+◌, ◌⊎◌, ◌↔◌, ℕ, List, [], sym, subst, ◌∙◌, inl, inr, arith, IfSome, Option, Some, None}
 use Rattle.fare_law.specs.declared.requests.Request.{Request}
 use Rattle.fare_law.specs.declared.tickets.Component.{Component}
 use Rattle.fare_law.specs.declared.tickets.Ticket.{Ticket}
@@ -12,12 +12,12 @@ use Rattle.ticket_demands.specs.declared.demand.ComponentDemand.TheVariants.{Kno
 use Rattle.ticket_demands.specs.declared.demand.JourneyDemand.TheVariants.{Slices, Length, Places, Connections, Window}
 use Rattle.ticket_demands.specs.declared.demand.UnitDemand.{UnitDemand}
 use Rattle.ticket_demands.specs.declared.demand.UnitDemand.TheVariants.{Shape, FareKind, FirstDay, TravelDates, Stay, Combination}
-use Rattle.ticket_demands.specs.Breaches.{BrokenAt, Breaks, FirstBroken, Met, PartMeets, StandingMeets, TicketMeets, number_of}
+use Rattle.ticket_demands.specs.Breaches.{Breaks, Met, PartMeets, StandingMeets, number_of}
 use Rattle.ticket_demands.specs.Categories.{CategoryMeets}
 use Rattle.ticket_demands.specs.Known.{part_of, parts_of}
 use Rattle.ticket_whole.proofs.DemandNumbers.{met_unbroken, number_low, number_same}
 use Rattle.fare_verdict.specs.declared.finding.Finding.{Finding}
-use Rattle.fare_verdict.specs.Findings.{AreAll, Before, Fails, FailsInUnit, IsFinding, IsOf, OnComponent, OnWhole}
+use Rattle.fare_verdict.specs.Findings.{AreAll, Fails, FailsInUnit, IsFinding, IsOf, OnComponent}
 use Rattle.fare_verdict.specs.Stages.{IsTested}
 use Rattle.fare_verdict.specs.Told.{Extends}
 use Rattle.fare_verdict.proofs.Growth.{all_like, all_more, none_all}
@@ -83,8 +83,9 @@ module _ (b : Book) (q : Request) (t : Ticket) where
   rules_more rule d old new e tested h k = all_more (IsBelow rule) (IsOf b q t d) (IsBelow (rule + 1)) old new h k
       (λ f g p o. inl (let x = p.1 in let y = o.rule in omega (arith, x, y, e)))
       (λ f p. elim p [
-        inl l ↦ (l.0, let x = l.1 in omega (arith, x))
-        | inr o ↦ (record { demand = d; tested = tested; of = o }, let y = o.rule in omega (arith, y, e)) ])
+        | inl l ↦ (l.0, let x = l.1 in omega (arith, x))
+        | inr o ↦ (record { demand = d; tested = tested; of = o }, let y = o.rule in omega (arith, y, e))
+      ])
       (λ f p. step_from rule d f e p)
 
   -- one that isn't has none
@@ -109,19 +110,22 @@ module _ (b : Book) (q : Request) (t : Ticket) where
   unit_misses by Shape k before c h m = h.2 m
   unit_misses by FareKind k before c h m = h.1 m
   unit_misses by FirstDay k before c h m = elim h [
-    inl x ↦ x.1 (by_part FirstDay c _ (λ part p. ((by.first_day _ part).0 p).0) m)
-    | inr y ↦ y.1 (by_part FirstDay c _ (λ part p. ((by.first_day _ part).0 p).1) m) ]
+    | inl x ↦ x.1 (by_part FirstDay c _ (λ part p. ((by.first_day _ part).0 p).0) m)
+    | inr y ↦ y.1 (by_part FirstDay c _ (λ part p. ((by.first_day _ part).0 p).1) m)
+  ]
   unit_misses by TravelDates k before c h m = h.1 m
   unit_misses by Stay k before c h m = elim h [
-    inl x ↦ x.1 (by_part Stay c _ (λ part p. ((by.stay _ part).0 p).0) m)
-    | inr y ↦ y.1 (by_part Stay c _ (λ part p. ((by.stay _ part).0 p).1) m) ]
+    | inl x ↦ x.1 (by_part Stay c _ (λ part p. ((by.stay _ part).0 p).0) m)
+    | inr y ↦ y.1 (by_part Stay c _ (λ part p. ((by.stay _ part).0 p).1) m)
+  ]
   unit_misses by Combination k before c h m = h.1 m
 
   component_breaks : ByCategory → (d : Demand) (f : Finding) → OnComponent b q t d f → Breaks b q t d f.component
   component_breaks by d f o = go d o.fails
     where
       broken : (e : Demand) → (StandingMeets b q t e o.before o.component → ⊥) → Breaks b q t e f.component
-      broken e no = inr (record { before = o.before; component = o.component; after = o.after; split = o.split; at = o.at; broken = no })
+      broken e misses = inr (record { before = o.before; component = o.component; after = o.after; split = o.split; at = o.at; broken = misses })
+
       go : (e : Demand) → Fails b q t e f.category o.before o.component → Breaks b q t e f.component
       go HasComponent h = absurd h
       go (OfComponent e) h = broken (OfComponent e) h.1

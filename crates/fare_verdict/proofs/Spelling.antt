@@ -1,17 +1,15 @@
 -- How a ticket goes on line by line. Cited where a ticket is read.
-use Rattle.std.proofs.Common.{◌≡◌, ◌<◌, ◌≤◌, ◌+◌, ℕ, Bool, true, false, nat_lt, List, [], ◌∷◌, ◌++◌, length, drop, get_or, refl, sym, ap, subst, ◌∙◌, arith, Option, Some, None, option_map, option_and_then, Result, Ok, Err, drop-cons, add-one, eq-or-lt_of_le, inl, inr, if◌then◌else◌}
+use Rattle.std.proofs.Common.{◌≡◌, ◌<◌, ◌≤◌, ◌+◌, ℕ, Bool, true, false, nat_lt, List, [], ◌∷◌, ◌++◌, length, drop, get_or, refl, sym, ap, ◌∙◌, arith, Option, Some, None, option_map, option_and_then, Err, drop-cons, add-one, eq-or-lt_of_le, inl, inr, if◌then◌else◌}
 use Rattle.fare_law.specs.declared.fares.FareKey.{FareKey}
 use Rattle.fare_law.specs.declared.rows.TextLine.{TextLine}
 use Rattle.fare_law.specs.declared.tickets.Component.{Component}
-use Rattle.fare_law.specs.declared.tickets.Ticket.{Ticket}
 use Rattle.fare_law.specs.Book.{Book}
-use Rattle.fare_verdict.specs.declared.faults.TicketFault.{TicketFault}
 use Rattle.fare_verdict.specs.declared.faults.TicketFault.TheVariants.{Line as BadLine}
 use Rattle.fare_verdict.specs.declared.forms.FlightName.{FlightName}
 use Rattle.fare_verdict.specs.declared.forms.TicketLine.{TicketLine}
 use Rattle.fare_verdict.specs.declared.forms.TicketLine.TheVariants.{Component as ComponentLine, Flight as FlightLine}
 use Rattle.fare_verdict.specs.Lines.{line_in}
-use Rattle.fare_verdict.specs.Tickets.{GoesOn, StopsBefore, SaysNoFlight, after_saying, after_line, flight_named, then_rest, ticket_with, with_component, with_flight, with_last_flight}
+use Rattle.fare_verdict.specs.Tickets.{after_saying, flight_named, then_rest, ticket_with, with_flight, with_last_flight}
 
 map_twice : {A B C : Type 0} (f : B → C) (g : A → B) (h : A → C) (o : Option A) → ((x : A) → f (g x) ≡ h x) → option_map f (option_map g o) ≡ option_map h o
 map_twice f g h None e = refl

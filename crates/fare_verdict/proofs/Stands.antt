@@ -1,5 +1,5 @@
 -- Where the component of a finding stands.
-use Rattle.std.proofs.Common.{◌≡◌, ◌<◌, ◌≤◌, ◌+◌, ◌⊎◌, ◌↔◌, ℕ, suc, List, [], ◌∷◌, ◌++◌, map, length, take, drop, get_or, refl, sym, ap, subst, ◌∙◌, inl, inr, arith, drop-cons, add-one, take-append-drop, length-take, IsTrue}
+use Rattle.std.proofs.Common.{◌≡◌, ◌<◌, ◌≤◌, ◌+◌, ◌⊎◌, ℕ, suc, List, [], ◌∷◌, ◌++◌, map, length, take, drop, get_or, refl, sym, ap, subst, ◌∙◌, inl, inr, arith, drop-cons, add-one, take-append-drop, length-take}
 use Rattle.fare_law.specs.declared.requests.Request.{Request}
 use Rattle.fare_law.specs.declared.tickets.Component.{Component}
 use Rattle.fare_law.specs.declared.tickets.Ticket.{Ticket}
@@ -62,7 +62,8 @@ by_categories By ks g h = record {
   order = map_order g ks h.order;
   each = λ f. (
     λ i. let r = in_map g ks f i in like_of g By f r.0 ((h.each r.0).0 r.1) r.2,
-    λ l. subst (λ x. IsIn x (map (with_category g) ks)) (same_fields g f l.0 l.1 l.2) (map_in g ks f.category ((h.each f.category).1 l.3)));
+    λ l. subst (λ x. IsIn x (map (with_category g) ks)) (same_fields g f l.0 l.1 l.2) (map_in g ks f.category ((h.each f.category).1 l.3)),
+  );
 }
 
 module _ (b : Book) (q : Request) (t : Ticket) (demand : Demand) where
@@ -79,7 +80,8 @@ module _ (b : Book) (q : Request) (t : Ticket) (demand : Demand) where
       at = h.1 ∙ c ∙ ap suc (let e = length-take at t.components in omega (arith, e, l));
       unit = h.2 ∙ u;
       fails = h.3;
-    })
+    },
+  )
 
   of_at : (g : Finding) (at : ℕ) (d : Component) (f : Finding) → g.rule ≡ number_of demand → g.component ≡ suc at → g.unit ≡ (get_or t.components at d).unit
       → IsAt b q t demand at f → IsLike g (λ k. Fails b q t demand k (take at t.components) (get_or t.components at d)) f
@@ -90,7 +92,8 @@ module _ (b : Book) (q : Request) (t : Ticket) (demand : Demand) where
         h.0 ∙ sym r,
         h.1 ∙ sym c,
         o.unit ∙ sym (ap (λ x. x.unit) s.1) ∙ sym u,
-        subst (λ x. Fails b q t demand f.category (take at t.components) x) (sym s.1) (subst (λ xs. Fails b q t demand f.category xs o.component) (sym s.0) o.fails))
+        subst (λ x. Fails b q t demand f.category (take at t.components) x) (sym s.1) (subst (λ xs. Fails b q t demand f.category xs o.component) (sym s.0) o.fails),
+      )
 
   -- the findings at one component were added
   pub added_at : (g : Finding) (at : ℕ) (d : Component) (ks : List ℕ) (old new : List Finding) → at < length t.components → g.rule ≡ number_of demand → g.component ≡ suc at → g.unit ≡ (get_or t.components at d).unit
@@ -99,7 +102,7 @@ module _ (b : Book) (q : Request) (t : Ticket) (demand : Demand) where
     more = map (with_category g) ks;
     whole = e;
     all = all_like (IsLike g (λ k. Fails b q t demand k (take at t.components) (get_or t.components at d))) (IsAt b q t demand at) (map (with_category g) ks)
-      (λ f p. at_of g at d f l r c u p) (λ f p. of_at g at d f r c u p) (by_categories _ ks g h);
+        (λ f p. at_of g at d f l r c u p) (λ f p. of_at g at d f r c u p) (by_categories _ ks g h);
   }
 
   -- a finding of this demand, on the whole ticket or at one of the first components
@@ -120,8 +123,9 @@ module _ (b : Book) (q : Request) (t : Ticket) (demand : Demand) where
 
   reached_from : (at : ℕ) (f : Finding) → IsReached (at + 1) f → IsReached at f ⊎ IsAt b q t demand at f
   reached_from at f p = elim p.1 [
-    inl w ↦ inl (p.0, inl w)
-    | inr o ↦ elim (below at f.component o.0) [ inl l ↦ inl (p.0, inr (l, o.1)) | inr e ↦ inr (p.0, e, o.1) ] ]
+    | inl w ↦ inl (p.0, inl w)
+    | inr o ↦ elim (below at f.component o.0) [ inl l ↦ inl (p.0, inr (l, o.1)) | inr e ↦ inr (p.0, e, o.1) ]
+  ]
     where
       below : (at n : ℕ) → n ≤ at + 1 → (n ≤ at) ⊎ (n ≡ suc at)
       below at n h = search (arith, h)

@@ -1,6 +1,6 @@
 -- A unit without a kind is first found at its first component. Cited by the law on the first finding.
-use Rattle.std.proofs.Common.{◌≡◌, ◌<◌, ◌≤◌, ◌==◌, ◌||◌, ℕ, ℤ, suc, Bool, true, false, List, [], ◌∷◌, ◌++◌, length, map, refl, sym, ap, subst, ◌∙◌, inl, inr, arith, IfSome, IsSome, Option, Some, None, option_and_then, option_map, append_assoc}
-use Rattle.std.specs.List.{Any, cons_option, filter_map}
+use Rattle.std.proofs.Common.{◌≡◌, ◌≤◌, ◌==◌, ◌||◌, ℕ, ℤ, suc, Bool, true, false, List, [], ◌∷◌, ◌++◌, length, map, refl, sym, ap, subst, ◌∙◌, inr, arith, IfSome, IsSome, Option, Some, None, option_and_then, option_map, append_assoc}
+use Rattle.std.specs.List.{Any, cons_option}
 use Rattle.std.proofs.lemmas.Bool.Decides.{Decides-eqb}
 use Rattle.fare_law.specs.declared.flights.Flight.{Flight}
 use Rattle.fare_law.specs.declared.requests.Request.{Request}
@@ -11,7 +11,6 @@ use Rattle.fare_law.specs.Book.{Book, flight_at}
 use Rattle.fare_law.specs.Lawful.{comes_in, unit_of}
 use Rattle.fare_law.specs.Parts.{Part}
 use Rattle.fare_law.specs.Units.{IsUnit}
-use Rattle.fare_law.specs.declared.rules.UnitKind.{UnitKind}
 use Rattle.ticket_demands.specs.declared.demand.Demand.TheVariants.{OfUnit}
 use Rattle.ticket_demands.specs.declared.demand.UnitDemand.TheVariants.{Shape}
 use Rattle.ticket_demands.specs.Breaches.{BrokenAt, FirstBroken, PartMeets, StandingMeets}
@@ -23,14 +22,17 @@ pub if_none : {X : Type 0} (o : Option X) (P : X → Type 0) → (IfSome o P →
 if_none None P h = absurd (h tt)
 if_none (Some x) P h = (x, refl, h)
 
--- an earlier component of the label
-label_split : (u : ℕ) (cs : List Component) → comes_in u (map (λ (d : Component). d.unit) cs) ≡ true → (before : List Component) × (c : Component) × (after : List Component) × (cs ≡ before ++ c ∷ after) × (u ≡ c.unit)
+-- a component of the label among these
+abbrev LabelAmong : ℕ → List Component → Type 0
+LabelAmong u cs = (before : List Component) × (c : Component) × (after : List Component) × (cs ≡ before ++ c ∷ after) × (u ≡ c.unit)
+
+label_here : (u : ℕ) (c : Component) (cs : List Component) (more : Bool) (test : Bool) → (u == c.unit) ≡ test → (test || more) ≡ true → (more ≡ true → LabelAmong u cs) → LabelAmong u (c ∷ cs)
+label_here u c cs more true e k later = ([], c, cs, refl, (Decides-eqb u c.unit).0 e)
+label_here u c cs more false e k later = let r = later k in (c ∷ r.0, r.1, r.2, ap (λ (xs : List Component). c ∷ xs) r.3, r.4)
+
+pub label_split : (u : ℕ) (cs : List Component) → comes_in u (map (λ (d : Component). d.unit) cs) ≡ true → LabelAmong u cs
 label_split u [] h = absurd (cc)
-label_split u (c ∷ cs) h = go (u == c.unit) refl h
-  where
-    go : (test : Bool) → (u == c.unit) ≡ test → (test || comes_in u (map (λ (d : Component). d.unit) cs)) ≡ true → (before : List Component) × (d : Component) × (after : List Component) × (c ∷ cs ≡ before ++ d ∷ after) × (u ≡ d.unit)
-    go true e k = ([], c, cs, refl, (Decides-eqb u c.unit).0 e)
-    go false e k = let r = label_split u cs k in (c ∷ r.0, r.1, r.2, ap (λ xs. c ∷ xs) r.3, r.4)
+label_split u (c ∷ cs) h = label_here u c cs (comes_in u (map (λ (d : Component). d.unit) cs)) (u == c.unit) refl h (λ k. label_split u cs k)
 
 some_same : {X : Type 0} (x y : X) → Some x ≡ Some y → x ≡ y
 some_same {X} x y e = cc
@@ -83,6 +85,7 @@ module _ (b : Book) (q : Request) (t : Ticket) (known : KnownMet b q t) (joined 
           let long = split_long x.before s.0 s.1 s.2 s.3 in
           let at = x.at in
           omega (arith, near, long, at)
+
       go : (test : Bool) → comes_in x.component.unit (map (λ (d : Component). d.unit) x.before) ≡ test → comes_in x.component.unit (map (λ (d : Component). d.unit) x.before) ≡ false
       go true e = absurd (earlier e)
       go false e = e

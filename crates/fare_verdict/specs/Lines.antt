@@ -1,12 +1,8 @@
 -- What a line of a ticket says.
-use Rattle.std.specs.Prelude.{bytes_eq, ◌==◌, ◌&&◌, ℕ, ℤ, nat_le, List, Option, Some, None, option_map, option_and_then, if◌then◌else◌, codes}
-use Rattle.std.specs.Ordering.{int_eq}
-use Rattle.fare_law.specs.declared.fares.FareKey.{FareKey}
-use Rattle.fare_law.specs.Book.{same_carrier, same_place}
+use Rattle.std.specs.Prelude.{bytes_eq, ◌==◌, ℕ, List, Option, Some, None, option_and_then, if◌then◌else◌, codes}
 use Rattle.market_time.specs.Dates.{day_spelled}
 use Rattle.name_text.specs.Names.{basis_of, carrier_of, place_of}
 use Rattle.word_text.specs.Words.{cut_at, number_in}
-use Rattle.fare_verdict.specs.declared.forms.FlightName.{FlightName}
 use Rattle.fare_verdict.specs.declared.forms.TicketLine.{TicketLine}
 use Rattle.fare_verdict.specs.declared.forms.TicketLine.TheVariants.{Component, Flight}
 

@@ -95,7 +95,13 @@ fn failing_in_unit(
         UnitDemand::Stay => two_failing(
             category_meets(CategoryDemand::LeastStay, component, components, book, sale),
             6,
-            category_meets(CategoryDemand::GreatestStay, component, components, book, sale),
+            category_meets(
+                CategoryDemand::GreatestStay,
+                component,
+                components,
+                book,
+                sale,
+            ),
             7,
         ),
         UnitDemand::Combination => one_failing(meets, 10),

@@ -12,6 +12,7 @@ ghost use Rattle.fare_verdict.specs.Told.{Extends, IsAt, IsOnWhole, with_categor
 use crate::Finding;
 use crate::asking::Asked;
 use crate::failing::failing;
+use crate::laws::{first_finding_is_first_breach, lawful_without_findings};
 use crate::stages::{is_tested, stages_of};
 use fare_book::Book;
 use fare_law::{List, Mem, Request, Ticket};
@@ -39,10 +40,12 @@ pub fn verdict(
     ensures lawful { IfOk result (λ findings. (findings ≡ []) ↔ Lawful ticket.now book.now request.now) }
     ensures first { IfOk result (λ findings. (breach : Breach) → FirstBreach book.now request.now ticket.now breach → OnFirst (λ f. (f.rule ≡ breach.rule) × (f.component ≡ breach.component)) findings) }
 {
-    if lawful(ticket, book, request).is_ok() {
-        return Ok(List::new(alloc));
+    lawful_without_findings();
+    first_finding_is_first_breach();
+    match lawful(ticket, book, request) {
+        Ok(()) => Ok(List::new(alloc)),
+        Err(_) => all_findings(alloc, ticket, book, request),
     }
-    all_findings(alloc, ticket, book, request)
 }
 
 /// All findings, rule by rule.

@@ -10,7 +10,7 @@ ghost use Rattle.ticket_demands.specs.declared.breach.Breach.{Breach};
 ghost use Rattle.fare_verdict.specs.Findings.{AreFindings};
 ghost use Rattle.fare_verdict.specs.declared.finding.Finding.{Finding};
 
-use ticket_whole::lawful_where_met;
+use ticket_whole::{first_day_by_category, lawful_where_met, stay_by_category};
 
 /// A ticket has one list of findings.
 pub fn one_list_of_findings()
@@ -22,10 +22,15 @@ pub fn lawful_without_findings()
     ensures { (t : Ticket) (b : Book) (q : Request) → Lawful t b q → AreFindings t b q [] }
 {
     lawful_where_met();
+    first_day_by_category();
+    stay_by_category();
 }
 
 /// The first finding has the rule and the component of the first breach.
 pub fn first_finding_is_first_breach()
     ensures { (t : Ticket) (b : Book) (q : Request) (findings : List Finding) (breach : Breach) → AreFindings t b q findings → FirstBreach b q t breach
         → OnFirst (λ f. (f.rule ≡ breach.rule) × (f.component ≡ breach.component)) findings }
-{}
+{
+    first_day_by_category();
+    stay_by_category();
+}

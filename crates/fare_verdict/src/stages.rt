@@ -5,6 +5,7 @@ ghost use Rattle.fare_law.specs.declared.requests.Request.{Request as RequestDat
 ghost use Rattle.fare_law.specs.declared.tickets.Ticket.{Ticket as TicketData};
 ghost use Rattle.fare_law.specs.Book.{Book as BookData};
 ghost use Rattle.ticket_demands.specs.Breaches.{Met};
+ghost use Rattle.ticket_demands.specs.declared.demand.Demand.TheVariants.{OfComponent};
 ghost use Rattle.fare_verdict.specs.Stages.{CutMet, IsComponentTested, IsJourneyTested, IsTested, JoinedMet, KnownMet};
 ghost use Rattle.fare_verdict.specs.Told.{AreStages};
 

@@ -1,4 +1,4 @@
--- Demands have different numbers, and a ticket has one first breach.
+-- Demands have different numbers, and a ticket has one first breach. This file is given on to the crates above.
 use Rattle.std.proofs.Common.{◌≡◌, ◌<◌, ◌≤◌, ◌==◌, ◌∙◌, ℕ, cond, refl, ap, sym, subst, inl, inr, arith}
 use Rattle.std.proofs.lemmas.Bool.{cases_order}
 use Rattle.fare_law.specs.declared.requests.Request.{Request}

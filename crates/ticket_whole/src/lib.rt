@@ -13,6 +13,7 @@ mod meeting;
 
 pub use judgement::lawful;
 pub use laws::{lawful_where_met, one_first_breach};
+pub use meeting::broken_at;
 pub use ticket_demands::{
     Breach, CategoryDemand, ComponentDemand, Demand, JourneyDemand, UnitDemand, category_meets,
     component_meets, component_price, cuts_meet, first_day_by_category, flights_of, is_reverse,
