@@ -1,0 +1,25 @@
+-- What a teller hands back.
+use Rattle.std.specs.Prelude.{◌≡◌, ℕ, ◌≤◌, ◌<◌, List, length, slice_index_or, take, IfSome}
+use Rattle.fare_law.specs.Lists.{Each}
+use Rattle.fare_law.specs.declared.filings.Filing.{Filing}
+use Rattle.filing_log.specs.Histories.{House}
+use Rattle.serve_desks.specs.declared.log.Entry.{Entry}
+use Rattle.serve_desks.specs.declared.serving.Served.{Served}
+use Rattle.serve_desks.specs.Terms.{IsRight, Rightness, Terms}
+
+-- the reply is right for the first `number` of these filings
+abbrev pub Names : Rightness → Terms → List Filing → Entry → Type 0
+Names right terms entries e = (e.reply.number ≤ length entries) × IsRight right terms e.request (take e.reply.number entries) e.reply.body
+
+-- each of the replies is
+abbrev pub AllName : Rightness → Terms → List Filing → List Entry → Type 0
+AllName right terms entries es = Each (Names right terms entries) es
+
+-- it follows the history, is asked the same, and its replies are right for beginnings of what it has seen
+pub record IsServed {T : Type 0} (house : T → House) (terms : T → Terms) (seen : T → List Filing) (right : Rightness) (name : House) (all : Terms) (s : Served T) : Type 0 where
+  pub same_house : house s.teller ≡ name
+  pub same_terms : terms s.teller ≡ all
+  pub replies_right : IfSome s.replies (λ v. AllName right all (seen s.teller) v.items)
+
+pub record AllServed {T : Type 0} (house : T → House) (terms : T → Terms) (seen : T → List Filing) (right : Rightness) (name : House) (all : Terms) (served : List (Served T)) : Type 0 where
+  pub each : (i : ℕ) (d : Served T) → i < length served → IsServed house terms seen right name all (slice_index_or served i d)
