@@ -1,0 +1,4 @@
+pub mod BestPrices
+pub mod CellRequests
+pub mod DayPairs
+pub mod CellLines
