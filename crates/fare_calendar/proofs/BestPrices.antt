@@ -1,5 +1,5 @@
 -- The first of the best tickets is a cheapest one, and where the best are none there is no lawful ticket: for `cells_have_the_best`.
-use Rattle.std.proofs.Common.{◌≡◌, ℕ, zero, suc, ◌≤◌, ◌<◌, ◌⊎◌, inl, inr, List, [], ◌∷◌, length, refl, sym, subst, ◌∙◌, arith, Bool, true, false}
+use Rattle.std.proofs.Common.{◌≡◌, ℕ, zero, suc, ◌≤◌, ◌<◌, ◌⊎◌, inl, inr, List, [], ◌∷◌, refl, subst, arith}
 use Rattle.calendar_law.specs.Cells.{CellHas, CellsLeast, LeastPrice, cell, over_days}
 use Rattle.fare_calendar.specs.BestOfCells.{CellsAreEmpty, CellsCost, FirstCosts}
 use Rattle.fare_law.specs.declared.requests.Request.{Request}

@@ -1,5 +1,5 @@
 -- Lines of cells that are added one after another: for `push_calendar`.
-use Rattle.std.proofs.Common.{◌≡◌, ◌<◌, ◌≤◌, ◌+◌, ◌∙◌, ℕ, zero, suc, List, [], ◌∷◌, ◌++◌, length, take, get_or, refl, ap, sym, subst, add-one, take-suc, append_assoc, append-nil, arith, codes, Some}
+use Rattle.std.proofs.Common.{◌≡◌, ◌<◌, ◌≤◌, ◌+◌, ◌∙◌, ℕ, List, [], ◌∷◌, ◌++◌, length, take, get_or, refl, ap, sym, subst, add-one, take-suc, append_assoc, append-nil, codes, Some}
 use Rattle.std.specs.List.{concat}
 use Rattle.std.proofs.lemmas.List.{take_all}
 use Rattle.std.proofs.lemmas.List.Folds.{concat-append}

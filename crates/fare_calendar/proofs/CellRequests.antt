@@ -1,7 +1,7 @@
 -- The request of a cell is one where the whole request is, and its days have dates: for `calendar`.
-use Rattle.std.proofs.Common.{◌≡◌, ℕ, ℤ, pos, ◌+ℤ◌, ◌≤ℤ◌, ◌≤◌, ◌<◌, Bool, true, false, ◌&&◌, int_le, nat_le, List, [], ◌∷◌, length, refl, ap, sym, subst, ◌∙◌, Option, None, arith}
+use Rattle.std.proofs.Common.{◌≡◌, ℕ, ℤ, pos, ◌+ℤ◌, ◌≤ℤ◌, ◌<◌, Bool, true, false, int_le, List, [], ◌∷◌, length, refl, ap, ◌∙◌, Option, None, arith}
 use Rattle.std.specs.List.{list_all}
-use Rattle.std.proofs.lemmas.Bool.{and_parts, leb-true}
+use Rattle.std.proofs.lemmas.Bool.{and_parts}
 use Rattle.std.proofs.lemmas.Int.{ints}
 use Rattle.calendar_law.specs.Cells.{cell, in_days, two_slices}
 use Rattle.fare_calendar.specs.declared.spans.Spans.{Spans}

@@ -1,5 +1,5 @@
 -- The cells so far match the pairs of days so far: for the loops of `calendar`.
-use Rattle.std.proofs.Common.{◌≡◌, ℕ, zero, suc, ◌+◌, ◌≤◌, ◌<◌, List, [], ◌∷◌, ◌++◌, length, map, flat_map, refl, ap, sym, subst, ◌∙◌, append_assoc, append-nil, arith}
+use Rattle.std.proofs.Common.{◌≡◌, ℕ, suc, ◌+◌, List, [], ◌∷◌, ◌++◌, map, flat_map, refl, ap, sym, subst, ◌∙◌, append_assoc, append-nil, arith}
 use Rattle.fare_calendar.specs.Calendars.{numbers_below, with_backs, day_pairs}
 use Rattle.fare_law.specs.Lists.{Each, Matched}
 

@@ -2,3 +2,4 @@ pub mod BestPrices
 pub mod CellRequests
 pub mod DayPairs
 pub mod CellLines
+pub mod Values

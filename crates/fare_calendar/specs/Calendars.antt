@@ -9,6 +9,7 @@ use Rattle.fare_calendar.specs.declared.fault.CalendarFault.TheVariants.{BadRequ
 use Rattle.fare_calendar.specs.declared.spans.Spans.{Spans}
 use Rattle.fare_law.specs.declared.requests.Request.{Request}
 use Rattle.fare_law.specs.declared.requests.Slice.{Slice}
+use Rattle.fare_law.specs.declared.tickets.Priced.{Priced}
 use Rattle.fare_law.specs.declared.tickets.Ticket.{Ticket}
 use Rattle.fare_law.specs.Best.{Best, Costs}
 use Rattle.fare_law.specs.Book.{Book}
@@ -41,6 +42,11 @@ abbrev pub HasValue : Book → Request → ℕ → CellValue → Type 0
 HasValue b q budget (Price price) = (ReachesMoreThan budget b q → ⊥) × HasPrice b q price
 HasValue b q budget NoTicket = (ReachesMoreThan budget b q → ⊥) × Best b q []
 HasValue b q budget TooLarge = ReachesMoreThan budget b q
+
+-- what the best tickets tell, of which there is one at most
+abbrev pub value_told : List Priced → CellValue
+value_told [] = NoTicket
+value_told (best ∷ others) = Price best.price
 
 -- The cell is that of these days after the first ones.
 pub record IsCell (b : Book) (q : Request) (budget : ℕ) (days : ℕ × ℕ) (c : Cell) : Type 0 where

@@ -4,7 +4,7 @@ ghost use Rattle.fare_calendar.specs.CalendarText.{HasDates};
 ghost use Rattle.fare_calendar.specs.Calendars.{HasCause, IsCalendar};
 ghost use Rattle.fare_law.specs.Lists.{Each};
 
-use crate::asking::span_fits;
+use crate::asking::spans_fit;
 use crate::cells::{Asked, push_cells};
 use crate::{CalendarFault, Cell, Spans};
 use fare_book::Book;
@@ -28,10 +28,11 @@ pub fn calendar(
     ensures cause { IfErr result (HasCause book.now request.now spans) }
 {
     request_ok(book, request)?;
-    let [out, back] = request.slices.as_slice() else {
+    let slices = request.slices.as_slice();
+    if slices.len() != 2 {
         return Err(CalendarFault::NotTwo);
-    };
-    if !(span_fits(out, spans.outs) && span_fits(back, spans.backs)) {
+    }
+    if !spans_fit(slices, spans) {
         return Err(CalendarFault::Span);
     }
     let asked = Asked {
@@ -41,7 +42,7 @@ pub fn calendar(
     };
     let mut cells = List::new(alloc);
     for out in 0..spans.outs {
-        push_cells(alloc, asked, out, spans.backs, &mut cells)?;
+        push_cells(alloc, &asked, out, spans.backs, &mut cells)?;
     }
     Ok(cells)
 }

@@ -1,4 +1,3 @@
-use Rattle.std.proofs.Common.{◌≡◌}
 use Rattle.fare_calendar.specs.CalendarText.{HasDates}
 use Rattle.fare_calendar.specs.Calendars.{IsCell, day_pairs}
 use Rattle.fare_law.specs.Lists.{Each, Matched}

@@ -1,4 +1,4 @@
-use Rattle.std.proofs.Common.{◌≡◌, ◌++◌, ℕ, List}
+use Rattle.std.proofs.Common.{◌++◌, ℕ, List}
 use Rattle.fare_calendar.specs.CalendarText.{HasDates}
 use Rattle.fare_calendar.specs.Calendars.{IsCell, with_backs}
 use Rattle.fare_law.specs.Lists.{Each, Matched}
