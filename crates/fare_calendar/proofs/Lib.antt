@@ -1,0 +1,5 @@
+pub mod BestPrices
+pub mod CellRequests
+pub mod DayPairs
+pub mod CellLines
+pub mod Values

@@ -1,0 +1,3 @@
+pub mod Calendars
+pub mod CalendarText
+pub mod BestOfCells
