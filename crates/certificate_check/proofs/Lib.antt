@@ -1,7 +1,9 @@
 pub mod FromFront
 pub mod RowTables
-pub mod Bounding
+pub mod AllowedBounds
 pub mod SameParts
 pub mod Pigeons
-pub mod Departing
+pub mod LeastDepartures
 pub mod Walking
+pub mod AnswerTickets
+pub mod MovePrices

@@ -5,7 +5,7 @@ use Rattle.certificate.specs.declared.parts.CertAnswer.{CertAnswer}
 use Rattle.certificate.specs.declared.parts.CertRow.{CertRow}
 use Rattle.certificate.specs.DepartureCheck.{BeginsWith, ComesAfter, Departs, DeparturesFail, DeparturesHold, FrontAt, IsFront, LeadsFor}
 use Rattle.certificate_check.specs.Fronts.{AnswerFails, AnswerHolds, FrontFails, FrontHolds, GoesOn, LeadsTo}
-use Rattle.certificate_check.proofs.Departing.{root_one}
+use Rattle.certificate_check.proofs.LeastDepartures.{root_one}
 use Rattle.certificate_check.proofs.FromFront.{split_at, take_next}
 use Rattle.fare_law.specs.declared.flights.Flight.{Flight}
 use Rattle.fare_law.specs.declared.moves.Move.{Move}

@@ -77,3 +77,7 @@ pub record UntakenFirst {K : Type 0} (answers : List CertAnswer) (front : List M
   pub whole : ms ≡ before ++ m ∷ after
   pub taken : TakenByAny answers front before
   pub untaken : IsTaken answers front m.mv → ⊥
+
+-- some answer begins with this front
+abbrev pub IsHad : List CertAnswer → List Move → Type 0
+IsHad answers front = (a : CertAnswer) × IsIn a answers × BeginsWith a front

@@ -1,7 +1,7 @@
 //! The departure check.
 ghost use Rattle.std.specs.Prelude.{◌≡◌, ◌↔◌, ◌<◌, ◌^◌, IfOk, IsTrue, MatchBool, MatchOption, length, map, slice_get, take, Some};
 ghost use Rattle.certificate.specs.DepartureCheck.{BeginsWith, DeparturesFail, DeparturesHold};
-ghost use Rattle.certificate_check.specs.Fronts.{AnswerFails, AnswerHolds, FrontHolds};
+ghost use Rattle.certificate_check.specs.Fronts.{AnswerFails, AnswerHolds, IsHad};
 ghost use Rattle.certificate_check.specs.Tables.{HasRows, IsLater};
 ghost use Rattle.fare_law.specs.Limits.{IsRequest};
 ghost use Rattle.fare_law.specs.Lists.{AllDifferent, Each};
@@ -84,7 +84,8 @@ fn answer_holds(
             residual,
             price,
         };
-        if is_new(&answers[..i], front.moves) && !front_holds(alloc, steps, table, answers, &front)?
+        if !is_had(&answers[..i], front.moves)
+            && !front_holds(alloc, steps, table, answers, &front)?
         {
             return Ok(false);
         }
@@ -92,14 +93,14 @@ fn answer_holds(
     Ok(true)
 }
 
-/// Whether none of the answers begins with a front.
-fn is_new(answers: &[CertAnswer], front: &[Move]) -> bool
-    ensures { IsTrue result ↔ Each (λ a. BeginsWith a front.now → ⊥) answers.now }
+/// Whether some answer begins with a front.
+fn is_had(answers: &[CertAnswer], front: &[Move]) -> bool
+    ensures { IsTrue result ↔ IsHad answers.now front.now }
 {
     for answer in answers {
         if begins_with(answer, front) {
-            return false;
+            return true;
         }
     }
-    true
+    false
 }

@@ -1,0 +1,11 @@
+use Rattle.std.proofs.Common.{[], take}
+use Rattle.certificate_check.specs.Fronts.{AnswerHolds, FrontHolds}
+use Rattle.certificate_check.specs.Tables.{IsLater}
+use Rattle.fare_law.specs.Lists.{Each}
+use Rattle.certificate_check.proofs.departing.departures_fail.Given as goal
+
+abbrev pub invariant-loop-i : goal.invariant-loop-i
+invariant-loop-i l = record {
+  later : IsLater l.initial.steps l.steps;
+  hold : Each (AnswerHolds l.initial.steps.case.book.now l.initial.steps.case.request.now l.table.rows.now l.answers) (take l.i l.answers);
+}
