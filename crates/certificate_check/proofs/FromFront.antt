@@ -62,12 +62,12 @@ all_done Right xs i h all = subst (AllRight Right) (take_whole xs i h) all
 
 -- this is the first that is wrong
 pub wrong_at : {X : Type 0} (Right : List X → X → Type 0) (xs : List X) (i : ℕ) (x : X) → i < length xs → x ≡ get_or xs i x → AllRight Right (take i xs) → (Right (take i xs) x → ⊥) → FirstWrong Right xs (i + 1)
-wrong_at Right xs i x h e all no = record {
+wrong_at Right xs i x h e all denied = record {
   before = take i xs;
   wrong = x;
   after = drop (suc i) xs;
   whole = split_at xs i x h e;
   counted = let l = take_length xs i (omega (arith, h)) in omega (arith, l);
   earlier = all;
-  fails = no;
+  fails = denied;
 }

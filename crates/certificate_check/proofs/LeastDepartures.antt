@@ -54,7 +54,7 @@ leads_one b q (m ∷ ms) r x y price other (fs, p, at, us, rest, mv, h, e) (gs, 
     let d = w.1 in
     (w.0, omega (arith, e, f, c, d))
 
-root_one : (b : Book) (q : Request) (r s : State) → IsRoot b q r → IsRoot b q s → r ≡ s
+pub root_one : (b : Book) (q : Request) (r s : State) → IsRoot b q r → IsRoot b q s → r ≡ s
 root_one b q r s h k = h.2 ∙ ap (λ z. let x : State = record { at = z; units = []; part = no_part } in x) (some_one (before_slice b 0 _ None) h.0 k.0 h.1 k.1) ∙ sym k.2
 
 append_none : (w : List ℕ) → w ++ [] ≡ w
@@ -206,8 +206,8 @@ module _ (b : Book) (q : Request) (rows : List CertRow) (Bound : State → ℕ �
         never l s = before_never l.total (move_code l.mv) s
 
         out : (l : LeastMove State) → (IsTaken answers front l.mv → ⊥) → IsSooner l u → IsIn l ms → ⊥
-        out l no s i = elim (split_in l f.before u f.after (subst (IsIn l) f.whole i)) [
-          | inl j ↦ no (in_each (λ z. IsTaken answers front z.mv) l f.before f.taken j)
+        out l denied s i = elim (split_in l f.before u f.after (subst (IsIn l) f.whole i)) [
+          | inl j ↦ denied (in_each (λ z. IsTaken answers front z.mv) l f.before f.taken j)
           | inr o ↦ elim o [
             | inl e ↦ never u (subst (λ z. IsSooner z u) e s)
             | inr j ↦ never l (sooner_trans l u l s (in_each (IsSooner u) l f.after (below_all IsSooner sooner_trans u f.after onwards) j))
@@ -215,17 +215,17 @@ module _ (b : Book) (q : Request) (rows : List CertRow) (Bound : State → ℕ �
         ]
 
         cases : (l : LeastMove State) → Counts b q Bound x l → (IsTaken answers front l.mv → ⊥) → Before u.total (move_code u.mv) l.total (move_code l.mv) ⊎ ((u.total ≡ l.total) × (move_code u.mv ≡ move_code l.mv))
-        cases l c no = elim (before_total u.total l.total (move_code u.mv) (move_code l.mv)) [
+        cases l c denied = elim (before_total u.total l.total (move_code u.mv) (move_code l.mv)) [
           | inl s ↦ inl s
           | inr o ↦ elim o [
             | inl e ↦ inr e
-            | inr s ↦ absurd (never u (sooner_trans u l u (in_each (λ y. IsSooner y l) u ms (k.rest l c (out l no s)).0 there) s))
+            | inr s ↦ absurd (never u (sooner_trans u l u (in_each (λ y. IsSooner y l) u ms (k.rest l c (out l denied s)).0 there) s))
           ]
         ]
 
     pub least_fails : (wanted : ℕ) (ms : List (LeastMove State)) (u : LeastMove State) → IsFront answers front → KLeast (Counts b q Bound x) IsSooner wanted ms → UntakenFirst answers front ms u
         → (ComesAfter q answers (front ++ u.mv ∷ []) (price + u.total) → ⊥) → FrontFails b q rows answers front
-    least_fails wanted ms u is_front k f no = record {
+    least_fails wanted ms u is_front k f denied = record {
       move = u.mv;
       least = price + u.total;
       departs = record {
@@ -236,9 +236,9 @@ module _ (b : Book) (q : Request) (rows : List CertRow) (Bound : State → ℕ �
         is_root = is_root;
         leads = leads;
         is_front = is_front;
-        none_takes = λ a rest i e. f.untaken (a, i, rest, e);
+        none_takes = λ a rest i e. f.untaken (a, i, (rest, e));
         counts = counts_for x u (in_each (Counts b q Bound x) u ms k.each (subst (IsIn u) (sym f.whole) (in_middle f.before u f.after)));
         whole = refl;
       };
-      fails = no;
+      fails = denied;
     }

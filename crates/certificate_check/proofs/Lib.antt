@@ -7,3 +7,13 @@ pub mod LeastDepartures
 pub mod Walking
 pub mod AnswerTickets
 pub mod MovePrices
+pub mod KnownBounds
+pub mod FrontTold
+pub mod LaterSteps
+pub mod EachSoFar
+pub mod RootAt
+pub mod Onwards
+pub mod Begins
+pub mod AllowedRows
+pub mod NextRow
+pub mod Judged

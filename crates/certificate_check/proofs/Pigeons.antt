@@ -54,12 +54,12 @@ nexts front (a ∷ answers) n (inl (begins, before, c, e)) =
         | inr i ↦ inr (r.2 m (t.0, i, t.2))
       ],
     )
-nexts front (a ∷ answers) n (inr (no, c)) =
+nexts front (a ∷ answers) n (inr (denied, c)) =
     let r = nexts front answers n c in (
       r.0,
       r.1,
       λ m t. elim t.1 [
-        | inl s ↦ absurd (no (m, t.2.0, sym (ap (λ z. z.moves) s) ∙ t.2.1))
+        | inl s ↦ absurd (denied (m, t.2.0, sym (ap (λ z. z.moves) s) ∙ t.2.1))
         | inr i ↦ r.2 m (t.0, i, t.2)
       ],
     )

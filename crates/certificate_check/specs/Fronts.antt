@@ -1,5 +1,5 @@
 -- Departures by their fronts.
-use Rattle.std.specs.Prelude.{◌≡◌, ◌≢◌, ◌⊎◌, ℕ, ◌+◌, List, [], ◌∷◌, ◌++◌, Some}
+use Rattle.std.specs.Prelude.{◌≡◌, ◌≢◌, ◌⊎◌, ℕ, ◌+◌, Bool, cond, List, [], ◌∷◌, ◌++◌, slice_get, Option, Some, option_and_then}
 use Rattle.certificate.specs.BoundCheck.{state_after}
 use Rattle.certificate.specs.declared.parts.CertAnswer.{CertAnswer}
 use Rattle.certificate.specs.declared.parts.CertRow.{CertRow}
@@ -7,14 +7,16 @@ use Rattle.certificate.specs.DepartureCheck.{BeginsWith, ComesAfter, Departs, Le
 use Rattle.certificate.specs.RowCheck.{IsRoot}
 use Rattle.fare_law.specs.declared.flights.Flight.{Flight}
 use Rattle.fare_law.specs.declared.moves.Move.{Move}
+use Rattle.fare_law.specs.declared.names.Place.{Place}
 use Rattle.fare_law.specs.declared.requests.Request.{Request}
+use Rattle.fare_law.specs.declared.tickets.Component.{Component}
 use Rattle.fare_law.specs.declared.tickets.Piece.{Piece}
 use Rattle.fare_law.specs.Book.{Book}
 use Rattle.fare_law.specs.Lists.{Each, IsIn}
 use Rattle.fare_law.specs.Parts.{price_of}
 use Rattle.flight_paths.specs.declared.positions.Position.{Position}
 use Rattle.open_unit.specs.declared.units.OpenUnit.{OpenUnit}
-use Rattle.residual_keys.specs.Residuals.{State, Moves}
+use Rattle.residual_keys.specs.Residuals.{State, Moves, closes}
 use Rattle.search_steps.specs.declared.least.LeastMove.{LeastMove}
 
 -- each departure at this front comes after the last answer
@@ -52,6 +54,25 @@ pub record GoesOn (b : Book) (q : Request) (x : State) (m : Move) (y : State) (p
   pub moves : Moves b q x m flights piece (Some at) units
   pub left : y ≡ state_after x m piece at units
   pub costs : price ≡ price_of flights piece
+
+-- where the fare of a move is filed that goes from the first of these flights to the last, for one in reverse the other way round
+abbrev pub from_of : Bool → Flight → Flight → Place
+from_of reverse first last = cond reverse last.to first.from
+
+abbrev pub to_of : Bool → Flight → Flight → Place
+to_of reverse first last = cond reverse first.from last.to
+
+-- a move's component, by its first flight and its last
+abbrev pub component_of : Move → Flight → Flight → Component
+component_of m first last = record { flights = m.flights; fare = record { carrier = m.carrier; from = from_of (closes m.role) first last; to = to_of (closes m.role) first last; basis = m.basis }; unit = 0 }
+
+-- the flight of the number at this place of a move's
+abbrev pub flight_of : Book → Move → ℕ → Option Flight
+flight_of b m i = option_and_then (slice_get b.timetable.flights) (slice_get m.flights i)
+
+-- this is what the move costs, where it is one of some residual
+abbrev pub Priced : Book → Move → Option ℕ → Type 0
+Priced b m price = (q : Request) (x : State) (fs : List Flight) (p : Piece) (next : Option Position) (us : List OpenUnit) → Moves b q x m fs p next us → price ≡ Some (price_of fs p)
 
 -- the answer begins with this front and takes this move then
 abbrev pub Takes : CertAnswer → List Move → Move → Type 0

@@ -6,6 +6,7 @@ ghost use Rattle.certificate_check.specs.Tables.{HasRows, IsLater};
 ghost use Rattle.fare_law.specs.Limits.{IsRequest};
 ghost use Rattle.fare_law.specs.Lists.{AllDifferent, Each};
 ghost use Rattle.graph_walk.specs.Steps.{LeadToLive, TellsStates, outcome_of, outcomes_of};
+ghost use Rattle.indexmap.specs.IndexMap.{get};
 ghost use Rattle.search_steps.specs.Keys.{live, state};
 
 use crate::table::Table;
@@ -92,19 +93,33 @@ fn allows(
     let Some(key) = outcome.next else {
         return is_within(row, u128::from(outcome.price));
     };
-    match table.bounds.get(&key) {
-        Some(Some(further)) => is_within(row, u128::from(outcome.price) + u128::from(*further)),
+    match bound_of(table, key) {
+        Some(Some(further)) => is_within(row, total_of(outcome.price, further)),
         Some(None) => true,
         None => false,
     }
+}
+
+/// A price and a bound together.
+fn total_of(price: u64, further: u64) -> u128
+    ensures { result ≡ price + further }
+{
+    u128::from(price) + u128::from(further)
+}
+
+/// The bound of the row whose key this is, where there is one.
+fn bound_of(table: &Table, key: Key) -> Option<Option<u64>>
+    ensures { result ≡ get ⟦<Key as PartialEq>⟧.eq table.now.bounds key }
+{
+    table.bounds.get(&key).copied()
 }
 
 /// Whether a row has a bound and it is at most this price.
 fn is_within(row: &CertRow, price: u128) -> bool
     ensures { IsTrue result ↔ BoundWithin row.now price }
 {
-    match row.bound {
-        Some(bound) => u128::from(bound) <= price,
-        None => false,
-    }
+    let Some(bound) = row.bound else {
+        return false;
+    };
+    u128::from(bound) <= price
 }

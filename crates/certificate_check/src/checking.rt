@@ -14,6 +14,7 @@ use certificate::Certificate;
 use fare_book::Book;
 use fare_component::Plain;
 use fare_law::{Mem, Request};
+use residual_keys::residual_order;
 use search_steps::SearchSteps;
 use std::alloc::Global;
 
@@ -31,6 +32,7 @@ pub fn check(
     requires rows { length certificate.now.rows < 2 ^ 32 }
     ensures { IfOk result (IsVerdict certificate.now book.now request.now) }
 {
+    residual_order();
     let rows = certificate.rows.as_slice();
     let answers = certificate.answers.as_slice();
     if let Some(place) = rows_fail(book, request, rows) {

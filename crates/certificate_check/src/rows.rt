@@ -84,7 +84,12 @@ fn has_root(book: &Book, request: &Request, rows: &[CertRow]) -> bool
     ensures { IsTrue result ↔ RootIsRow book.now request.now rows.now }
 {
     let root = root(book, request);
-    rows.iter().any(|row| is_same(&row.residual, &root))
+    for row in rows {
+        if is_same(&row.residual, &root) {
+            return true;
+        }
+    }
+    false
 }
 
 /// Whether two residuals are one.

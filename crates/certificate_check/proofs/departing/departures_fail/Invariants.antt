@@ -6,6 +6,6 @@ use Rattle.certificate_check.proofs.departing.departures_fail.Given as goal
 
 abbrev pub invariant-loop-i : goal.invariant-loop-i
 invariant-loop-i l = record {
-  later : IsLater l.initial.steps l.steps;
-  hold : Each (AnswerHolds l.initial.steps.case.book.now l.initial.steps.case.request.now l.table.rows.now l.answers) (take l.i l.answers);
+  later : IsLater l.fn.steps l.steps;
+  hold : Each (AnswerHolds l.fn.steps.case.book.now l.fn.steps.case.request.now l.table.rows.now l.answers) (take l.i l.answers);
 }
