@@ -1,5 +1,5 @@
 -- A row's bound is right exactly where each outcome of the row allows it.
-use Rattle.std.proofs.Common.{◌≡◌, ◌↔◌, ◌∙◌, ℕ, ◌+◌, ◌≤◌, Bool, IsTrue, List, [], ◌∷◌, Option, Some, None, sym, refl, ap, subst, arith}
+use Rattle.std.proofs.Common.{◌≡◌, ◌↔◌, ◌∙◌, ℕ, ◌+◌, ◌≤◌, Bool, IsTrue, List, Option, Some, None, sym, subst, arith}
 use Rattle.certificate.specs.BoundCheck.{BoundRight, BoundWithin}
 use Rattle.certificate.specs.declared.parts.CertRow.{CertRow}
 use Rattle.certificate_check.specs.Bounds.{Allows, IsAllowed}

@@ -1,5 +1,5 @@
 -- The look-up of what an outcome leaves tells whether it allows a row's bound.
-use Rattle.std.proofs.Common.{◌≡◌, ◌↔◌, ◌∙◌, ℕ, ◌+◌, Bool, IsTrue, List, [], ◌∷◌, map, Option, Some, None, option_map, sym, refl, ap, subst}
+use Rattle.std.proofs.Common.{◌≡◌, ◌↔◌, ◌∙◌, ℕ, ◌+◌, Bool, IsTrue, List, map, Option, Some, None, option_map, sym, ap, subst}
 use Rattle.std.specs.Map.{lookup}
 use Rattle.certificate.specs.BoundCheck.{BoundWithin}
 use Rattle.certificate.specs.declared.parts.CertRow.{CertRow}

@@ -1,5 +1,5 @@
 -- The ticket that is made of an answer's moves is the answer's, where it is lawful and costs the answer's price.
-use Rattle.std.proofs.Common.{◌≡◌, ◌↔◌, ◌∙◌, ℕ, Bool, true, eqb, IsTrue, List, Option, Some, None, sym, ap, subst}
+use Rattle.std.proofs.Common.{◌≡◌, ◌↔◌, ◌∙◌, ℕ, Bool, eqb, IsTrue, List, Option, Some, None, sym, ap, subst}
 use Rattle.std.specs.Option.{option_eq}
 use Rattle.std.proofs.lemmas.Bool.Decides.{Decides-eqb}
 use Rattle.certificate.specs.AnswerCheck.{AnswerIs}

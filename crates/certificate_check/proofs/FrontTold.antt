@@ -1,5 +1,5 @@
 -- The first of the least moves of a front that no answer takes decides its departures, with keys for what the moves leave.
-use Rattle.std.proofs.Common.{◌≡◌, ◌↔◌, ◌∙◌, ℕ, ◌+◌, Bool, true, false, IsTrue, List, [], ◌∷◌, ◌++◌, map, MatchBool, sym, refl, ap, ap₂, subst}
+use Rattle.std.proofs.Common.{◌≡◌, ◌↔◌, ◌∙◌, ℕ, ◌+◌, Bool, true, false, IsTrue, List, [], ◌∷◌, ◌++◌, map, MatchBool, refl, ap, subst}
 use Rattle.certificate.specs.declared.parts.CertAnswer.{CertAnswer}
 use Rattle.certificate.specs.declared.parts.CertRow.{CertRow}
 use Rattle.certificate.specs.DepartureCheck.{ComesAfter, IsFront}

@@ -1,5 +1,5 @@
 -- The checks that hold, of a certificate's own rows and answers, and what the verdict says then.
-use Rattle.std.proofs.Common.{◌≡◌, ◌≤◌, ℕ, List, length, Option, Some, None, MatchOption, refl, subst, inl, inr, arith}
+use Rattle.std.proofs.Common.{◌≡◌, ◌≤◌, ℕ, List, length, Option, None, MatchOption, refl, subst, inr, arith}
 use Rattle.certificate.specs.AnswerCheck.{AnswerRight, AnswersHold}
 use Rattle.certificate.specs.BoundCheck.{BoundsHold}
 use Rattle.certificate.specs.Checks.{Checks, FirstFailure}

@@ -1,5 +1,5 @@
 -- The table of rows whose residuals differ tells the bounds of the rows, and of each residual one.
-use Rattle.std.proofs.Common.{◌≡◌, ◌≢◌, ◌↔◌, ◌∙◌, ℕ, Bool, List, [], ◌∷◌, map, Option, Some, None, option_and_then, sym, refl, ap, subst, inl, inr}
+use Rattle.std.proofs.Common.{◌≡◌, ◌≢◌, ◌∙◌, ℕ, Bool, List, [], ◌∷◌, map, Option, Some, None, option_and_then, sym, refl, ap, subst, inl, inr}
 use Rattle.std.specs.Map.{lookup}
 use Rattle.certificate.specs.declared.parts.CertRow.{CertRow}
 use Rattle.certificate.specs.InOrder.{AllRight}

@@ -1,11 +1,11 @@
 -- The departures of a front: the least move that no answer takes decides them.
-use Rattle.std.proofs.Common.{◌≡◌, ◌≢◌, ◌⊎◌, ◌↔◌, ◌∙◌, ℕ, ◌+◌, ◌≤◌, ◌<◌, List, [], ◌∷◌, ◌++◌, length, map, Option, Some, None, sym, refl, ap, subst, inl, inr, arith}
+use Rattle.std.proofs.Common.{◌≡◌, ◌≢◌, ◌⊎◌, ◌↔◌, ◌∙◌, ℕ, ◌+◌, List, [], ◌∷◌, ◌++◌, map, Option, Some, None, sym, refl, ap, subst, inl, inr, arith}
 use Rattle.certificate.specs.BoundCheck.{state_after}
 use Rattle.certificate.specs.declared.parts.CertAnswer.{CertAnswer}
 use Rattle.certificate.specs.declared.parts.CertRow.{CertRow}
 use Rattle.certificate.specs.DepartureCheck.{ComesAfter, CountsFor, Departs, IsFront, LeadsFor, NoneTakes}
 use Rattle.certificate.specs.RowCheck.{IsRoot}
-use Rattle.certificate_check.specs.Fronts.{CountsBeginning, FrontFails, FrontHolds, IsTaken, LeadsTo, TakenByAny, UntakenFirst}
+use Rattle.certificate_check.specs.Fronts.{CountsBeginning, FrontFails, FrontHolds, IsTaken, TakenByAny, UntakenFirst}
 use Rattle.certificate_check.proofs.Pigeons.{few_taken}
 use Rattle.fare_law.specs.declared.flights.Flight.{Flight}
 use Rattle.fare_law.specs.declared.moves.Move.{Move}
@@ -21,8 +21,8 @@ use Rattle.flight_paths.specs.Positions.{before_slice}
 use Rattle.open_unit.specs.declared.units.OpenUnit.{OpenUnit}
 use Rattle.residual_keys.specs.declared.residual.Next.TheVariants.{At, Done}
 use Rattle.residual_keys.specs.Residuals.{Moves, State, begins, no_part, part_with}
-use Rattle.residual_keys.specs.Steps.{IsChosen, left_at}
-use Rattle.residual_keys.proofs.LeastOne.{below_all, in_each, pairs_rest, weaken}
+use Rattle.residual_keys.specs.Steps.{left_at}
+use Rattle.residual_keys.proofs.LeastOne.{below_all, in_each, pairs_rest}
 use Rattle.residual_keys.proofs.OneNext.{moves_one, some_one}
 use Rattle.search_steps.specs.declared.least.LeastMove.{LeastMove}
 use Rattle.search_steps.specs.Leads.{next_of}

@@ -1,5 +1,5 @@
 -- The component of a move is a part of the move's flights and fare, so it costs what the move does.
-use Rattle.std.proofs.Common.{◌≡◌, ◌∙◌, ℕ, suc, ◌-◌, Bool, true, false, cond, List, [], ◌∷◌, length, slice_get, Option, Some, None, sym, refl, ap, ap₂, subst, option_and_then, arith}
+use Rattle.std.proofs.Common.{◌≡◌, ◌∙◌, ℕ, suc, ◌-◌, cond, List, [], ◌∷◌, length, slice_get, Option, Some, None, sym, refl, ap, ap₂, subst, option_and_then, arith}
 use Rattle.certificate_check.specs.Fronts.{Priced, component_of, flight_of, from_of, to_of}
 use Rattle.fare_law.specs.declared.fares.FareKey.{FareKey}
 use Rattle.fare_law.specs.declared.flights.Flight.{Flight}
@@ -7,7 +7,7 @@ use Rattle.fare_law.specs.declared.moves.Move.{Move}
 use Rattle.fare_law.specs.declared.requests.Request.{Request}
 use Rattle.fare_law.specs.declared.tickets.Piece.{Piece}
 use Rattle.fare_law.specs.Book.{Book}
-use Rattle.fare_law.specs.Lists.{Matched, OnFirst, OnLast}
+use Rattle.fare_law.specs.Lists.{OnFirst, OnLast}
 use Rattle.fare_law.specs.Parts.{IsPart, Numbers, Part, StandsFor, price_of}
 use Rattle.flight_paths.specs.declared.positions.Position.{Position}
 use Rattle.open_unit.specs.declared.units.OpenUnit.{OpenUnit}

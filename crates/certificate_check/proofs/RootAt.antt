@@ -1,5 +1,5 @@
 -- The residual before the first slice is the root.
-use Rattle.std.proofs.Common.{◌≡◌, ℕ, ◌≤◌, List, [], ◌∷◌, length, slice_get, Some, None, refl, sym, subst, arith}
+use Rattle.std.proofs.Common.{◌≡◌, ◌≤◌, List, [], ◌∷◌, length, slice_get, Some, None, refl, sym, subst, arith}
 use Rattle.certificate.specs.declared.parts.CertRow.{CertRow}
 use Rattle.certificate.specs.RowCheck.{IsRoot, RootIsRow}
 use Rattle.certificate_check.specs.Fronts.{LeadsTo}

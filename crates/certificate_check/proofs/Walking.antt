@@ -1,5 +1,5 @@
 -- The fronts of an answer in the order of their lengths, and the answers in their order: where a departure fails first.
-use Rattle.std.proofs.Common.{◌≡◌, ◌≢◌, ◌⊎◌, ◌∙◌, Bool, true, false, MatchBool, ℕ, zero, suc, ◌+◌, ◌≤◌, ◌<◌, List, [], ◌∷◌, ◌++◌, length, take, drop, get_or, slice_get, Some, sym, refl, ap, subst, inl, inr, arith}
+use Rattle.std.proofs.Common.{◌≡◌, ◌≢◌, ◌∙◌, Bool, true, false, MatchBool, ℕ, zero, suc, ◌+◌, ◌≤◌, ◌<◌, List, [], ◌∷◌, ◌++◌, length, take, drop, get_or, slice_get, Some, sym, refl, ap, subst, inl, inr, arith}
 use Rattle.std.proofs.lemmas.Bool.{cases_order}
 use Rattle.certificate.specs.BoundCheck.{state_after}
 use Rattle.certificate.specs.declared.parts.CertAnswer.{CertAnswer}
@@ -10,15 +10,12 @@ use Rattle.certificate_check.proofs.LeastDepartures.{root_one}
 use Rattle.certificate_check.proofs.Begins.{front_shorter, front_taken, some_at}
 use Rattle.certificate_check.proofs.EachSoFar.{in_at}
 use Rattle.certificate_check.proofs.FromFront.{split_at, take_next}
-use Rattle.fare_law.specs.declared.flights.Flight.{Flight}
 use Rattle.fare_law.specs.declared.moves.Move.{Move}
 use Rattle.fare_law.specs.declared.requests.Request.{Request}
-use Rattle.fare_law.specs.declared.tickets.Piece.{Piece}
 use Rattle.fare_law.specs.Book.{Book}
 use Rattle.fare_law.specs.Lists.{Each, IsIn}
 use Rattle.fare_law.specs.Parts.{price_of}
 use Rattle.flight_paths.specs.declared.positions.Position.{Position}
-use Rattle.open_unit.specs.declared.units.OpenUnit.{OpenUnit}
 use Rattle.residual_keys.specs.Residuals.{Moves, State, begins, part_with}
 use Rattle.residual_keys.proofs.LeastOne.{in_each}
 use Rattle.residual_keys.proofs.OneNext.{moves_one}

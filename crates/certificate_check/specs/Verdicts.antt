@@ -1,5 +1,4 @@
 -- What a verdict says of a certificate.
-use Rattle.std.specs.Prelude.{ℕ}
 use Rattle.certificate.specs.Checks.{Checks, FirstFailure}
 use Rattle.certificate.specs.declared.parts.Certificate.{Certificate}
 use Rattle.certificate_check.specs.declared.verdict.Verdict.{Verdict}

@@ -78,12 +78,7 @@ fn all_allow(
 }
 
 /// Whether an outcome allows a row's bound.
-fn allows(
-    steps: &SearchSteps<Plain>,
-    table: &Table,
-    row: &CertRow,
-    outcome: &Outcome<Key>,
-) -> bool
+fn allows(steps: &SearchSteps<Plain>, table: &Table, row: &CertRow, outcome: &Outcome<Key>) -> bool
     requires differ { AllDifferent (map (λ row. row.residual) table.now.rows.now) }
     requires table { HasRows steps.now table.now.bounds.entries table.now.rows.now }
     requires live { IfSome outcome.now.next (live steps.now) }

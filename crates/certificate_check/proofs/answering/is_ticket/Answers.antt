@@ -1,4 +1,4 @@
-use Rattle.std.proofs.Common.{◌≡◌, true, false, subst, sym, arith, rules}
+use Rattle.std.proofs.Common.{◌≡◌, subst, sym, arith, rules}
 use Rattle.std.specs.Result.{IsOk}
 use Rattle.certificate_check.proofs.AnswerTickets.{lawful_told, price_told, unlawful_told}
 use Rattle.fare_law.specs.declared.tickets.Ticket.{Ticket}

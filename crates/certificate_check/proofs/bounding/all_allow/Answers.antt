@@ -1,4 +1,4 @@
-use Rattle.std.proofs.Common.{◌≡◌, ◌+◌, Bool, true, false, option_map, take, length}
+use Rattle.std.proofs.Common.{◌≡◌, ◌+◌, true, take}
 use Rattle.certificate_check.specs.Bounds.{Allows}
 use Rattle.certificate_check.proofs.EachSoFar.{each_next, each_outcome, outcome_each}
 use Rattle.graph_walk.specs.declared.outcome.Outcome.{Outcome}

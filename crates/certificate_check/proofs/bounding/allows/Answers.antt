@@ -16,7 +16,7 @@ returns-in-Some-None c =
     let alive = subst (λ o. IfSome o (live c.args.steps.now)) c.in-Some.is c.requires.live in
     let found : c.bound_of.result ≡ Some None = cc in (
       λ t. allows_free _ _ _ c.keys_tell.ensures c.args.table.now.bounds.entries c.args.table.now.rows.now c.requires.table.live c.requires.table.same c.requires.differ c.args.row.now c.args.outcome.now.next c.in-Some.key c.args.outcome.now.price
-      c.in-Some.is alive (sym c.bound_of.ensures ∙ found),
+          c.in-Some.is alive (sym c.bound_of.ensures ∙ found),
       λ h. refl,
     )
 
@@ -26,5 +26,5 @@ returns-in-None c =
     let found : c.bound_of.result ≡ None = cc in (
       λ t. absurd (cc),
       λ h. absurd (allows_never _ _ _ c.keys_tell.ensures c.args.table.now.bounds.entries c.args.table.now.rows.now c.requires.table.live c.requires.table.same c.requires.differ c.args.row.now c.args.outcome.now.next c.in-Some.key c.args.outcome.now.price
-      c.in-Some.is alive (sym c.bound_of.ensures ∙ found) h),
+          c.in-Some.is alive (sym c.bound_of.ensures ∙ found) h),
     )

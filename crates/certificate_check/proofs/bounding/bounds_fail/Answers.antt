@@ -1,4 +1,4 @@
-use Rattle.std.proofs.Common.{◌≡◌, true, false, get_or, take, ap}
+use Rattle.std.proofs.Common.{◌≡◌, true, get_or, take, ap}
 use Rattle.certificate.specs.BoundCheck.{BoundRight}
 use Rattle.certificate_check.proofs.AllowedBounds.{right_told}
 use Rattle.certificate_check.proofs.FromFront.{all_next, all_none, wrong_at}

@@ -1,4 +1,3 @@
-use Rattle.std.proofs.Common.{◌≡◌}
 use Rattle.certificate_check.proofs.AllowedBounds.{allowed_told}
 use Rattle.certificate_check.proofs.bounding.is_right.Goals as goal
 

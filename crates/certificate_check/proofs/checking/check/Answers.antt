@@ -1,4 +1,4 @@
-use Rattle.std.proofs.Common.{◌≡◌, ◌∙◌, List, map, sym, subst, arith}
+use Rattle.std.proofs.Common.{◌∙◌, List, map, sym, subst, arith}
 use Rattle.certificate.specs.BoundCheck.{BoundsFail, BoundsHold}
 use Rattle.certificate.specs.declared.parts.CertRow.{CertRow}
 use Rattle.certificate.specs.DepartureCheck.{DeparturesFail, DeparturesHold}
@@ -38,8 +38,8 @@ returns-in-Some-request_fails c =
     let bounds = none_case (BoundsHold s.book.now s.request.now rows) (BoundsFail s.book.now s.request.now rows) c.in_ok-place.field-0 c.in_default-2.is c.in_ok-place.ensures.fails in
     let departures = none_case (DeparturesHold t.book.now t.request.now rows answers) (DeparturesFail t.book.now t.request.now rows answers) c.in_ok-place-2.field-0 c.in_default-3.is c.in_ok-place-2.ensures.fails in
     let four =
-        four_hold c.args.certificate.now b s.book.now t.book.now q s.request.now t.request.now rows answers (c.in_ok-table.ensures.rows ∙ c.as_slice-rows.ensures) c.as_slice-answers.ensures book request (c.in_ok-place.ensures.later.case.book ∙ book)
-        (c.in_ok-place.ensures.later.case.request ∙ request) (subst (RowsHold b q) (sym c.in_ok-table.ensures.rows) c.in_default.ensures) bounds c.in_default-answers_fail.ensures departures
+    four_hold c.args.certificate.now b s.book.now t.book.now q s.request.now t.request.now rows answers (c.in_ok-table.ensures.rows ∙ c.as_slice-rows.ensures) c.as_slice-answers.ensures book request (c.in_ok-place.ensures.later.case.book ∙ book)
+    (c.in_ok-place.ensures.later.case.request ∙ request) (subst (RowsHold b q) (sym c.in_ok-table.ensures.rows) c.in_default.ensures) bounds c.in_default-answers_fail.ensures departures
     in
     last_fails c.args.certificate.now b q c.in-Some-request_fails.place four c.in-Some-request_fails.ensures
 
@@ -56,7 +56,7 @@ returns c =
     let bounds = none_case (BoundsHold s.book.now s.request.now rows) (BoundsFail s.book.now s.request.now rows) c.in_ok-place.field-0 c.in_default-2.is c.in_ok-place.ensures.fails in
     let departures = none_case (DeparturesHold t.book.now t.request.now rows answers) (DeparturesFail t.book.now t.request.now rows answers) c.in_ok-place-2.field-0 c.in_default-3.is c.in_ok-place-2.ensures.fails in
     let four =
-        four_hold c.args.certificate.now b s.book.now t.book.now q s.request.now t.request.now rows answers (c.in_ok-table.ensures.rows ∙ c.as_slice-rows.ensures) c.as_slice-answers.ensures book request (c.in_ok-place.ensures.later.case.book ∙ book)
-        (c.in_ok-place.ensures.later.case.request ∙ request) (subst (RowsHold b q) (sym c.in_ok-table.ensures.rows) c.in_default.ensures) bounds c.in_default-answers_fail.ensures departures
+    four_hold c.args.certificate.now b s.book.now t.book.now q s.request.now t.request.now rows answers (c.in_ok-table.ensures.rows ∙ c.as_slice-rows.ensures) c.as_slice-answers.ensures book request (c.in_ok-place.ensures.later.case.book ∙ book)
+    (c.in_ok-place.ensures.later.case.request ∙ request) (subst (RowsHold b q) (sym c.in_ok-table.ensures.rows) c.in_default.ensures) bounds c.in_default-answers_fail.ensures departures
     in
     all_hold c.args.certificate.now b q four c.in_default-request_fails.ensures

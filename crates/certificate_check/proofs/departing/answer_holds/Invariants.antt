@@ -1,4 +1,4 @@
-use Rattle.std.proofs.Common.{◌≡◌, ℕ, ◌-◌, ◌*◌, ◌^◌, ◌≤◌, ◌<◌, take}
+use Rattle.std.proofs.Common.{ℕ, ◌-◌, ◌*◌, ◌^◌, ◌≤◌, ◌<◌, take}
 use Rattle.certificate_check.specs.Fronts.{FrontHolds, LeadsTo}
 use Rattle.certificate_check.specs.Tables.{IsLater}
 use Rattle.certificate_check.proofs.departing.answer_holds.Given as goal

@@ -1,5 +1,5 @@
-use Rattle.std.proofs.Common.{[], take}
-use Rattle.certificate_check.specs.Fronts.{AnswerHolds, FrontHolds}
+use Rattle.std.proofs.Common.{take}
+use Rattle.certificate_check.specs.Fronts.{AnswerHolds}
 use Rattle.certificate_check.specs.Tables.{IsLater}
 use Rattle.fare_law.specs.Lists.{Each}
 use Rattle.certificate_check.proofs.departing.departures_fail.Given as goal

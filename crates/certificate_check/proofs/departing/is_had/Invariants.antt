@@ -1,5 +1,4 @@
 use Rattle.std.proofs.Common.{take}
-use Rattle.certificate.specs.DepartureCheck.{BeginsWith}
 use Rattle.certificate_check.specs.Fronts.{IsHad}
 use Rattle.certificate_check.proofs.departing.is_had.Given as goal
 

@@ -1,4 +1,4 @@
-use Rattle.std.proofs.Common.{◌≡◌, true, get_or, ap}
+use Rattle.std.proofs.Common.{◌≡◌, true, get_or}
 use Rattle.certificate.specs.RowCheck.{RowRight}
 use Rattle.certificate_check.proofs.FromFront.{all_next, all_none, wrong_at}
 use Rattle.certificate_check.proofs.rows.first_wrong.Goals as goal

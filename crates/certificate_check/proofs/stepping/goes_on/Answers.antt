@@ -6,7 +6,7 @@ use Rattle.residual_keys.specs.Steps.{StepsTo}
 use Rattle.certificate_check.proofs.stepping.goes_on.Goals as goal
 
 pub returns-in_err-next-clause-none : goal.returns-in_err-next-clause-none
-returns-in_err-next-clause-none c = none_told c.from_residual-in_err-next.result ((after : State) → StepsTo c.args.book.now c.args.request.now c.args.residual.now c.args.mv.now (At after) → ⊥) (λ after h. c.in_err-next.ensures.none (At after) h)
+returns-in_err-next-clause-none c = none_told c.from_residual.result ((after : State) → StepsTo c.args.book.now c.args.request.now c.args.residual.now c.args.mv.now (At after) → ⊥) (λ after h. c.in_err-next.ensures.none (At after) h)
 
 pub returns-clause-some : goal.returns-clause-some
 returns-clause-some c =
