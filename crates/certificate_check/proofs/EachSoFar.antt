@@ -1,0 +1,44 @@
+-- Lists that are read from the front, each element by itself.
+use Rattle.std.proofs.Common.{◌≡◌, ℕ, zero, suc, ◌+◌, ◌≤◌, ◌<◌, List, [], ◌∷◌, ◌++◌, ◌⊎◌, take, length, get_or, sym, subst, inl, inr, arith}
+use Rattle.certificate_check.proofs.FromFront.{take_next, take_whole}
+use Rattle.fare_law.specs.Lists.{Each, IsIn}
+use Rattle.graph_walk.specs.declared.outcome.Outcome.{Outcome}
+use Rattle.graph_walk.specs.Steps.{outcome_of, outcomes_of}
+
+pub each_push : {X : Type 0} (P : X → Type 0) (xs : List X) (x : X) → Each P xs → P x → Each P (xs ++ x ∷ [])
+each_push P [] x h p = (p, tt)
+each_push P (y ∷ ys) x h p = (h.0, each_push P ys x h.1 p)
+
+pub each_next : {X : Type 0} (P : X → Type 0) (xs : List X) (i : ℕ) (x : X) → i < length xs → x ≡ get_or xs i x → Each P (take i xs) → P x → Each P (take (i + 1) xs)
+each_next P xs i x lt is h p = subst (Each P) (sym (take_next xs i x lt is)) (each_push P (take i xs) x h p)
+
+pub each_done : {X : Type 0} (P : X → Type 0) (xs : List X) (i : ℕ) → length xs ≤ i → Each P (take i xs) → Each P xs
+each_done P xs i le h = subst (Each P) (take_whole xs i le) h
+
+pub in_at : {X : Type 0} (xs : List X) (i : ℕ) (x : X) → i < length xs → x ≡ get_or xs i x → IsIn x xs
+in_at [] i x lt is = omega (arith, lt)
+in_at (y ∷ ys) zero x lt is = inl is
+in_at (y ∷ ys) (suc i) x lt is = inr (in_at ys i x (omega (arith, lt)) is)
+
+pub in_next : {X : Type 0} (xs : List X) (i : ℕ) (x y : X) → i < length xs → x ≡ get_or xs i x → IsIn y (take (i + 1) xs) → IsIn y (take i xs) ⊎ (y ≡ x)
+in_next xs i x y lt is h = last_or (take i xs) (subst (IsIn y) (take_next xs i x lt is) h)
+  where
+    last_or : (zs : List _) → IsIn y (zs ++ x ∷ []) → IsIn y zs ⊎ (y ≡ x)
+    last_or [] (inl e) = inr e
+    last_or [] (inr n) = absurd n
+    last_or (z ∷ zs) (inl e) = inl (inl e)
+    last_or (z ∷ zs) (inr j) = elim (last_or zs j) [
+      | inl k ↦ inl (inr k)
+      | inr e ↦ inr e
+    ]
+
+pub in_done : {X : Type 0} (xs : List X) (i : ℕ) (y : X) → length xs ≤ i → IsIn y xs → IsIn y (take i xs)
+in_done xs i y le h = subst (IsIn y) (sym (take_whole xs i le)) h
+
+pub each_outcome : {K X : Type 0} (state : K → X) (P : Outcome X → Type 0) (os : List (Outcome K)) → Each P (outcomes_of state os) → Each (λ o. P (outcome_of state o)) os
+each_outcome state P [] h = tt
+each_outcome state P (o ∷ os) h = (h.0, each_outcome state P os h.1)
+
+pub outcome_each : {K X : Type 0} (state : K → X) (P : Outcome X → Type 0) (os : List (Outcome K)) → Each (λ o. P (outcome_of state o)) os → Each P (outcomes_of state os)
+outcome_each state P [] h = tt
+outcome_each state P (o ∷ os) h = (h.0, outcome_each state P os h.1)

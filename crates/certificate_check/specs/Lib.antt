@@ -1,0 +1,4 @@
+pub mod Verdicts
+pub mod Tables
+pub mod Bounds
+pub mod Fronts

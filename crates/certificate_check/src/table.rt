@@ -1,0 +1,52 @@
+//! The rows of a certificate, found by the keys of steps.
+ghost use Rattle.std.specs.Prelude.{◌≡◌, map, IfOk};
+ghost use Rattle.certificate_check.specs.Tables.{HasRows, IsLater};
+ghost use Rattle.fare_law.specs.Lists.{AllDifferent};
+
+use certificate::CertRow;
+use fare_component::Plain;
+use fare_law::Mem;
+use indexmap::IndexMap;
+use search_steps::{Key, SearchSteps};
+use std::alloc::Global;
+
+/// The rows of a certificate, with their bounds by the keys of their residuals.
+#[derive(Drop)]
+pub struct Table<'c> {
+    pub rows: &'c [CertRow],
+    pub bounds: IndexMap<Key, Option<u64>>,
+}
+
+/// The table of rows whose residuals differ.
+pub fn table_of<'c>(
+    alloc: Global,
+    steps: &mut SearchSteps<Plain>,
+    rows: &'c [CertRow],
+) -> Result<Table<'c>, Mem>
+    requires { AllDifferent (map (λ row. row.residual) rows.now) }
+    ensures rows { IfOk result (λ table. table.rows.now ≡ rows.now) }
+    ensures bounds { IfOk result (λ table. HasRows steps.new table.bounds.entries rows.now) }
+    ensures later { IsLater steps.old steps.new }
+{
+    let bounds = bounds_of(alloc, steps, rows)?;
+    Ok(Table { rows, bounds })
+}
+
+/// The bounds of rows whose residuals differ, by their keys.
+fn bounds_of(
+    alloc: Global,
+    steps: &mut SearchSteps<Plain>,
+    rows: &[CertRow],
+) -> Result<IndexMap<Key, Option<u64>>, Mem>
+    requires { AllDifferent (map (λ row. row.residual) rows.now) }
+    ensures bounds { IfOk result (λ bounds. HasRows steps.new bounds.entries rows.now) }
+    ensures later { IsLater steps.old steps.new }
+{
+    let mut bounds = IndexMap::new(alloc);
+    for row in rows {
+        let key = steps.key_of(row.residual)?;
+        steps.keys_tell();
+        bounds.insert(key, row.bound)?;
+    }
+    Ok(bounds)
+}
