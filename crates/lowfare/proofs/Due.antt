@@ -1,15 +1,13 @@
 -- A run whose counts didn't rise has the status that is due.
 use Rattle.std.proofs.Common.{◌≡◌, ◌⊎◌, ◌≤◌, ◌<◌, ℕ, List, length, Option, Some, refl, sym, ap, subst, ◌∙◌, inl, inr, arith}
 use Rattle.fare_io.specs.Streams.{ReadsPast, ReadsWhole}
-use Rattle.whole_case.specs.Cases.{search_case}
-use Rattle.whole_case.specs.Stages.{IsOne}
 use Rattle.lowfare.specs.Complete.{IsComplete, NoneRose}
 use Rattle.lowfare.specs.Lines.{AreLine, Asks}
 use Rattle.lowfare.specs.Makes.{Owes}
 use Rattle.lowfare.specs.Says.{Due, Ends, Says, most_bytes}
 use Rattle.lowfare.specs.declared.status.Status.{Status}
 use Rattle.lowfare.specs.declared.status.Status.TheVariants.{Done, Refused, Usage, ReadFault, WriteFault, OutOfMemory, TooLarge, No, TooLong}
-use Rattle.lowfare.proofs.Owing.{made_owed, owes_one}
+use Rattle.lowfare.proofs.Owing.{Known, made_owed, owes_one}
 use Rattle.program_words.specs.declared.commands.Command.{Command}
 
 some_same : {A : Type 0} (a b : A) → Some a ≡ Some b → a ≡ b
@@ -51,7 +49,7 @@ read_are left left' read bytes h e = (subst (λ x. ReadsWhole x left' read) e h)
 too_many : (left left' : Option (List ℕ)) (bytes : List ℕ) → ReadsPast left left' most_bytes → left ≡ Some bytes → most_bytes < length bytes
 too_many left left' bytes h e = (subst (λ x. ReadsPast x left' most_bytes) e h).0
 
-module _ (one : (best at : Option ℕ) (bytes : List ℕ) → IsOne (search_case best at bytes)) (status : Status) (words : List (List ℕ)) (left left' : Option (List ℕ)) (text : List ℕ) where
+module _ (one : Known) (status : Status) (words : List (List ℕ)) (left left' : Option (List ℕ)) (text : List ℕ) where
   of_words : Cause status words left left' text → (AreLine words → ⊥) → status ≡ Usage
   of_words (inl (e, n)) none = e
   of_words (inr (inl (e, line, past))) none = absurd (none line)
@@ -72,8 +70,7 @@ module _ (one : (best at : Option ℕ) (bytes : List ℕ) → IsOne (search_case
       let made = made_owed d.command d.bytes status text d.asked.built d.made in
       owes_one one c bytes status due asks.built (subst (λ x. Owes c x status) (read_are left left' d.bytes bytes d.read known) (subst (λ x. Owes x d.bytes status) line made)) owes
 
-pub complete : ((best at : Option ℕ) (bytes : List ℕ) → IsOne (search_case best at bytes))
-    → (status : Status) (words : List (List ℕ)) (left left' held held' : Option (List ℕ)) (r r' w w' s s' : ℕ) → Says status words left left' held held' r r' w w' s s'
+pub complete : Known → (status : Status) (words : List (List ℕ)) (left left' held held' : Option (List ℕ)) (r r' w w' s s' : ℕ) → Says status words left left' held held' r r' w w' s s'
     → NoneRose r r' w w' s s' → IsComplete status words left
 complete one status words left left' held held' r r' w w' s s' says none = by (settled status words left left' held held' r r' w w' s s' none says)
   where

@@ -1,7 +1,12 @@
 pub mod Ranges
 pub mod Finishing
+pub mod Apart
+pub mod SearchOwes
+pub mod CheckOwes
 pub mod Owing
 pub mod Due
 pub mod Unread
 pub mod Telling
+pub mod Refusing
 pub mod SearchMakes
+pub mod CheckMakes

@@ -60,7 +60,7 @@ search_ranged t =
     (then_ranged (best_of t.best) _ (λ best e. then_ranged (budget_of t.budget) _ (λ budget _. then_ranged (at_of t.at) _ (λ at _. best_range t.best best e)))) tt
 
 check_ranged : (t : GivenTexts) → AreRanged (check_of t)
-check_ranged t = if_ranged _ _ None (then_ranged (best_of t.best) _ (λ best _. then_ranged (at_of t.at) _ (λ at _. tt))) tt
+check_ranged t = if_ranged _ _ None (then_ranged (best_of t.best) _ (λ best e. then_ranged (at_of t.at) _ (λ at _. best_range t.best best e))) tt
 
 make_ranged : (t : GivenTexts) → AreRanged (make_of t)
 make_ranged t = if_ranged _ _ None (then_ranged (required 0 4294967295 t.seed) _ (λ seed _. then_ranged (required 1 100 t.size) _ (λ size _. tt))) tt

@@ -17,17 +17,16 @@ use Rattle.whole_case.specs.declared.refusals.LoadFault.TheVariants.{Refused as 
 use Rattle.whole_case.specs.declared.refusals.Refusal.{Refusal}
 use Rattle.whole_case.specs.declared.search.SearchCase.{SearchCase}
 use Rattle.lowfare.specs.Makes.{Makes}
-use Rattle.lowfare.specs.Searches.{IsRefused, Searches, TellsBest}
+use Rattle.lowfare.specs.Searches.{Searches, TellsBest}
 use Rattle.lowfare.specs.declared.outcomes.Outcome.{Outcome}
 use Rattle.lowfare.specs.declared.status.Status.TheVariants.{Done, Refused}
+use Rattle.lowfare.proofs.Refusing.{is_refused}
 
 module _ (best : Option ℕ) (budget : ℕ) (at : Option ℕ) (bytes : List ℕ) where
   pub refused_made : (r : Result Outcome Mem) (fault : LoadFault) (refusal : Refusal) → Reads {A = SearchCase} (Err fault) (search_case best at bytes) → fault ≡ RefusedCase refusal → IfOk r (λ o. o.status ≡ Refused) → IfOk r (λ o. o.text ≡ refusal_text refusal)
       → IfOk r (λ o. Makes (Search best budget at) bytes o.status o.text)
   refused_made (Ok o) fault refusal reads is status text =
-      let none : search_case best at bytes (Err refusal) = subst (λ f. Reads {A = SearchCase} (Err f) (search_case best at bytes)) is reads in
-      let made : IsRefused best at bytes o.text = record { cause = record { refusal = refusal; refused = none }; whole = text } in
-      subst (λ s. Makes (Search best budget at) bytes s o.text) (sym status) made
+      subst (λ s. Makes (Search best budget at) bytes s o.text) (sym status) (is_refused (search_case best at bytes) o.text fault refusal reads is text)
   refused_made (Err e) fault refusal reads is status text = tt
 
   pub done_made : (r : Result Outcome Mem) (found : SearchCase) → search_case best at bytes (Ok found) → Searchable found.book found.request budget → IfOk r (λ o. o.status ≡ Done) → IfOk r (λ o. TellsBest found o.text)

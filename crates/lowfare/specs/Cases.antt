@@ -1,8 +1,7 @@
--- What the bytes of a search are: a case within the budget, a case beyond it, or none.
-use Rattle.std.specs.Prelude.{ℕ, List, Option, Ok, Err}
+-- What the bytes of a search are: a case within the budget or beyond it.
+use Rattle.std.specs.Prelude.{ℕ, List, Option, Ok}
 use Rattle.residual_keys.specs.Searches.{ReachesMoreThan}
 use Rattle.whole_case.specs.Cases.{search_case}
-use Rattle.whole_case.specs.declared.refusals.Refusal.{Refusal}
 use Rattle.whole_case.specs.declared.search.SearchCase.{SearchCase}
 
 -- A case, of which no more residuals are reached than the budget.
@@ -16,8 +15,3 @@ pub record ExceedsBudget (best : Option ℕ) (budget : ℕ) (at : Option ℕ) (b
   pub found : SearchCase
   pub spelled : search_case best at bytes (Ok found)
   pub many : ReachesMoreThan budget found.book found.request
-
--- No case: this is the first reason, with its line.
-pub record HasRefusal (best at : Option ℕ) (bytes : List ℕ) : Type 0 where
-  pub refusal : Refusal
-  pub refused : search_case best at bytes (Err refusal)

@@ -1,7 +1,9 @@
 pub mod Numbers
 pub mod Lines
+pub mod Refusals
 pub mod Cases
 pub mod Searches
+pub mod Checked
 pub mod Makes
 pub mod Says
 pub mod Complete

@@ -3,11 +3,12 @@ use Rattle.std.specs.Prelude.{◌≡◌, ℕ, List, Some, IfSome}
 use Rattle.std.specs.Int.{IsInRange}
 use Rattle.program_words.specs.Lines.{line_of}
 use Rattle.program_words.specs.declared.commands.Command.{Command}
-use Rattle.program_words.specs.declared.commands.Command.TheVariants.{Search}
+use Rattle.program_words.specs.declared.commands.Command.TheVariants.{Search, Check}
 
 -- the command is built
 abbrev pub IsBuilt : Command → Type 0
 IsBuilt (Search best budget at) = Unit {0}
+IsBuilt (Check best at) = Unit {0}
 IsBuilt c = ⊥
 
 -- The words are this command line.
@@ -19,7 +20,8 @@ pub record Asks (words : List (List ℕ)) (c : Command) : Type 0 where
 abbrev pub AreLine : List (List ℕ) → Type 0
 AreLine words = (c : Command) × Asks words c
 
--- the number of tickets of a search, where it is given, is 1 to 1,000
+-- the number of tickets, where it is given, is 1 to 1,000
 abbrev pub HasRange : Command → Type 0
 HasRange (Search best budget at) = IfSome best (IsInRange 1 1000)
+HasRange (Check best at) = IfSome best (IsInRange 1 1000)
 HasRange c = Unit {0}

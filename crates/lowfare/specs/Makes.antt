@@ -1,24 +1,33 @@
 -- What each command makes of the bytes of its input, by the status that it ends with. A command that is built later adds its lines.
 use Rattle.std.specs.Prelude.{ℕ, List}
-use Rattle.lowfare.specs.Cases.{ExceedsBudget, FitsBudget, HasRefusal}
-use Rattle.lowfare.specs.Searches.{IsRefused, IsTooLarge, Searches}
+use Rattle.lowfare.specs.Cases.{ExceedsBudget, FitsBudget}
+use Rattle.lowfare.specs.Checked.{Accepts, Fails, FailsCheck, MeetsChecks}
+use Rattle.lowfare.specs.Refusals.{HasRefusal, IsRefused}
+use Rattle.lowfare.specs.Searches.{IsTooLarge, Searches}
 use Rattle.lowfare.specs.declared.status.Status.{Status}
 use Rattle.lowfare.specs.declared.status.Status.TheVariants.{Done, Refused, TooLarge, No}
 use Rattle.program_words.specs.declared.commands.Command.{Command}
-use Rattle.program_words.specs.declared.commands.Command.TheVariants.{Search}
+use Rattle.program_words.specs.declared.commands.Command.TheVariants.{Search, Check}
+use Rattle.whole_case.specs.Cases.{check_case, search_case}
 
 -- the text that a command makes
 abbrev pub Makes : Command → List ℕ → Status → List ℕ → Type 0
 Makes (Search best budget at) bytes Done text = Searches best budget at bytes text
 Makes (Search best budget at) bytes TooLarge text = IsTooLarge best budget at bytes text
-Makes (Search best budget at) bytes Refused text = IsRefused best at bytes text
+Makes (Search best budget at) bytes Refused text = IsRefused (search_case best at bytes) text
+Makes (Check best at) bytes Done text = Accepts best at bytes text
+Makes (Check best at) bytes No text = Fails best at bytes text
+Makes (Check best at) bytes Refused text = IsRefused (check_case best at bytes) text
 Makes c bytes status text = ⊥
 
 -- what the bytes are, where a command is to end with this status
 abbrev pub Owes : Command → List ℕ → Status → Type 0
 Owes (Search best budget at) bytes Done = FitsBudget best budget at bytes
 Owes (Search best budget at) bytes TooLarge = ExceedsBudget best budget at bytes
-Owes (Search best budget at) bytes Refused = HasRefusal best at bytes
+Owes (Search best budget at) bytes Refused = HasRefusal (search_case best at bytes)
+Owes (Check best at) bytes Done = MeetsChecks best at bytes
+Owes (Check best at) bytes No = FailsCheck best at bytes
+Owes (Check best at) bytes Refused = HasRefusal (check_case best at bytes)
 Owes c bytes status = ⊥
 
 -- a status that a command ends with

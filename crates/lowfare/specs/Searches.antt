@@ -7,8 +7,7 @@ use Rattle.certificate.specs.declared.parts.Certificate.{Certificate}
 use Rattle.certificate_text.specs.CertText.{CertText}
 use Rattle.fare_law.specs.Best.{Best}
 use Rattle.fare_law.specs.declared.tickets.Ticket.{Ticket}
-use Rattle.lowfare.specs.Cases.{ExceedsBudget, FitsBudget, HasRefusal}
-use Rattle.whole_case.specs.Texts.{refusal_text}
+use Rattle.lowfare.specs.Cases.{ExceedsBudget, FitsBudget}
 use Rattle.whole_case.specs.declared.search.SearchCase.{SearchCase}
 
 -- The text is the version, the answer of the best tickets of the case, and the certificate of the search, which meets the checks.
@@ -33,8 +32,3 @@ pub record Searches (best : Option ℕ) (budget : ℕ) (at : Option ℕ) (bytes 
 pub record IsTooLarge (best : Option ℕ) (budget : ℕ) (at : Option ℕ) (bytes text : List ℕ) : Type 0 where
   pub case : ExceedsBudget best budget at bytes
   pub whole : text ≡ codes "too large\n"
-
--- The bytes spell no case, and the text names the line and the reason.
-pub record IsRefused (best at : Option ℕ) (bytes text : List ℕ) : Type 0 where
-  pub cause : HasRefusal best at bytes
-  pub whole : text ≡ refusal_text cause.refusal

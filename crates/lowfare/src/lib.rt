@@ -2,6 +2,8 @@
 //! written, the status. Each command is a module of its own, and a definition of what it makes.
 #![tactic(auto)]
 
+mod checking;
+mod limits;
 mod outcomes;
 mod program;
 mod searching;

@@ -1,14 +1,17 @@
 //! What commands make of their input.
-ghost use Rattle.std.specs.Prelude.{◌≤◌, length, IfOk};
+ghost use Rattle.std.specs.Prelude.{◌≡◌, ◌≤◌, length, IfOk};
 ghost use Rattle.lowfare.specs.Lines.{HasRange, IsBuilt};
 ghost use Rattle.lowfare.specs.Makes.{IsEnd, Makes};
 ghost use Rattle.lowfare.specs.Says.{most_bytes};
+ghost use Rattle.whole_case.specs.Texts as Texts;
 
 use crate::Status;
+use crate::checking::checked;
 use crate::searching::searched;
 use fare_law::{List, Mem};
 use program_words::Command;
 use std::alloc::Global;
+use whole_case::{Refusal, refusal_text};
 
 /// A status with the text that is due.
 #[derive(Drop)]
@@ -27,6 +30,18 @@ pub(crate) fn outcome_of(alloc: Global, command: &Command, bytes: &[u8]) -> Resu
 {
     match *command {
         Command::Search { best, budget, at } => searched(alloc, bytes, best, budget, at),
+        Command::Check { best, at } => checked(alloc, bytes, best, at),
         _ => unreachable!(),
     }
+}
+
+/// The first refusal of a case.
+pub(crate) fn refused(alloc: Global, refusal: &Refusal) -> Result<Outcome, Mem>
+    ensures status { IfOk result (λ o. o.status ≡ Status.Refused) }
+    ensures text { IfOk result (λ o. o.text ≡ Texts.refusal_text refusal.now) }
+{
+    Ok(Outcome {
+        status: Status::Refused,
+        text: List::from_vec(refusal_text(alloc, refusal)?.into_bytes()),
+    })
 }

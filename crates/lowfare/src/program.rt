@@ -10,11 +10,12 @@ ghost use Rattle.lowfare.specs.Says.{Says, most_bytes};
 use crate::Status;
 use crate::outcomes::outcome_of;
 use crate::words::asked;
+use certificate::one_failure;
 use fare_io::{InFault, Sink, Source, read_all, write_all};
 use fare_law::Mem;
 use program_words::WordsFault;
 use std::alloc::Global;
-use whole_case::one_search_case;
+use whole_case::{one_check_case, one_search_case};
 
 /// The most bytes that an input may have.
 const MOST_BYTES: usize = 67_108_864;
@@ -41,6 +42,8 @@ pub fn run<S: Source, K: Sink>(
         → IsComplete result (map string_bytes words.now) (S.left source.old) }
 {
     one_search_case();
+    one_check_case();
+    one_failure();
     let command = match asked(alloc, words) {
         Ok(command) => command,
         Err(WordsFault::Usage) => return finish(sink, USAGE, Status::Usage),

@@ -2,26 +2,23 @@
 ghost use Rattle.std.specs.Int.{IsInRange};
 ghost use Rattle.std.specs.Prelude.{◌≡◌, ◌≤◌, codes, length, None, IfOk, IfSome};
 ghost use Rattle.certificate.specs.Checks.{Checks};
-ghost use Rattle.fare_law.specs.Limits.{IsRequest};
 ghost use Rattle.fare_law.specs.Requests.{judged, known_places};
 ghost use Rattle.lowfare.specs.Makes.{IsEnd, Makes};
 ghost use Rattle.lowfare.specs.Says.{most_bytes};
 ghost use Rattle.lowfare.specs.Searches.{TellsBest};
 ghost use Rattle.program_words.specs.declared.commands.Command.TheVariants.{Search};
 ghost use Rattle.search_core.specs.Answers.{IsAnswer};
-ghost use Rattle.whole_case.specs.Texts as Texts;
 
 use crate::Status;
-use crate::outcomes::Outcome;
+use crate::limits::tell_limits;
+use crate::outcomes::{Outcome, refused};
 use answer_text::push_answer_text;
 use certificate_text::push_cert_text;
 use fare_component::Plain;
-use fare_law::{List, Mem, requests_are_judged};
+use fare_law::{List, Mem};
 use search_core::{Answer, SearchFault, search};
 use std::alloc::Global;
-use whole_case::{
-    LoadFault, Refusal, SearchCase, load_search_case, refusal_text, spelled_requests_are_right,
-};
+use whole_case::{LoadFault, SearchCase, load_search_case, spelled_requests_are_right};
 
 /// What a search makes of the bytes of its input: the best tickets of their case with the certificate; that more
 /// residuals are reached than the budget; or the first refusal.
@@ -59,7 +56,7 @@ fn done(alloc: Global, found: &SearchCase, answer: &Answer) -> Result<Outcome, M
     ensures status { IfOk result (λ o. o.status ≡ Status.Done) }
     ensures text { IfOk result (λ o. TellsBest found.now o.text) }
 {
-    tell_limits(found);
+    tell_limits(&found.book, &found.request);
     let number = answer.number;
     let mut text = format!(in alloc; "version {number}\n")?.into_bytes();
     push_answer_text(&mut text, &found.book, answer.tickets.as_slice())?;
@@ -70,15 +67,6 @@ fn done(alloc: Global, found: &SearchCase, answer: &Answer) -> Result<Outcome, M
     })
 }
 
-/// Tells that a request that is refused for no reason is within its limits.
-fn tell_limits(found: &SearchCase)
-    requires { judged (known_places found.now.book) found.now.request ≡ None }
-    ensures { IsRequest found.now.request }
-{
-    requests_are_judged();
-    found.book.timetable().schedule().limits();
-}
-
 fn too_large(alloc: Global) -> Result<Outcome, Mem>
     ensures status { IfOk result (λ o. o.status ≡ Status.TooLarge) }
     ensures text { IfOk result (λ o. o.text ≡ codes "too large\n") }
@@ -86,15 +74,5 @@ fn too_large(alloc: Global) -> Result<Outcome, Mem>
     Ok(Outcome {
         status: Status::TooLarge,
         text: List::from_vec(b"too large\n".to_vec(alloc)?),
-    })
-}
-
-fn refused(alloc: Global, refusal: &Refusal) -> Result<Outcome, Mem>
-    ensures status { IfOk result (λ o. o.status ≡ Status.Refused) }
-    ensures text { IfOk result (λ o. o.text ≡ Texts.refusal_text refusal.now) }
-{
-    Ok(Outcome {
-        status: Status::Refused,
-        text: List::from_vec(refusal_text(alloc, refusal)?.into_bytes()),
     })
 }

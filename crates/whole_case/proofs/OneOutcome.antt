@@ -1,4 +1,4 @@
--- Each stage of a case comes to one thing at most, and so does the whole.
+-- Each stage of what a case asks comes to one thing at most, and so does the whole.
 use Rattle.std.proofs.Common.{◌≡◌, ℕ, List, [], ◌∷◌, length, map, Option, Some, None, Result, Ok, Err, refl, sym, ap, subst, ◌∙◌, inl, inr}
 use Rattle.fare_law.specs.declared.filings.BookWhy.{BookWhy}
 use Rattle.fare_law.specs.declared.filings.Filing.{Filing}
@@ -12,7 +12,7 @@ use Rattle.fare_law.specs.Book.{Book, Timetable, row_key}
 use Rattle.fare_law.specs.Faults.{Fault}
 use Rattle.fare_law.specs.Flights.{AreFlights}
 use Rattle.fare_law.specs.Lists.{AllDifferent}
-use Rattle.case_text.specs.declared.kinds.CaseKind.TheVariants.{Search}
+use Rattle.case_text.specs.declared.kinds.CaseKind.{CaseKind}
 use Rattle.case_text.specs.Entries.{case_of}
 use Rattle.fare_filing.specs.Reading.{filing_of}
 use Rattle.request_text.specs.Reading.{request_of}
@@ -21,13 +21,13 @@ use Rattle.schedule_book.specs.Faults.{Fault as HasRowFault, PlacesDiffer, RowsR
 use Rattle.seat_classes.specs.Given.{FirstRepeat}
 use Rattle.whole_case.specs.declared.refusals.Reason.TheVariants.{ActionRefused, BadRequest, Twice}
 use Rattle.whole_case.specs.declared.refusals.Refusal.{Refusal}
-use Rattle.whole_case.specs.Cases.{search_case}
+use Rattle.whole_case.specs.Cases.{asked_case}
 use Rattle.whole_case.specs.Filings.{filed, filed_version, filing_in, has_version, kept, next, taken, version}
 use Rattle.whole_case.specs.Refusals.{at_line, filing_reason, of_form, of_rows, refused_at, request_reason}
-use Rattle.whole_case.specs.Requests.{allowed_in, request_in, sole_request, spelled_in, with_best}
+use Rattle.whole_case.specs.Requests.{allowed_in, request_in, sole_request, spelled_in}
 use Rattle.whole_case.specs.Stages.{IsOne, Stage, done, told, ◌>>=◌}
 use Rattle.whole_case.specs.Timetables.{flights_of, opening_of, seats_apart, sections_in, timetable_of}
-use Rattle.whole_case.proofs.SearchSteps.{after_book, after_form, after_number, after_opening, after_request, opening}
+use Rattle.whole_case.proofs.AskedSteps.{after_book, after_form, after_opening, after_request, asked_of, opening}
 
 -- what is known of the layers below, as their law functions give it
 pub record Known : Type 0 where
@@ -51,10 +51,10 @@ not_both : {A E : Type 0} (a : A) (e : E) → ◌≡◌ {A = Result A E} (Ok a) 
 not_both a e h = cc
 
 -- ---- stages one after another
-one_done : {A : Type 0} (a : A) → IsOne (done a)
+pub one_done : {A : Type 0} (a : A) → IsOne (done a)
 one_done a x y p q = p ∙ sym q
 
-one_then : {A B : Type 0} (first : Stage A) (then : A → Stage B) → IsOne first → ((a : A) → IsOne (then a)) → IsOne (first >>= then)
+pub one_then : {A B : Type 0} (first : Stage A) (then : A → Stage B) → IsOne first → ((a : A) → IsOne (then a)) → IsOne (first >>= then)
 one_then first then f t (Ok b) (Ok c) (a, p, q) (d, r, s) = t a (Ok b) (Ok c) q (subst (λ x. then x (Ok c)) (sym (ok_same a d (f (Ok a) (Ok d) p r))) s)
 one_then first then f t (Ok b) (Err refusal) (a, p, q) (inl r) = absurd (not_both a refusal (f (Ok a) (Err refusal) p r))
 one_then first then f t (Ok b) (Err refusal) (a, p, q) (inr (d, r, s)) = t a (Ok b) (Err refusal) q (subst (λ x. then x (Err refusal)) (sym (ok_same a d (f (Ok a) (Ok d) p r))) s)
@@ -73,7 +73,7 @@ one_told spelled refusal_of (Err refusal) (Ok a) (fault, q, e) p = absurd (not_b
 one_told spelled refusal_of (Err one) (Err other) (fault, p, e) (later, q, g) = ap Err (some_same one other (sym e ∙ ap refusal_of (err_same fault later (sym p ∙ q)) ∙ g))
 
 -- ---- the request
-none_some : {A : Type 0} (a : A) → ◌≡◌ {A = Option A} None (Some a) → ⊥
+pub none_some : {A : Type 0} (a : A) → ◌≡◌ {A = Option A} None (Some a) → ⊥
 none_some a e = cc
 
 one_allowed : (b : Book) (line : ℕ) (request : Request) → IsOne (allowed_in b line request)
@@ -93,7 +93,7 @@ one_sole b (line ∷ []) x y p q = one_request b line x y p q
 one_sole b (line ∷ more ∷ lines) x y p q = absurd p
 
 -- ---- the version
-one_number : (at : Option ℕ) (count : ℕ) → IsOne (has_version at count)
+pub one_number : (at : Option ℕ) (count : ℕ) → IsOne (has_version at count)
 one_number None count x y p q = p ∙ sym q
 one_number (Some n) count x y p q = p ∙ sym q
 
@@ -143,11 +143,10 @@ module _ (k : Known) where
   one_version opening lines at = one_then (filed opening lines) (λ last. done (version (kept at (length lines)) last)) (one_filed lines opening) (λ last. one_done (version (kept at (length lines)) last))
 
   -- ---- the whole
-  pub one_search_case : (best at : Option ℕ) (bytes : List ℕ) → IsOne (search_case best at bytes)
-  one_search_case best at bytes =
-      one_then (sections_in Search bytes) (after_form best at) (one_told (case_of Search bytes) of_form) (λ case.
-      one_then (opening_of case.places case.flights case.seats) (after_opening best at case) (one_opening case.places case.flights case.seats) (λ opening.
-      one_then (filed_version opening case.filings at) (after_book best at case) (one_version opening case.filings at) (λ book.
-      one_then (sole_request book case.requests) (after_request best at case book) (one_sole book case.requests) (λ request.
-      one_then (has_version at (length case.filings)) (after_number best book request) (one_number at (length case.filings)) (λ u.
-      one_done (record { book = book; request = with_best best request }))))))
+  pub one_asked_case : (kind : CaseKind) (at : Option ℕ) (bytes : List ℕ) → IsOne (asked_case kind at bytes)
+  one_asked_case kind at bytes =
+      one_then (sections_in kind bytes) (after_form at) (one_told (case_of kind bytes) of_form) (λ case.
+      one_then (opening_of case.places case.flights case.seats) (after_opening at case) (one_opening case.places case.flights case.seats) (λ opening.
+      one_then (filed_version opening case.filings at) (after_book case) (one_version opening case.filings at) (λ book.
+      one_then (sole_request book case.requests) (after_request case book) (one_sole book case.requests) (λ request.
+      one_done (asked_of case book request)))))

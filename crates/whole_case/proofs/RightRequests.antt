@@ -8,9 +8,14 @@ use Rattle.fare_law.specs.declared.requests.Why.TheVariants.{Slices, Party, Best
 use Rattle.fare_law.specs.declared.rows.TextLine.{TextLine}
 use Rattle.fare_law.specs.Book.{Book}
 use Rattle.fare_law.specs.Requests.{judged, known_places, within}
+use Rattle.case_text.specs.declared.kinds.CaseKind.{CaseKind}
+use Rattle.case_text.specs.declared.kinds.CaseKind.TheVariants.{Search, Check}
+use Rattle.whole_case.specs.declared.asked.AskedCase.{AskedCase}
+use Rattle.whole_case.specs.declared.check.CheckCase.{CheckCase}
 use Rattle.whole_case.specs.declared.search.SearchCase.{SearchCase}
-use Rattle.whole_case.specs.Cases.{search_case}
+use Rattle.whole_case.specs.Cases.{asked_case, check_case, search_case}
 use Rattle.whole_case.specs.Requests.{sole_request, with_best}
+use Rattle.whole_case.proofs.AskedSteps.{asked_of}
 use Rattle.whole_case.proofs.Judgements.{same_after, tested}
 use Rattle.whole_case.proofs.OneOutcome.{ok_same}
 
@@ -31,7 +36,16 @@ right_with places q (Some best) h e =
     let c = tested (within 1 1000 q.best) Best _ b.1 in
     same_after _ Slices _ None a.0 (same_after _ Party _ None b.0 (same_after (within 1 1000 best) Best _ None (ranged 1 1000 best h) c.1))
 
-pub spelled_right : (best at : Option ℕ) (bytes : List ℕ) (found : SearchCase) → IfSome best (IsInRange 1 1000) → search_case best at bytes (Ok found) → judged (known_places found.book) found.request ≡ None
-spelled_right best at bytes found h (case, form, (opening, rows, (book, filed, (request, sole, (u, number, e))))) =
-    subst (λ (x : SearchCase). judged (known_places x.book) x.request ≡ None) (sym (ok_same found (record { book = book; request = with_best best request }) e))
-    (right_with (known_places book) request best h (sole_right book case.requests request sole))
+asked_right : (kind : CaseKind) (at : Option ℕ) (bytes : List ℕ) (asked : AskedCase) → asked_case kind at bytes (Ok asked) → judged (known_places asked.book) asked.request ≡ None
+asked_right kind at bytes asked (case, form, (opening, rows, (book, filed, (request, sole, e)))) =
+    subst (λ (x : AskedCase). judged (known_places x.book) x.request ≡ None) (sym (ok_same asked (asked_of case book request) e)) (sole_right book case.requests request sole)
+
+pub searched_right : (best at : Option ℕ) (bytes : List ℕ) (found : SearchCase) → IfSome best (IsInRange 1 1000) → search_case best at bytes (Ok found) → judged (known_places found.book) found.request ≡ None
+searched_right best at bytes found h (asked, a, (u, number, e)) =
+    subst (λ (x : SearchCase). judged (known_places x.book) x.request ≡ None) (sym (ok_same found (record { book = asked.book; request = with_best best asked.request }) e))
+    (right_with (known_places asked.book) asked.request best h (asked_right Search at bytes asked a))
+
+pub checked_right : (best at : Option ℕ) (bytes : List ℕ) (found : CheckCase) → IfSome best (IsInRange 1 1000) → check_case best at bytes (Ok found) → judged (known_places found.book) found.request ≡ None
+checked_right best at bytes found h (asked, a, (certificate, read, (u, number, e))) =
+    subst (λ (x : CheckCase). judged (known_places x.book) x.request ≡ None) (sym (ok_same found (record { book = asked.book; request = with_best best asked.request; certificate = certificate }) e))
+    (right_with (known_places asked.book) asked.request best h (asked_right Check at bytes asked a))

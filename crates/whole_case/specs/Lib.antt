@@ -4,4 +4,5 @@ pub mod Texts
 pub mod Timetables
 pub mod Filings
 pub mod Requests
+pub mod Certificates
 pub mod Cases

@@ -2,6 +2,8 @@
 use Rattle.std.specs.Prelude.{◌≡◌, ⊤, ℕ, Option, Some, None, option_map}
 use Rattle.case_text.specs.declared.faults.CaseFault.{CaseFault}
 use Rattle.case_text.specs.declared.faults.CaseFault.TheVariants as form
+use Rattle.certificate_text.specs.declared.faults.CertFault.{CertFault}
+use Rattle.certificate_text.specs.declared.faults.CertFault.TheVariants as certificate
 use Rattle.fare_filing.specs.declared.fault.FilingFault.{FilingFault}
 use Rattle.fare_filing.specs.declared.fault.FilingFault.TheVariants as filing
 use Rattle.request_text.specs.declared.fault.RequestFault.{RequestFault}
@@ -13,7 +15,7 @@ use Rattle.schedule_book.specs.declared.faults.SchedFault.TheVariants as rows
 use Rattle.whole_case.specs.declared.refusals.LoadFault.{LoadFault}
 use Rattle.whole_case.specs.declared.refusals.LoadFault.TheVariants.{Refused, Mem}
 use Rattle.whole_case.specs.declared.refusals.Reason.{Reason}
-use Rattle.whole_case.specs.declared.refusals.Reason.TheVariants.{NoEnd, UnknownSection, Order, BadRow, TooMany, AfterEnd, PlaceTwice, UnknownPlace, SamePlace, BadPeriod, ArrivesBefore, Twice, Syntax, Shape, ActionShape, ActionRule, BadRequest}
+use Rattle.whole_case.specs.declared.refusals.Reason.TheVariants.{NoEnd, UnknownSection, Order, BadRow, TooMany, AfterEnd, PlaceTwice, UnknownPlace, SamePlace, BadPeriod, ArrivesBefore, Twice, Syntax, Shape, ActionShape, ActionRule, BadRequest, Count}
 use Rattle.whole_case.specs.declared.refusals.Refusal.{Refusal}
 use Rattle.whole_case.specs.declared.refusals.RuleWhy.TheVariants.{Missing, Unknown, Range}
 
@@ -57,6 +59,11 @@ request_reason request.Syntax = Some Syntax
 request_reason request.Shape = Some Shape
 request_reason (request.BadRequest why) = Some (BadRequest why)
 request_reason request.Mem = None
+
+abbrev pub of_certificate : CertFault → Option Refusal
+of_certificate (certificate.Syntax line) = Some (refused_at line Syntax)
+of_certificate (certificate.Count line) = Some (refused_at line Count)
+of_certificate certificate.Mem = None
 
 -- the reason is at this line
 abbrev pub at_line : ℕ → Option Reason → Option Refusal

@@ -1,17 +1,20 @@
 //! Bytes have one reading, and what they ask is right.
 ghost use Rattle.std.specs.Prelude.{◌≡◌, ℕ, List, Option, None, Ok, IfSome};
 ghost use Rattle.std.specs.Int.{IsInRange};
+ghost use Rattle.case_text.specs.declared.kinds.CaseKind.{CaseKind as Kind};
 ghost use Rattle.fare_law.specs.Requests.{judged, known_places};
-ghost use Rattle.whole_case.specs.Cases.{search_case};
+ghost use Rattle.whole_case.specs.Cases.{asked_case, check_case, search_case};
+ghost use Rattle.whole_case.specs.declared.check.CheckCase.{CheckCase as Checked};
 ghost use Rattle.whole_case.specs.declared.search.SearchCase.{SearchCase as Found};
 ghost use Rattle.whole_case.specs.Stages.{IsOne};
 
+use certificate_text::one_reading;
 use fare_book::{one_fault_of_filings, one_fault_of_seats};
 use schedule_book::{one_fault_of_rows, one_list_of_flights};
 
-/// Bytes spell one case of a search at most, or have one first refusal, and not both.
-pub fn one_search_case()
-    ensures { (best at : Option ℕ) (bytes : List ℕ) → IsOne (search_case best at bytes) }
+/// Bytes ask one thing at most, or have one first refusal before what their kind of case has more.
+fn one_asked_case()
+    ensures { (kind : Kind) (at : Option ℕ) (bytes : List ℕ) → IsOne (asked_case kind at bytes) }
 {
     one_list_of_flights();
     one_fault_of_rows();
@@ -19,9 +22,26 @@ pub fn one_search_case()
     one_fault_of_seats();
 }
 
+/// Bytes spell one case of a search at most, or have one first refusal, and not both.
+pub fn one_search_case()
+    ensures { (best at : Option ℕ) (bytes : List ℕ) → IsOne (search_case best at bytes) }
+{
+    one_asked_case();
+}
+
+/// Bytes spell one case of a check at most, or have one first refusal, and not both.
+pub fn one_check_case()
+    ensures { (best at : Option ℕ) (bytes : List ℕ) → IsOne (check_case best at bytes) }
+{
+    one_asked_case();
+    one_reading();
+}
+
 /// What a case that is spelled asks is refused for no reason in its book, also where another number of
 /// tickets within the limits is put in.
 pub fn spelled_requests_are_right()
-    ensures { (best at : Option ℕ) (bytes : List ℕ) (found : Found) → IfSome best (IsInRange 1 1000)
+    ensures search { (best at : Option ℕ) (bytes : List ℕ) (found : Found) → IfSome best (IsInRange 1 1000)
         → search_case best at bytes (Ok found) → judged (known_places found.book) found.request ≡ None }
+    ensures check { (best at : Option ℕ) (bytes : List ℕ) (found : Checked) → IfSome best (IsInRange 1 1000)
+        → check_case best at bytes (Ok found) → judged (known_places found.book) found.request ≡ None }
 {}

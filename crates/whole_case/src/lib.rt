@@ -1,8 +1,12 @@
 //! Whole cases: from bytes to the case's book and its request, or the first refusal, by stages, with
 //! its line and its reason. The stages are the form of the lines, the places and flights, the seats,
-//! the filings, each read and then taken by the book, the request, and last the version asked for.
+//! the filings, each read and then taken by the book, the request, then the certificate of a check,
+//! and last the version asked for.
 #![tactic(auto)]
 
+mod asked;
+mod certificates;
+mod check;
 mod filings;
 mod histories;
 mod laws;
@@ -13,7 +17,8 @@ mod rows;
 mod search;
 mod texts;
 
-pub use laws::{one_search_case, spelled_requests_are_right};
+pub use check::{CheckCase, load_check_case};
+pub use laws::{one_check_case, one_search_case, spelled_requests_are_right};
 pub use refusals::{LoadFault, Reason, Refusal, RuleWhy};
 pub use search::{SearchCase, load_search_case};
 pub use texts::refusal_text;

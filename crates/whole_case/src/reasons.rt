@@ -5,6 +5,7 @@ ghost use Rattle.whole_case.specs.Refusals.{IsAs};
 
 use crate::{LoadFault, Reason, Refusal, RuleWhy};
 use case_text::CaseFault;
+use certificate_text::CertFault;
 use fare_filing::FilingFault;
 use request_text::RequestFault;
 use rule_text::RuleFault;
@@ -81,5 +82,16 @@ pub fn of_request(line: u32, fault: RequestFault) -> LoadFault
         RequestFault::Shape => refused_at(line, Reason::Shape),
         RequestFault::BadRequest(why) => refused_at(line, Reason::BadRequest(why)),
         RequestFault::Mem => LoadFault::Mem,
+    }
+}
+
+/// A fault of the certificate.
+pub fn of_certificate(fault: CertFault) -> LoadFault
+    ensures { IsAs result (Refusals.of_certificate fault) }
+{
+    match fault {
+        CertFault::Syntax { line } => refused_at(line, Reason::Syntax),
+        CertFault::Count { line } => refused_at(line, Reason::Count),
+        CertFault::Mem => LoadFault::Mem,
     }
 }

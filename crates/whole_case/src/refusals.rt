@@ -41,7 +41,8 @@ pub enum Reason {
     ArrivesBefore,
     /// A dated flight stands already, or a seat row of the same name and day.
     Twice,
-    /// A line isn't JSON.
+    /// A line isn't JSON; or a line of a certificate isn't of the form that is due, is missing, or
+    /// follows the last one.
     Syntax,
     /// A request isn't of its form.
     Shape,
@@ -53,6 +54,8 @@ pub enum Reason {
     ActionRefused { action: u32, why: BookWhy },
     /// A request breaks a limit, or names a place that isn't known: `BadRequest` and why.
     BadRequest(Why),
+    /// A certificate has fewer or more answers or rows than it says.
+    Count,
     /// There is no version of the number that is asked for.
     NoVersion,
 }

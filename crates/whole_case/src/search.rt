@@ -4,10 +4,10 @@ ghost use Rattle.whole_case.specs.Cases as Cases;
 ghost use Rattle.whole_case.specs.Stages.{Reads};
 
 use crate::LoadFault;
-use crate::histories::{check_version, filed_version};
-use crate::requests::{sole_request, with_best};
-use crate::rows::{opening_of, sections_in};
-use case_text::{Case, CaseKind};
+use crate::asked::asked_case;
+use crate::histories::check_version;
+use crate::requests::with_best;
+use case_text::CaseKind;
 use fare_book::Book;
 use fare_law::Request;
 use std::alloc::Global;
@@ -30,21 +30,10 @@ pub fn load_search_case(
     requires { length bytes.now + 1 < 2 ^ 32 }
     ensures { Reads result (Cases.search_case best at bytes.now) }
 {
-    let case = sections_in(alloc, bytes, CaseKind::Search)?;
-    let Case {
-        places,
-        flights,
-        seats,
-        filings,
-        requests,
-        ..
-    } = case;
-    let opening = opening_of(alloc, &places, &flights, seats)?;
-    let book = filed_version(alloc, opening, &filings, at)?;
-    let request = sole_request(alloc, &book, &requests)?;
-    check_version(at, &filings)?;
+    let asked = asked_case(alloc, bytes, CaseKind::Search, at)?;
+    check_version(at, &asked.filings)?;
     Ok(SearchCase {
-        book,
-        request: with_best(request, best),
+        book: asked.book,
+        request: with_best(asked.request, best),
     })
 }

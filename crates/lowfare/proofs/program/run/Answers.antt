@@ -12,7 +12,7 @@ returns-in-Err-Usage-clause-says g c =
 
 pub returns-in-Err-Usage-clause-complete : goal.returns-in-Err-Usage-clause-complete
 returns-in-Err-Usage-clause-complete g c =
-    complete c.one_search_case.ensures _ _ _ _ _ _ _ _ _ _ _ _ (returns-in-Err-Usage-clause-says g c)
+    complete (record { search = c.one_search_case.ensures; check = c.one_check_case.ensures; failure = c.one_failure.ensures }) _ _ _ _ _ _ _ _ _ _ _ _ (returns-in-Err-Usage-clause-says g c)
 
 -- too many bytes came
 pub returns-in-Err-TooLong-clause-says : goal.returns-in-Err-TooLong-clause-says
@@ -22,7 +22,7 @@ returns-in-Err-TooLong-clause-says g c =
 
 pub returns-in-Err-TooLong-clause-complete : goal.returns-in-Err-TooLong-clause-complete
 returns-in-Err-TooLong-clause-complete g c =
-    complete c.one_search_case.ensures _ _ _ _ _ _ _ _ _ _ _ _ (returns-in-Err-TooLong-clause-says g c)
+    complete (record { search = c.one_search_case.ensures; check = c.one_check_case.ensures; failure = c.one_failure.ensures }) _ _ _ _ _ _ _ _ _ _ _ _ (returns-in-Err-TooLong-clause-says g c)
 
 -- the command made this of its input
 pub returns-in-Ok-outcome_of-clause-says : goal.returns-in-Ok-outcome_of-clause-says
@@ -41,4 +41,4 @@ returns-in-Ok-outcome_of-clause-says g c =
 
 pub returns-in-Ok-outcome_of-clause-complete : goal.returns-in-Ok-outcome_of-clause-complete
 returns-in-Ok-outcome_of-clause-complete g c =
-    complete c.one_search_case.ensures _ _ _ _ _ _ _ _ _ _ _ _ (returns-in-Ok-outcome_of-clause-says g c)
+    complete (record { search = c.one_search_case.ensures; check = c.one_check_case.ensures; failure = c.one_failure.ensures }) _ _ _ _ _ _ _ _ _ _ _ _ (returns-in-Ok-outcome_of-clause-says g c)

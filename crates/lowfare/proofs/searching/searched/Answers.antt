@@ -15,5 +15,5 @@ returns-in-Ok-search-clause-makes c =
 pub unreachable-requires : goal.unreachable-requires
 unreachable-requires c =
     let found = c.in-Ok.found in
-    let right = c.spelled_requests_are_right.ensures c.args.best c.args.at c.args.bytes.now found c.requires.best c.in-Ok.ensures in
+    let right = c.spelled_requests_are_right.ensures.search c.args.best c.args.at c.args.bytes.now found c.requires.best c.in-Ok.ensures in
     right_refused found.book found.request c.args.budget c.in-Err-BadRequest.field-0 c.in-Err-BadRequest.field-0-0 right c.in-Err-BadRequest.ensures.cause c.in-Err-BadRequest.field-0-is

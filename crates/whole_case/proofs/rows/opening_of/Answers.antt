@@ -6,7 +6,7 @@ use Rattle.fare_law.specs.declared.rows.PlaceRow.{PlaceRow}
 use Rattle.fare_law.specs.Book.{Timetable}
 use Rattle.whole_case.specs.Stages.{Reads}
 use Rattle.whole_case.specs.Timetables.{timetable_of}
-use Rattle.whole_case.proofs.SearchSteps.{timetable_stops}
+use Rattle.whole_case.proofs.AskedSteps.{timetable_stops}
 use Rattle.whole_case.proofs.rows.opening_of.Goals as goal
 
 pub returns-in_err-timetable-clause-book : goal.returns-in_err-timetable-clause-book

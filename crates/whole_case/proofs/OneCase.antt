@@ -1,0 +1,49 @@
+-- Cases of each kind come to one thing at most, since what they ask does.
+use Rattle.std.proofs.Common.{◌≡◌, ◌≢◌, ℕ, List, length, Option, Some, Ok, Err, sym, ap, ◌∙◌}
+use Rattle.case_text.specs.declared.kinds.CaseKind.{CaseKind}
+use Rattle.case_text.specs.declared.kinds.CaseKind.TheVariants.{Search, Check}
+use Rattle.certificate_text.specs.declared.faults.CertFault.{CertFault}
+use Rattle.certificate_text.specs.declared.faults.CertFault.TheVariants.{Mem}
+use Rattle.certificate_text.specs.Readings.{NoFault, OneCertificate, OneFault}
+use Rattle.certificate_text.specs.Unread.{Numbered}
+use Rattle.fare_law.specs.declared.rows.TextLine.{TextLine}
+use Rattle.whole_case.specs.declared.asked.AskedCase.{AskedCase}
+use Rattle.whole_case.specs.declared.refusals.Refusal.{Refusal}
+use Rattle.whole_case.specs.Cases.{asked_case, check_case, search_case}
+use Rattle.whole_case.specs.Certificates.{certificate_in}
+use Rattle.whole_case.specs.Filings.{has_version}
+use Rattle.whole_case.specs.Refusals.{of_certificate}
+use Rattle.whole_case.specs.Stages.{IsOne, done}
+use Rattle.whole_case.proofs.CaseSteps.{after_certificate, at_version, checked, searched, to_check}
+use Rattle.whole_case.proofs.OneOutcome.{none_some, one_done, one_number, one_then}
+
+one_after : {A : Type 0} (at : Option ℕ) (asked : AskedCase) (a : A) → IsOne (at_version at asked a)
+one_after at asked a = one_then (has_version at (length asked.filings)) (λ u. done a) (one_number at (length asked.filings)) (λ u. one_done a)
+
+-- ---- the certificate
+-- want of memory refuses no case
+refusal_apart : (fault : CertFault) (refusal : Refusal) → of_certificate fault ≡ Some refusal → fault ≢ Mem
+refusal_apart fault refusal e m = none_some refusal (sym (ap of_certificate m) ∙ e)
+
+some_same : {A : Type 0} (a b : A) → Some a ≡ Some b → a ≡ b
+some_same a b e = cc
+
+module _ (one : OneCertificate) (none : NoFault) (fault : OneFault) where
+  one_certificate : (lines : List TextLine) (end : ℕ) → IsOne (certificate_in lines end)
+  one_certificate lines end (Ok c) (Ok d) (ic, lc) (id, ld) = ap Ok (one (Numbered lines end) c d ic id lc ld)
+  one_certificate lines end (Ok c) (Err refusal) (ic, lc) (f, from, e) = absurd (refusal_apart f refusal e (none (Numbered lines end) c f ic lc from))
+  one_certificate lines end (Err refusal) (Ok c) (f, from, e) (ic, lc) = absurd (refusal_apart f refusal e (none (Numbered lines end) c f ic lc from))
+  one_certificate lines end (Err first) (Err other) (f, p, e) (g, q, h) =
+      let same = fault (Numbered lines end) f g (refusal_apart f first e) (refusal_apart g other h) p q in
+      ap Err (some_same first other (sym e ∙ ap of_certificate same ∙ h))
+
+module _ (asks : (kind : CaseKind) (at : Option ℕ) (bytes : List ℕ) → IsOne (asked_case kind at bytes)) where
+  pub one_search : (best at : Option ℕ) (bytes : List ℕ) → IsOne (search_case best at bytes)
+  one_search best at bytes =
+      one_then (asked_case Search at bytes) (λ asked. at_version at asked (searched best asked)) (asks Search at bytes) (λ asked. one_after at asked (searched best asked))
+
+  pub one_check : OneCertificate → NoFault → OneFault → (best at : Option ℕ) (bytes : List ℕ) → IsOne (check_case best at bytes)
+  one_check one none fault best at bytes =
+      one_then (asked_case Check at bytes) (to_check best at) (asks Check at bytes) (λ asked.
+      one_then (certificate_in asked.certificate asked.end) (after_certificate best at asked) (one_certificate one none fault asked.certificate asked.end) (λ c.
+      one_after at asked (checked best asked c)))

@@ -1,0 +1,15 @@
+-- The theorem of its own file, from the laws of the layers below.
+use Rattle.whole_case.proofs.OneOutcome.{Known, one_asked_case}
+use Rattle.whole_case.proofs.laws.one_asked_case.Goals as goal
+
+pub returns : goal.returns
+returns c =
+    let k : Known = record {
+      flights = c.one_list_of_flights.ensures;
+      row_fault = c.one_fault_of_rows.ensures.one;
+      no_row_fault = c.one_fault_of_rows.ensures.none;
+      repeat = c.one_fault_of_seats.ensures.one;
+      no_repeat = c.one_fault_of_seats.ensures.none;
+      filing_fault = c.one_fault_of_filings.ensures;
+    } in
+    one_asked_case k
