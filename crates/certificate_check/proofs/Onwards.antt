@@ -1,17 +1,31 @@
 -- A move that leaves a residual goes on to it, and no move that ends the journey goes on.
-use Rattle.std.proofs.Common.{◌≡◌, ℕ, Option, Some, None, IfSome, IfNone, refl, ap}
-use Rattle.certificate_check.specs.Fronts.{GoesOn, Priced}
+use Rattle.std.proofs.Common.{◌≡◌, ℕ, List, Option, Some, None, IfSome, IfNone, refl, ap}
+use Rattle.certificate.specs.BoundCheck.{state_after}
+use Rattle.certificate_check.specs.Fronts.{Priced}
+use Rattle.fare_law.specs.declared.flights.Flight.{Flight}
 use Rattle.fare_law.specs.declared.moves.Move.{Move}
 use Rattle.fare_law.specs.declared.requests.Request.{Request}
+use Rattle.fare_law.specs.declared.tickets.Piece.{Piece}
 use Rattle.fare_law.specs.Book.{Book}
 use Rattle.fare_law.specs.Parts.{price_of}
 use Rattle.flight_paths.specs.declared.positions.Position.{Position}
+use Rattle.open_unit.specs.declared.units.OpenUnit.{OpenUnit}
 use Rattle.residual_keys.specs.declared.residual.Next.{Next}
 use Rattle.residual_keys.specs.declared.residual.Next.TheVariants.{At, Done}
 use Rattle.residual_keys.specs.Residuals.{Moves, State, begins, part_with}
 use Rattle.residual_keys.specs.Steps.{StepsTo, left_at}
 use Rattle.search_steps.specs.Leads.{state_of}
 use Rattle.residual_keys.proofs.OneNext.{moves_one}
+
+-- The move leads from the one state to the other, at this price.
+pub record GoesOn (b : Book) (q : Request) (x : State) (m : Move) (y : State) (price : ℕ) : Type 0 where
+  pub flights : List Flight
+  pub piece : Piece
+  pub at : Position
+  pub units : List OpenUnit
+  pub moves : Moves b q x m flights piece (Some at) units
+  pub left : y ≡ state_after x m piece at units
+  pub costs : price ≡ price_of flights piece
 
 not_done : (x : State) → At x ≡ Done → ⊥
 not_done x e = cc

@@ -5,8 +5,9 @@ use Rattle.certificate.specs.BoundCheck.{state_after}
 use Rattle.certificate.specs.declared.parts.CertAnswer.{CertAnswer}
 use Rattle.certificate.specs.declared.parts.CertRow.{CertRow}
 use Rattle.certificate.specs.DepartureCheck.{BeginsWith, ComesAfter, Departs, DeparturesFail, DeparturesHold, FrontAt, IsFront, LeadsFor}
-use Rattle.certificate_check.specs.Fronts.{AnswerFails, AnswerHolds, FrontFails, FrontHolds, GoesOn, IsHad, LeadsTo}
+use Rattle.certificate_check.specs.Fronts.{AnswerFails, AnswerHolds, FrontFails, FrontHolds, IsHad, LeadsTo}
 use Rattle.certificate_check.proofs.LeastDepartures.{root_one}
+use Rattle.certificate_check.proofs.Onwards.{GoesOn}
 use Rattle.certificate_check.proofs.Begins.{front_shorter, front_taken, some_at}
 use Rattle.certificate_check.proofs.EachSoFar.{in_at}
 use Rattle.certificate_check.proofs.FromFront.{split_at, take_next}

@@ -1,6 +1,5 @@
 -- Departures by their fronts.
 use Rattle.std.specs.Prelude.{◌≡◌, ◌≢◌, ◌⊎◌, ℕ, ◌+◌, Bool, cond, List, [], ◌∷◌, ◌++◌, slice_get, Option, Some, option_and_then}
-use Rattle.certificate.specs.BoundCheck.{state_after}
 use Rattle.certificate.specs.declared.parts.CertAnswer.{CertAnswer}
 use Rattle.certificate.specs.declared.parts.CertRow.{CertRow}
 use Rattle.certificate.specs.DepartureCheck.{BeginsWith, ComesAfter, Departs, LeadsFor}
@@ -44,16 +43,6 @@ pub record AnswerFails (b : Book) (q : Request) (rows : List CertRow) (answers :
 -- the front leads from the root to this state at this price
 abbrev pub LeadsTo : Book → Request → List Move → State → ℕ → Type 0
 LeadsTo b q front there price = (root : State) × IsRoot b q root × LeadsFor b q root front there price
-
--- The move leads from the one state to the other, at this price.
-pub record GoesOn (b : Book) (q : Request) (x : State) (m : Move) (y : State) (price : ℕ) : Type 0 where
-  pub flights : List Flight
-  pub piece : Piece
-  pub at : Position
-  pub units : List OpenUnit
-  pub moves : Moves b q x m flights piece (Some at) units
-  pub left : y ≡ state_after x m piece at units
-  pub costs : price ≡ price_of flights piece
 
 -- where the fare of a move is filed that goes from the first of these flights to the last, for one in reverse the other way round
 abbrev pub from_of : Bool → Flight → Flight → Place

@@ -1,5 +1,5 @@
 //! The answer check.
-ghost use Rattle.std.specs.Prelude.{◌≡◌, ◌↔◌, IsTrue, MatchOption};
+ghost use Rattle.std.specs.Prelude.{◌↔◌, IsTrue, MatchOption};
 ghost use Rattle.certificate.specs.AnswerCheck.{AnswerBelow, AnswerIs, AnswerRight, AnswersFail, AnswersHold};
 ghost use Rattle.certificate.specs.InOrder.{IfLast};
 ghost use Rattle.fare_law.specs.declared.tickets.Ticket.{Ticket};

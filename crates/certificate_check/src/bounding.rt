@@ -1,11 +1,11 @@
 //! The bound check.
-ghost use Rattle.std.specs.Prelude.{◌≡◌, ◌↔◌, ◌+◌, ◌≤◌, ◌<◌, ◌^◌, IfOk, IfSome, IsTrue, MatchOption, length, map, option_map, Some};
+ghost use Rattle.std.specs.Prelude.{◌≡◌, ◌↔◌, ◌+◌, ◌<◌, ◌^◌, IfOk, IfSome, IsTrue, MatchOption, length, map, option_map, Some};
 ghost use Rattle.certificate.specs.BoundCheck.{BoundWithin, BoundsFail, BoundsHold};
 ghost use Rattle.certificate_check.specs.Bounds.{Allows, IsAllowed};
 ghost use Rattle.certificate_check.specs.Tables.{HasRows, IsLater};
 ghost use Rattle.fare_law.specs.Limits.{IsRequest};
 ghost use Rattle.fare_law.specs.Lists.{AllDifferent, Each};
-ghost use Rattle.graph_walk.specs.Steps.{LeadToLive, TellsStates, outcome_of, outcomes_of};
+ghost use Rattle.graph_walk.specs.Steps.{LeadToLive, outcomes_of};
 ghost use Rattle.indexmap.specs.IndexMap.{get};
 ghost use Rattle.search_steps.specs.Keys.{live, state};
 

@@ -1,6 +1,6 @@
 //! The departure check.
 ghost use Rattle.std.specs.Prelude.{◌≡◌, ◌↔◌, ◌≤◌, ◌<◌, ◌^◌, IfOk, IsTrue, MatchBool, MatchOption, length, map, slice_get, take, Some};
-ghost use Rattle.certificate.specs.DepartureCheck.{BeginsWith, DeparturesFail, DeparturesHold, IsFront};
+ghost use Rattle.certificate.specs.DepartureCheck.{DeparturesFail, DeparturesHold, IsFront};
 ghost use Rattle.certificate_check.specs.Fronts.{AnswerFails, AnswerHolds, FrontFails, FrontHolds, IsHad, LeadsTo};
 ghost use Rattle.certificate_check.specs.Tables.{HasRows, IsLater};
 ghost use Rattle.fare_law.specs.Limits.{IsRequest};

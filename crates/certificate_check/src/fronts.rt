@@ -1,6 +1,6 @@
 //! The departures of one front.
-ghost use Rattle.std.specs.Prelude.{◌≡◌, ◌↔◌, ◌++◌, ◌∷◌, ◌<◌, ◌≤◌, ◌+◌, [], IfOk, IsTrue, MatchBool, MatchOption, length, map};
-ghost use Rattle.certificate.specs.DepartureCheck.{BeginsWith, ComesAfter, IsFront, NoneTakes};
+ghost use Rattle.std.specs.Prelude.{◌≡◌, ◌↔◌, ◌++◌, ◌∷◌, ◌<◌, ◌+◌, [], IfOk, IsTrue, MatchBool, MatchOption, length, map};
+ghost use Rattle.certificate.specs.DepartureCheck.{ComesAfter, IsFront};
 ghost use Rattle.certificate_check.specs.Fronts.{FrontFails, FrontHolds, LeadsTo, TakenByAny, UntakenFirst};
 ghost use Rattle.certificate_check.specs.Tables.{HasRows, IsLater};
 ghost use Rattle.fare_law.specs.Best.{Before};

@@ -1,7 +1,7 @@
 //! The row check.
 ghost use Rattle.std.specs.Prelude.{◌≡◌, ◌↔◌, ◌≤◌, ◌<◌, ◌^◌, IsTrue, MatchOption, length};
 ghost use Rattle.certificate.specs.InOrder.{AllRight, FirstWrong, IfLast};
-ghost use Rattle.certificate.specs.RowCheck.{IsRoot, RootIsRow, RowRight, RowsFail, RowsHold};
+ghost use Rattle.certificate.specs.RowCheck.{RootIsRow, RowRight, RowsFail, RowsHold};
 ghost use Rattle.flight_paths.specs.Positions.{Fits};
 ghost use Rattle.residual_keys.specs.ResidualOrder.{StateBefore};
 

@@ -1,7 +1,7 @@
 use Rattle.std.proofs.Common.{◌≡◌, ◌+◌, ◌-◌, ◌<◌, ℕ, true, false, take, length, sym, subst, refl, arith}
-use Rattle.certificate_check.specs.Fronts.{AnswerFails, AnswerHolds, GoesOn}
+use Rattle.certificate_check.specs.Fronts.{AnswerFails, AnswerHolds}
 use Rattle.certificate_check.proofs.LaterSteps.{later_still, same_said, same_steps}
-use Rattle.certificate_check.proofs.Onwards.{goes_to, has_price, steps_on}
+use Rattle.certificate_check.proofs.Onwards.{GoesOn, goes_to, has_price, steps_on}
 use Rattle.certificate_check.proofs.RootAt.{leads_root}
 use Rattle.certificate_check.proofs.Walking.{all_held, fails_there, front_false, front_of, front_true, hold_more, leads_on, same_answer, stopped}
 use Rattle.fare_law.specs.declared.requests.Request.{Request}
