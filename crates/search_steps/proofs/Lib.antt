@@ -2,4 +2,3 @@ pub mod Bridge
 pub mod Sooner
 pub mod Counting
 pub mod RowsInOrder
-pub mod TableFacts

@@ -2,4 +2,3 @@ pub mod Leads
 pub mod Keys
 pub mod Cases
 pub mod LeastMoves
-pub mod Tables

@@ -13,7 +13,7 @@ ghost use Rattle.search_steps.specs.LeastMoves.{AreLeastMoves, BoundBy, LeaveLiv
 use crate::laws::residuals_tell;
 use crate::least::{counted_moves, first_of};
 use crate::outcomes::outcomes_of_moves;
-use crate::{Bounds, Case, Key, LeastMove, TabledCase};
+use crate::{Bounds, Case, Key, LeastMove};
 use fare_book::Book;
 use fare_component::OfferSource;
 use fare_law::{List, Mem, Request};
@@ -26,7 +26,7 @@ use ticket_order::order_laws;
 /// by keys. A key that it gave stands for its residual for as long as it lives.
 #[derive(Drop)]
 pub struct SearchSteps<'a, O> {
-    pub(crate) case: TabledCase<'a>,
+    pub(crate) case: Case<'a>,
     pub(crate) offers: &'a mut O,
 }
 
@@ -39,7 +39,7 @@ impl<'a, O: OfferSource> SearchSteps<'a, O> {
         ensures offers { result.offers.now ≡ offers.old }
     {
         SearchSteps {
-            case: TabledCase::new(Case { book, request }),
+            case: Case { book, request },
             offers,
         }
     }
@@ -49,7 +49,7 @@ impl<'a, O: OfferSource> SearchSteps<'a, O> {
         ensures book { result.book.now ≡ self.now.case.book.now }
         ensures request { result.request.now ≡ self.now.case.request.now }
     {
-        self.case.case()
+        self.case
     }
 
     /// The key of a residual.
@@ -95,12 +95,14 @@ impl<'a, O: OfferSource> SearchSteps<'a, O> {
         ensures base { O.base self.new.offers.now ≡ O.base self.old.offers.now }
         ensures stays { (a : Asked) → O.settled self.old.offers.now a → O.settled self.new.offers.now a }
     {
-        if self.offers.settles_all() {
-            return self.case.outcomes(alloc, &key.residual);
-        }
-        let case = self.case.case();
-        let found = moves(alloc, case.book, case.request, &key.residual, self.offers)?;
-        outcomes_of_moves(alloc, found.as_slice())
+        let found = moves(
+            alloc,
+            self.case.book,
+            self.case.request,
+            &key.residual,
+            self.offers,
+        )?;
+        Ok(outcomes_of_moves(alloc, found.as_slice())?)
     }
 
     /// The moves of a residual that count under bounds, the first `wanted` of them by total and code:
@@ -123,8 +125,13 @@ impl<'a, O: OfferSource> SearchSteps<'a, O> {
         ensures stays { (a : Asked) → O.settled self.old.offers.now a → O.settled self.new.offers.now a }
     {
         order_laws();
-        let case = self.case.case();
-        let found = moves(alloc, case.book, case.request, &key.residual, self.offers)?;
+        let found = moves(
+            alloc,
+            self.case.book,
+            self.case.request,
+            &key.residual,
+            self.offers,
+        )?;
         let counted = counted_moves(alloc, found.as_slice(), bounds)?;
         Ok(first_of(counted, wanted))
     }
