@@ -32,7 +32,7 @@ module _ (best at : Option ℕ) (bytes : List ℕ) where
   yes_made (Ok o) found spelled worth verdict told is status text =
       let meets : Checks found.certificate found.book found.request = subst (IsVerdict found.certificate found.book found.request) is told in
       let best_tickets = worth meets in
-      let tells : TellsYes found o.text = record { tickets = best_tickets.0; best = best_tickets.1.0; answers = best_tickets.1.1; whole = text } in
+      let tells : TellsYes found o.text = record { tickets = best_tickets.0; best = best_tickets.1; answers = best_tickets.2; whole = text } in
       let made : Accepts best at bytes o.text = record { case = record { found = found; spelled = spelled; meets = meets }; tells = tells } in
       subst (λ s. Makes (Check best at) bytes s o.text) (sym status) made
   yes_made (Err e) found spelled worth verdict told is status text = tt

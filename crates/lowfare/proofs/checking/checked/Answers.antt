@@ -12,8 +12,7 @@ returns-in-Yes-clause-makes c =
     let found = c.in-Ok.found in
     yes_made c.args.best c.args.at c.args.bytes.now c.yes.result found c.in-Ok.ensures.case (c.yes_is_best.ensures.best found.certificate found.book found.request) c.in_ok-check.field-0 c.in_ok-check.ensures c.in-Yes.is c.yes.ensures.status c.yes.ensures.text
 
--- the certificate fails a check
+-- it fails one
 pub returns-clause-makes : goal.returns-clause-makes
 returns-clause-makes c =
-    let found = c.in-Ok.found in
-    no_made c.args.best c.args.at c.args.bytes.now c.no.result found c.in-Ok.ensures.case c.in_ok-check.field-0 c.in-No.rule c.in-No.place c.in_ok-check.ensures c.in-No.is c.no.ensures.status c.no.ensures.text
+    no_made c.args.best c.args.at c.args.bytes.now c.no.result c.in-Ok.found c.in-Ok.ensures.case c.in_ok-check.field-0 c.in-No.rule c.in-No.place c.in_ok-check.ensures c.in-No.is c.no.ensures.status c.no.ensures.text
