@@ -23,7 +23,10 @@ mod verdict;
 
 pub use calendar::{CalendarCase, load_calendar_case};
 pub use check::{CheckCase, load_check_case};
-pub use laws::{one_calendar_case, one_check_case, one_search_case, one_verdict_case, spelled_calendars_fit, spelled_requests_are_right};
+pub use laws::{
+    one_calendar_case, one_check_case, one_search_case, one_verdict_case, spelled_calendars_fit,
+    spelled_requests_are_right,
+};
 pub use refusals::{LoadFault, Reason, Refusal, RuleWhy};
 pub use search::{SearchCase, load_search_case};
 pub use texts::refusal_text;

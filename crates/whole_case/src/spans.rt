@@ -1,4 +1,5 @@
 //! What a calendar asks of a request.
+ghost use Rattle.std.specs.Prelude.{◌≡◌};
 ghost use Rattle.whole_case.specs.Calendars as Calendars;
 ghost use Rattle.whole_case.specs.Stages.{Reads};
 
