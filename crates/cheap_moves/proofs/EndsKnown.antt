@@ -1,10 +1,8 @@
 -- Ends of paths, as they become known.
-use Rattle.std.proofs.Common.{◌≡◌, ◌⊎◌, Bool, true, false, Option, Some, None, cond, unwrap_or, refl, sym, ap, subst, ◌∙◌, inl, inr}
-use Rattle.cheap_moves.specs.Tails.{HasNoFares, KnowsEnds}
+use Rattle.std.proofs.Common.{◌≡◌, Bool, true, false, Option, Some, None, unwrap_or, sym, ap, subst}
+use Rattle.cheap_moves.specs.Tails.{HasNoFares}
 use Rattle.fare_law.specs.declared.names.Place.{Place}
 use Rattle.fare_law.specs.Book.{Book}
-use Rattle.fare_book.specs.Keeping.{NoFare}
-use Rattle.indexmap.specs.IndexMap.{IndexMap, get}
 
 -- a value that stands for none is the value
 pub unwrapped : (o : Option Bool) → unwrap_or o true ≡ false → o ≡ Some false

@@ -1,5 +1,5 @@
 -- The moves of a component, fare by fare.
-use Rattle.std.proofs.Common.{◌≡◌, ◌≢◌, ◌⊎◌, ℕ, zero, suc, ◌+◌, ◌*◌, ◌/◌, ◌≤◌, ◌<◌, Bool, List, [], ◌∷◌, ◌++◌, length, map, take, get_or, slice_get, Option, Some, IsBitSet, refl, sym, ap, subst, ◌∙◌, inl, inr, arith}
+use Rattle.std.proofs.Common.{◌≡◌, ◌≢◌, ◌⊎◌, ℕ, zero, suc, ◌+◌, ◌≤◌, ◌<◌, Bool, List, [], ◌∷◌, ◌++◌, length, map, take, get_or, slice_get, Option, Some, IsBitSet, refl, sym, ap, subst, ◌∙◌, inl, inr, arith}
 use Rattle.cheap_moves.specs.declared.component.Component.{Component}
 use Rattle.cheap_moves.specs.declared.component.Onward.{Onward}
 use Rattle.cheap_moves.specs.Making.{IsComponent, IsFareMove, Of}
@@ -28,7 +28,6 @@ use Rattle.flight_paths.specs.declared.positions.Path.{Path}
 use Rattle.flight_paths.specs.declared.positions.Position.{Position}
 use Rattle.outlines.specs.ByGroups.{OverMarket}
 use Rattle.residual_keys.specs.declared.residual.Chosen.{Chosen}
-use Rattle.residual_keys.specs.declared.residual.Next.{Next}
 use Rattle.residual_keys.specs.Gathered.{Adds}
 use Rattle.residual_keys.specs.Residuals.{State}
 use Rattle.residual_keys.proofs.Adding.{adds_one}

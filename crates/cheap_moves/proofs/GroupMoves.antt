@@ -1,8 +1,8 @@
 -- The moves on a path with the fares of a group.
-use Rattle.std.proofs.Common.{◌≡◌, ◌⊎◌, ℕ, ℤ, ◌+◌, ◌≤◌, ◌<◌, Bool, List, [], ◌∷◌, length, take, get_or, slice_get, Option, Some, None, IsBitSet, Result, OnOk, refl, sym, ap, subst, ◌∙◌, inl, inr, arith}
+use Rattle.std.proofs.Common.{◌≡◌, ◌⊎◌, ℕ, ℤ, ◌+◌, ◌≤◌, ◌<◌, Bool, List, length, take, get_or, slice_get, Option, Some, None, IsBitSet, Result, OnOk, refl, sym, ap, subst, ◌∙◌, arith}
 use Rattle.cheap_moves.specs.declared.component.Component.{Component}
 use Rattle.cheap_moves.specs.declared.component.Flown.{Flown}
-use Rattle.cheap_moves.specs.Making.{HasRows, IsComponent, IsComponentMove, IsGroupMove, IsOver, IsPieceOver, IsRoleMove, IsRowIn, Of}
+use Rattle.cheap_moves.specs.Making.{HasRows, IsComponent, IsComponentMove, IsGroupMove, IsOver, IsPieceOver, IsRowIn, Of}
 use Rattle.cheap_moves.specs.Within.{IsWithin}
 use Rattle.cheap_moves.proofs.FareMoves.{one_place, row_at}
 use Rattle.cheap_moves.proofs.Joining.{differs_before, of_more, taken_in}
@@ -17,7 +17,6 @@ use Rattle.fare_groups.proofs.ByGroup.{one_rule_all}
 use Rattle.fare_groups.proofs.Grouped.{each_in}
 use Rattle.fare_law.specs.declared.flights.Flight.{Flight}
 use Rattle.fare_law.specs.declared.moves.Move.{Move}
-use Rattle.fare_law.specs.declared.moves.Role.{Role}
 use Rattle.fare_law.specs.declared.requests.Request.{Request}
 use Rattle.fare_law.specs.declared.sheets.SheetRow.{SheetRow}
 use Rattle.fare_law.specs.declared.tickets.Piece.{Piece}

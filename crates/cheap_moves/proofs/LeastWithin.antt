@@ -1,9 +1,9 @@
 -- The first things within a limit are the first of all. Given on to the crates above.
-use Rattle.std.proofs.Common.{◌≡◌, ◌⊎◌, ℕ, zero, suc, ◌+◌, ◌≤◌, ◌<◌, List, [], ◌∷◌, length, Option, Some, None, unwrap_or, refl, sym, ap, subst, ◌∙◌, inl, inr, arith}
-use Rattle.cheap_moves.specs.Within.{FirstAreFirst, IsMoveWithin, IsSooner, IsWithin, rest_of, total_of}
+use Rattle.std.proofs.Common.{◌≡◌, ◌⊎◌, ℕ, zero, suc, ◌+◌, ◌≤◌, ◌<◌, List, [], ◌∷◌, length, Option, Some, None, unwrap_or, sym, ap, subst, inl, inr, arith}
+use Rattle.cheap_moves.specs.Within.{FirstAreFirst, IsMoveWithin, IsSooner, rest_of, total_of}
 use Rattle.fare_law.specs.declared.requests.Request.{Request}
 use Rattle.fare_law.specs.Book.{Book}
-use Rattle.fare_law.specs.Lists.{Each, IsIn, KLeast}
+use Rattle.fare_law.specs.Lists.{Each, KLeast}
 use Rattle.residual_keys.specs.declared.residual.Chosen.{Chosen}
 use Rattle.residual_keys.specs.Residuals.{State}
 use Rattle.residual_keys.proofs.LeastOne.{weaken}

@@ -1,5 +1,5 @@
 -- What is read from lists, and what holds of the first and the last of some flights.
-use Rattle.std.proofs.Common.{◌≡◌, ℕ, zero, suc, ◌<◌, ◌≤◌, ◌+◌, Bool, true, false, List, [], ◌∷◌, length, get_or, slice_get, MatchBool, Some, Result, Ok, Err, IfOk, OnOk, refl, sym, ap, subst, ◌∙◌, inl, inr, arith}
+use Rattle.std.proofs.Common.{◌≡◌, ℕ, zero, suc, ◌<◌, ◌≤◌, ◌+◌, Bool, true, false, List, [], ◌∷◌, length, get_or, slice_get, Some, Result, Ok, Err, IfOk, OnOk, refl, sym, ap, subst, ◌∙◌, inl, arith}
 use Rattle.fare_law.specs.declared.flights.Flight.{Flight}
 use Rattle.fare_law.specs.Lists.{IsIn, OnFirst, OnLast}
 use Rattle.residual_keys.specs.Steps.{MarketOver}

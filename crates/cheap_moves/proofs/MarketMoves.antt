@@ -1,16 +1,13 @@
 -- What the groups of a market give on a path are the moves there with the market's fares.
-use Rattle.std.proofs.Common.{◌≡◌, ◌⊎◌, ℕ, ◌+◌, ◌≤◌, ◌<◌, Bool, List, [], ◌∷◌, slice_get, MatchBool, Option, Some, IsBitSet, IfNone, refl, sym, ap, ap₂, subst, ◌∙◌, inl, inr, arith}
+use Rattle.std.proofs.Common.{◌≡◌, ℕ, ◌+◌, ◌<◌, Bool, List, [], slice_get, Option, Some, IsBitSet, IfNone, refl, sym, ap, ap₂, subst, ◌∙◌, arith}
 use Rattle.cheap_moves.specs.declared.component.Flown.{Flown}
-use Rattle.cheap_moves.specs.Making.{IsGroupMove, IsOver, IsPieceOver, IsWithinFiled, Of}
-use Rattle.cheap_moves.specs.Within.{CountsWithin}
+use Rattle.cheap_moves.specs.Making.{IsGroupMove, IsOver, IsWithinFiled, Of}
 use Rattle.cheap_moves.proofs.FareMoves.{row_at}
 use Rattle.component_table.specs.declared.markets.Market.{Market}
 use Rattle.fare_book.specs.Keeping.{NoFare}
-use Rattle.fare_groups.specs.declared.group.FareGroup.{FareGroup}
-use Rattle.fare_groups.specs.declared.group.GroupKey.{GroupKey}
 use Rattle.fare_groups.specs.declared.group.GroupedFare.{GroupedFare}
 use Rattle.fare_groups.specs.Grouping.{IsRowOf, StandsOnce, fare_at}
-use Rattle.fare_groups.specs.Groups.{HasClass, Permits, extra_of, group_of, share_of}
+use Rattle.fare_groups.specs.Groups.{HasClass, Permits, extra_of, group_of}
 use Rattle.fare_groups.proofs.ByGroup.{offered_by_group, priced_by_group}
 use Rattle.fare_groups.proofs.OneGroup.{each_stands_once}
 use Rattle.fare_law.specs.declared.flights.Flight.{Flight}
@@ -30,7 +27,7 @@ use Rattle.flight_paths.specs.Positions.{IsPath}
 use Rattle.outlines.proofs.Offering.{keyed, move_with}
 use Rattle.residual_keys.specs.declared.residual.Chosen.{Chosen}
 use Rattle.residual_keys.specs.Gathered.{Adds, FiledOver, IsChosenFiled, IsPathOf}
-use Rattle.residual_keys.specs.Residuals.{State, begins, closes, part_with, PartAllows, UnitStep}
+use Rattle.residual_keys.specs.Residuals.{State, begins, closes, part_with}
 use Rattle.residual_keys.specs.Steps.{IsChosen, IsLiveOn, KeyOn, Leaves, MarketOver, left_at}
 use Rattle.residual_keys.proofs.Adding.{adds_like, adds_none}
 use Rattle.residual_keys.proofs.Markets.{no_moves}

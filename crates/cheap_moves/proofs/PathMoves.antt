@@ -1,15 +1,13 @@
 -- The moves of a residual, path by path.
-use Rattle.std.proofs.Common.{◌≡◌, ◌≢◌, ◌⊎◌, ◌↔◌, All, IsBitSet, ℕ, suc, ◌+◌, ◌≤◌, ◌<◌, Bool, true, false, List, [], ◌∷◌, ◌++◌, length, map, take, get_or, slice_get, MatchBool, Option, Some, None, refl, sym, ap, subst, ◌∙◌, inl, inr, arith}
+use Rattle.std.proofs.Common.{◌≡◌, ◌⊎◌, ℕ, ◌+◌, ◌≤◌, ◌<◌, Bool, true, false, List, [], ◌∷◌, length, map, take, get_or, slice_get, MatchBool, Option, Some, None, refl, sym, ap, subst, ◌∙◌, inl, inr, arith}
 use Rattle.cheap_moves.specs.declared.component.Flown.{Flown}
 use Rattle.cheap_moves.specs.Making.{IsFlown, IsOver, IsWithinFiled, IsWithinOn, Of}
-use Rattle.cheap_moves.specs.Tails.{AreFareTails}
 use Rattle.cheap_moves.specs.Within.{IsMoveWithin}
 use Rattle.cheap_moves.proofs.Joining.{differs_before, of_more}
 use Rattle.component_table.specs.declared.markets.Market.{Market}
 use Rattle.component_table.specs.declared.markets.MarketKey.{MarketKey}
 use Rattle.component_table.specs.Markets.{AreMarkets, IsMarket, StandsAt}
 use Rattle.fare_book.specs.Keeping.{Limited, NoFare}
-use Rattle.fare_groups.specs.Groups.{HasClass}
 use Rattle.fare_groups.proofs.Grouped.{each_in}
 use Rattle.fare_law.specs.declared.fares.FareKey.{FareKey}
 use Rattle.fare_law.specs.declared.flights.Flight.{Flight}
@@ -19,16 +17,14 @@ use Rattle.fare_law.specs.declared.moves.Role.TheVariants.{Alone, Opens, GoesOn,
 use Rattle.fare_law.specs.declared.names.Place.{Place}
 use Rattle.fare_law.specs.declared.requests.Request.{Request}
 use Rattle.fare_law.specs.Book.{Book, live_fare}
-use Rattle.fare_law.specs.Lists.{AllDifferent, Each, IsIn, OnFirst, OnLast}
-use Rattle.fare_law.specs.Limits.{IsFlight}
+use Rattle.fare_law.specs.Lists.{AllDifferent, IsIn, OnFirst, OnLast}
 use Rattle.flight_paths.specs.declared.positions.Path.{Path}
 use Rattle.flight_paths.specs.Heads.{AreReached, EndWanted}
-use Rattle.flight_paths.specs.Positions.{Flies, IsPath}
+use Rattle.flight_paths.specs.Positions.{Flies}
 use Rattle.open_unit.specs.declared.units.OpenUnit.{OpenUnit}
 use Rattle.outlines.proofs.ByOutline.{path_begins}
 use Rattle.residual_keys.specs.declared.residual.Chosen.{Chosen}
-use Rattle.residual_keys.specs.declared.way.Way.{Way}
-use Rattle.residual_keys.specs.Gathered.{Adds, AreLegs, IsPathOf}
+use Rattle.residual_keys.specs.Gathered.{Adds, IsPathOf}
 use Rattle.residual_keys.specs.Residuals.{State, UnitStep, closes}
 use Rattle.residual_keys.specs.Steps.{IsChosen, MarketOver}
 use Rattle.residual_keys.proofs.Adding.{adds_like, adds_none, adds_then}

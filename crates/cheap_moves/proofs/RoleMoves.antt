@@ -3,7 +3,7 @@ use Rattle.std.proofs.Common.{◌≡◌, ◌≢◌, ◌⊎◌, ℕ, zero, suc, �
 use Rattle.cheap_moves.specs.declared.component.Component.{Component}
 use Rattle.cheap_moves.specs.declared.component.Onward.{Onward}
 use Rattle.cheap_moves.specs.Making.{IsComponentMove, IsFareMove, IsRoleMove, Of}
-use Rattle.cheap_moves.specs.Within.{CountsWithin, IsWithin, rest_of}
+use Rattle.cheap_moves.specs.Within.{IsWithin, rest_of}
 use Rattle.fare_law.specs.declared.moves.Move.{Move}
 use Rattle.fare_law.specs.declared.moves.Role.{Role}
 use Rattle.fare_law.specs.declared.moves.Role.TheVariants.{Alone, Opens, GoesOn, Closes}

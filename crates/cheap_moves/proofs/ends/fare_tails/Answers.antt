@@ -1,4 +1,4 @@
-use Rattle.std.proofs.Common.{◌≡◌, ◌+◌, true, unwrap_or, refl, sym, subst, ◌∙◌}
+use Rattle.std.proofs.Common.{◌+◌, true, unwrap_or, ◌∙◌}
 use Rattle.cheap_moves.proofs.EndsKnown.{no_fares_at, unwrapped}
 use Rattle.cheap_moves.proofs.Looking.{if_ok}
 use Rattle.fare_law.specs.contracts.names.PlacePartialEq.TheImpl as place

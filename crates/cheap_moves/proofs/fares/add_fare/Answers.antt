@@ -1,4 +1,4 @@
-use Rattle.std.proofs.Common.{◌≡◌, ◌<◌, ◌+◌, ℕ, IsBitSet, length, slice_get, Some, sym, ap, ap₂, subst, ◌∙◌}
+use Rattle.std.proofs.Common.{◌≡◌, ◌<◌, ◌+◌, ℕ, length, slice_get, Some, sym, ap, ap₂, subst, ◌∙◌}
 use Rattle.cheap_moves.specs.Within.{IsWithin}
 use Rattle.cheap_moves.proofs.FareMoves.{class_low, fare_made, place_low, row_at, share_low}
 use Rattle.cheap_moves.proofs.Looking.{got_same, on_ok}

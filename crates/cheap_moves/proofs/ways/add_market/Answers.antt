@@ -1,4 +1,4 @@
-use Rattle.std.proofs.Common.{◌+◌, ◌<◌, length, take, get_or, sym, ap, subst, ◌∙◌}
+use Rattle.std.proofs.Common.{subst, ◌∙◌}
 use Rattle.std.proofs.lemmas.List.{take_all}
 use Rattle.cheap_moves.specs.Making.{IsGroupMove, Of}
 use Rattle.cheap_moves.proofs.GroupMoves.{groups_next}
