@@ -1,0 +1,212 @@
+-- The moves on a path with the fares of a group.
+use Rattle.std.proofs.Common.{◌≡◌, ◌⊎◌, ℕ, ℤ, ◌+◌, ◌≤◌, ◌<◌, Bool, List, length, take, get_or, slice_get, Option, Some, None, IsBitSet, Result, OnOk, refl, sym, ap, subst, ◌∙◌, arith}
+use Rattle.cheap_moves.specs.declared.component.Component.{Component}
+use Rattle.cheap_moves.specs.declared.component.Flown.{Flown}
+use Rattle.cheap_moves.specs.Making.{HasRows, IsComponent, IsComponentMove, IsGroupMove, IsOver, IsPieceOver, IsRowIn, Of}
+use Rattle.cheap_moves.specs.Within.{IsWithin}
+use Rattle.cheap_moves.proofs.FareMoves.{one_place, row_at}
+use Rattle.cheap_moves.proofs.Joining.{differs_before, of_more, taken_in}
+use Rattle.cheap_moves.proofs.Looking.{on_ok}
+use Rattle.component_table.specs.declared.markets.Market.{Market}
+use Rattle.fare_groups.specs.declared.group.FareGroup.{FareGroup}
+use Rattle.fare_groups.specs.declared.group.GroupKey.{GroupKey}
+use Rattle.fare_groups.specs.declared.group.GroupedFare.{GroupedFare}
+use Rattle.fare_groups.specs.Grouping.{Cheapest, IsGroup}
+use Rattle.fare_groups.specs.Groups.{Permits, extra_of, group_of}
+use Rattle.fare_groups.proofs.ByGroup.{one_rule_all}
+use Rattle.fare_groups.proofs.Grouped.{each_in}
+use Rattle.fare_law.specs.declared.flights.Flight.{Flight}
+use Rattle.fare_law.specs.declared.moves.Move.{Move}
+use Rattle.fare_law.specs.declared.requests.Request.{Request}
+use Rattle.fare_law.specs.declared.sheets.SheetRow.{SheetRow}
+use Rattle.fare_law.specs.declared.tickets.Piece.{Piece}
+use Rattle.fare_law.specs.Book.{Book}
+use Rattle.fare_law.specs.Lists.{IsIn, Less, OnFirst, OnLast}
+use Rattle.fare_law.specs.RuleLimits.{IsRule}
+use Rattle.open_unit.specs.Ranges.{PieceInRanges}
+use Rattle.outlines.specs.Outlines.{Alike}
+use Rattle.outlines.proofs.ByOutline.{tells_all}
+use Rattle.residual_keys.specs.declared.residual.Chosen.{Chosen}
+use Rattle.residual_keys.specs.Gathered.{Adds}
+use Rattle.residual_keys.specs.Residuals.{State}
+use Rattle.residual_keys.proofs.Adding.{adds_like, adds_none}
+use Rattle.residual_keys.proofs.OneNext.{first_one, last_one, some_one}
+use Rattle.residual_keys.proofs.PathByPath.{read_in}
+use Rattle.residual_keys.proofs.Sheeted.{got_in}
+
+-- pieces over rows of one group and one rule are alike
+alike_over : (sale : ℤ) (fs : List Flight) (row other : SheetRow) (reverse : Bool) (p p' : Piece) → group_of row ≡ group_of other → row.rule ≡ other.rule → IsPieceOver sale fs row reverse p → IsPieceOver sale fs other reverse p' → Alike p p'
+alike_over sale fs row other reverse p p' same rule h k = record {
+  begin = first.0;
+  end = last.0;
+  carrier = ap (λ f. f.key.carrier) h.fare ∙ ap (λ (g : GroupKey). g.carrier) same ∙ sym (ap (λ f. f.key.carrier) k.fare);
+  number = ap (λ f. f.rule) h.fare ∙ ap (λ (g : GroupKey). g.number) same ∙ sym (ap (λ f. f.rule) k.fare);
+  kind = ap (λ f. f.kind) h.fare ∙ ap (λ (g : GroupKey). g.kind) same ∙ sym (ap (λ f. f.kind) k.fare);
+  rule = h.rule ∙ rule ∙ sym k.rule;
+  reverse = h.reverse_is ∙ sym k.reverse_is;
+  first_day = first.1;
+  last_day = last.1;
+  sale = h.sale_is ∙ sym k.sale_is;
+}
+  where
+    first : (p.begin ≡ p'.begin) × (p.first_day ≡ p'.first_day)
+    first = first_one (λ f. (p.begin ≡ f.from) × (p.first_day ≡ f.day)) (λ f. (p'.begin ≡ f.from) × (p'.first_day ≡ f.day)) ((p.begin ≡ p'.begin) × (p.first_day ≡ p'.first_day)) (λ f x y. (x.0 ∙ sym y.0, x.1 ∙ sym y.1)) fs h.begins k.begins
+
+    last : (p.end ≡ p'.end) × (p.last_day ≡ p'.last_day)
+    last = last_one (λ f. (p.end ≡ f.to) × (p.last_day ≡ f.day)) (λ f. (p'.end ≡ f.to) × (p'.last_day ≡ f.day)) ((p.end ≡ p'.end) × (p.last_day ≡ p'.last_day)) (λ f x y. (x.0 ∙ sym y.0, x.1 ∙ sym y.1)) fs h.ends k.ends
+
+-- a piece with the fare and the rule of another row
+abbrev dressed : Piece → SheetRow → Piece
+dressed p row = record {
+  begin = p.begin;
+  end = p.end;
+  fare = row.fare;
+  rule = row.rule;
+  reverse = p.reverse;
+  first_day = p.first_day;
+  last_day = p.last_day;
+  sale = p.sale;
+}
+
+-- a component's moves are its group's
+module _ (b : Book) (q : Request) (r : State) (bound : State → Option ℕ) (limit : Option ℕ) (k : Component) (is : IsComponent b q r k) where
+  abbrev rows : List SheetRow
+  rows = k.market.now.sheet.value.rows
+
+  abbrev fs : List Flight
+  fs = k.flown.now.way.flights
+
+  row_in : (f : GroupedFare) → IsIn f k.group.now.fares → (row : SheetRow) → slice_get rows f.place ≡ Some row → group_of row ≡ k.group.now.key
+  row_in f j row stands =
+      let x = row_at b q r.at k.flown.now.way.path fs k.flown.now.way.legs k.flown.now.classes k.piece.reverse k.market.now.sheet.value k.market.now.groups is.over.over k.group.now is.within f j in
+      ap group_of (some_one (slice_get rows f.place) row x.row stands x.stands) ∙ x.key_is
+
+  rule_in : (f : GroupedFare) (place : ℕ) (row : SheetRow) → slice_get rows place ≡ Some row → group_of row ≡ k.group.now.key → row.rule ≡ is.row.rule
+  rule_in f place row stands key = one_rule_all b k.market.now.sheet.value.from k.market.now.sheet.value.to k.market.now.sheet.value is.over.over.sheet_is row is.row (got_in rows place row stands) is.row_of.within (key ∙ sym is.row_of.key)
+
+  forth : (c : Chosen) → IsComponentMove r bound limit k c → IsGroupMove q r bound limit k.flown.now k.piece.reverse k.market.now k.group.now c
+  forth c (role, slot, h) =
+      let key = row_in h.fare h.of h.row h.stands in
+      let rule = rule_in h.fare h.fare.place h.row h.stands key in
+      let piece = dressed k.piece h.row in
+      let over : IsPieceOver q.sale fs h.row k.piece.reverse piece = record { begins = is.piece.begins; ends = is.piece.ends; fare = refl; rule = refl; reverse_is = refl; sale_is = is.piece.sale_is } in
+      record {
+        fare = h.fare;
+        of = h.of;
+        row = h.row;
+        stands = h.stands;
+        open_class = h.open_class;
+        permits = subst (λ x. Permits x k.group.now.key.carrier fs) (sym rule) is.permits;
+        piece = piece;
+        piece_is = over;
+        role = role;
+        slot = slot;
+        move = h.move;
+        price = h.price ∙ ap (λ n. h.fare.share + n) (is.charges ∙ ap (λ x. extra_of x fs) (sym rule));
+        leaves = (tells_all r k.flown.now.way.path.after k.piece piece (alike_over q.sale fs is.row h.row k.piece.reverse k.piece piece (is.row_of.key ∙ sym key) (sym rule) is.piece over) role slot c.next).0 h.leaves;
+        counts = h.counts;
+      }
+
+  back : (c : Chosen) → IsGroupMove q r bound limit k.flown.now k.piece.reverse k.market.now k.group.now c → IsComponentMove r bound limit k c
+  back c h =
+      let key = row_in h.fare h.of h.row h.stands in
+      let rule = rule_in h.fare h.fare.place h.row h.stands key in (
+        h.role,
+        h.slot,
+        record {
+          fare = h.fare;
+          of = h.of;
+          row = h.row;
+          stands = h.stands;
+          open_class = h.open_class;
+          move = h.move;
+          price = h.price ∙ ap (λ n. h.fare.share + n) (ap (λ x. extra_of x fs) rule ∙ sym is.charges);
+          leaves = (tells_all r k.flown.now.way.path.after h.piece k.piece (alike_over q.sale fs h.row is.row k.piece.reverse h.piece k.piece (key ∙ sym is.row_of.key) rule h.piece_is is.piece) h.role h.slot c.next).0 h.leaves;
+          counts = h.counts;
+        },
+      )
+
+  pub group_had : (old new : List Chosen) → Adds (IsComponentMove r bound limit k) old new → Adds (IsGroupMove q r bound limit k.flown.now k.piece.reverse k.market.now k.group.now) old new
+  group_had old new h = adds_like (IsComponentMove r bound limit k) (IsGroupMove q r bound limit k.flown.now k.piece.reverse k.market.now k.group.now) old new h (λ c. (forth c, back c))
+
+module _ (b : Book) (q : Request) (r : State) (bound : State → Option ℕ) (limit : Option ℕ) (flown : Flown) (reverse : Bool) (m : Market) (is : IsOver b q r flown reverse m) where
+  module _ (g : FareGroup) (i : IsIn g m.groups) where
+    pub none_open : (old : List Chosen) → Cheapest flown.classes g.fares None → Adds (IsGroupMove q r bound limit flown reverse m g) old old
+    none_open old none = adds_none (IsGroupMove q r bound limit flown reverse m g) old (λ c h. each_in (λ (f : GroupedFare). IsBitSet flown.classes f.class → ⊥) g.fares h.fare none h.of h.open_class)
+
+    -- each move costs at least the least share
+    pub none_cheap : (old : List Chosen) (least : ℕ) → Cheapest flown.classes g.fares (Some least) → (IsWithin limit least → ⊥) → Adds (IsGroupMove q r bound limit flown reverse m g) old old
+    none_cheap old least cheap beyond = adds_none (IsGroupMove q r bound limit flown reverse m g) old (λ c h.
+        beyond (less limit least (c.price + h.counts.rest) (sums h.fare.share (extra_of h.row.rule flown.way.flights) h.counts.rest c.price (each_in (λ (f : GroupedFare). IsBitSet flown.classes f.class → least ≤ f.share) g.fares h.fare cheap.below h.of h.open_class) h.price) h.counts.within))
+      where
+        less : (o : Option ℕ) (n t : ℕ) → n ≤ t → IsWithin o t → IsWithin o n
+        less None n t le w = tt
+        less (Some l) n t le w = omega (arith, le, w)
+
+        sums : (share extra rest price : ℕ) → least ≤ share → price ≡ share + extra → least ≤ price + rest
+        sums share extra rest price le e = omega (arith, le, e)
+
+    pub has_row : HasRows m.sheet.value.rows g
+    has_row = record {
+      some = (each_in (IsGroup m.sheet.value.rows) m.groups g is.over.groups_are.each i).some;
+      are = λ f j. let x = row_at b q r.at flown.way.path flown.way.flights flown.way.legs flown.classes reverse m.sheet.value m.groups is.over g i f j in (x.row, x.stands, x.key_is);
+    }
+
+    pub rule_within : (row : SheetRow) → IsRowIn m.sheet.value.rows g row → IsRule row.rule
+    rule_within row x = is.over.limited.rules row.fare.key.carrier row.fare.rule row.rule ((is.over.sheet_is.live row).0 x.within).rule
+
+    pub none_permitted : (old : List Chosen) (row : SheetRow) → IsRowIn m.sheet.value.rows g row → (Permits row.rule g.key.carrier flown.way.flights → ⊥) → Adds (IsGroupMove q r bound limit flown reverse m g) old old
+    none_permitted old row of none = adds_none (IsGroupMove q r bound limit flown reverse m g) old (λ c h.
+        let x = row_at b q r.at flown.way.path flown.way.flights flown.way.legs flown.classes reverse m.sheet.value m.groups is.over g i h.fare h.of in
+        let key : group_of h.row ≡ g.key = ap group_of (some_one (slice_get m.sheet.value.rows h.fare.place) h.row x.row h.stands x.stands) ∙ x.key_is in
+        let rule = one_rule_all b m.sheet.value.from m.sheet.value.to m.sheet.value is.over.sheet_is h.row row (got_in m.sheet.value.rows h.fare.place h.row h.stands) of.within (key ∙ sym of.key) in
+        none (subst (λ z. Permits z g.key.carrier flown.way.flights) rule h.permits))
+
+  -- group by group
+  pub groups_more : (never : (w : List ℕ) → Less w w → ⊥) (trans : (u v w : List ℕ) → Less u v → Less v w → Less u w) (total : (v w : List ℕ) → Less v w ⊎ ((v ≡ w) ⊎ Less w v))
+      → (i : ℕ) (d g : FareGroup) (a n c : List Chosen) → i < length m.groups → g ≡ get_or m.groups i d → IsIn g m.groups → ((h : FareGroup) → IsIn h (take i m.groups) → IsIn h m.groups)
+      → Adds (Of (IsGroupMove q r bound limit flown reverse m) (take i m.groups)) a n → Adds (IsGroupMove q r bound limit flown reverse m g) n c → Adds (Of (IsGroupMove q r bound limit flown reverse m) (take (i + 1) m.groups)) a c
+  groups_more never trans total i d g a n c lt e in_g in_h h one = of_more (IsGroupMove q r bound limit flown reverse m) m.groups i d g a n c lt e apart h one
+    where
+      key_of : (x : FareGroup) → IsIn x m.groups → (f : GroupedFare) → IsIn f x.fares → (row : SheetRow) → slice_get m.sheet.value.rows f.place ≡ Some row → group_of row ≡ x.key
+      key_of x j f l row stands =
+          let y = row_at b q r.at flown.way.path flown.way.flights flown.way.legs flown.classes reverse m.sheet.value m.groups is.over x j f l in
+          ap group_of (some_one (slice_get m.sheet.value.rows f.place) row y.row stands y.stands) ∙ y.key_is
+
+      apart : (x : FareGroup) → IsIn x (take i m.groups) → (u v : Chosen) → IsGroupMove q r bound limit flown reverse m x u → IsGroupMove q r bound limit flown reverse m g v → u.mv ≡ v.mv → ⊥
+      apart x j u v y z s =
+          let same = sym y.move ∙ s ∙ z.move in
+          let place = one_place never trans total m.sheet.value.rows y.fare.place z.fare.place y.row z.row is.over.sheet_is.ascending y.stands z.stands (ap (λ (w : Move). w.carrier) same) (ap (λ (w : Move). w.basis) same) in
+          let row : y.row ≡ z.row = some_one (slice_get m.sheet.value.rows z.fare.place) y.row z.row (subst (λ p. slice_get m.sheet.value.rows p ≡ Some y.row) place y.stands) z.stands in
+          differs_before (λ (w : FareGroup). w.key) m.groups i d g x is.over.groups_are.apart lt e j
+          (sym (key_of x (in_h x j) y.fare y.of y.row y.stands) ∙ ap group_of row ∙ key_of g in_g z.fare z.of z.row z.stands)
+
+  -- the same with the list that a loop goes over
+  pub groups_next : (never : (w : List ℕ) → Less w w → ⊥) (trans : (u v w : List ℕ) → Less u v → Less v w → Less u w) (total : (v w : List ℕ) → Less v w ⊎ ((v ≡ w) ⊎ Less w v))
+      → (items : List FareGroup) (i : ℕ) (d g : FareGroup) (a n c : List Chosen) → items ≡ m.groups → i < length items → g ≡ get_or items i d
+      → Adds (Of (IsGroupMove q r bound limit flown reverse m) (take i items)) a n → Adds (IsGroupMove q r bound limit flown reverse m g) n c → Adds (Of (IsGroupMove q r bound limit flown reverse m) (take (i + 1) items)) a c
+  groups_next never trans total items i d g a n c same lt e h one =
+      subst (λ xs. Adds (Of (IsGroupMove q r bound limit flown reverse m) (take (i + 1) xs)) a c) (sym same)
+      (groups_more never trans total i d g a n c (subst (λ xs. i < length xs) same lt) (e ∙ ap (λ xs. get_or xs i d) same) (subst (IsIn g) same (read_in items i d g lt e)) (λ x j. taken_in x i m.groups j)
+      (subst (λ xs. Adds (Of (IsGroupMove q r bound limit flown reverse m) (take i xs)) a n) same h) one)
+
+-- what the calls know of a component
+pub component_is : (b : Book) (q : Request) (r : State) (k : Component) (reverse : Bool) (row : SheetRow) → k.piece.reverse ≡ reverse → IsOver b q r k.flown.now reverse k.market.now → IsIn k.group.now k.market.now.groups → IsRowIn k.market.now.sheet.value.rows k.group.now row
+    → OnFirst (λ f. (k.piece.begin ≡ f.from) × (k.piece.first_day ≡ f.day)) k.flown.now.way.flights → OnLast (λ f. (k.piece.end ≡ f.to) × (k.piece.last_day ≡ f.day)) k.flown.now.way.flights → k.piece.fare ≡ row.fare → k.piece.rule ≡ row.rule → k.piece.sale ≡ q.sale
+    → Permits row.rule k.group.now.key.carrier k.flown.now.way.flights → k.charges ≡ extra_of row.rule k.flown.now.way.flights → k.charges ≤ 35000000 → PieceInRanges k.piece → IsComponent b q r k
+component_is b q r k reverse row same over i of begins ends fare rule sale permits charges low ranges = record {
+  over = subst (λ t. IsOver b q r k.flown.now t k.market.now) (sym same) over;
+  within = i;
+  row = row;
+  row_of = of;
+  piece = record { begins = begins; ends = ends; fare = fare; rule = rule; reverse_is = refl; sale_is = sale };
+  permits = permits;
+  charges = charges;
+  low = low;
+  ranges = ranges;
+}
+
+pub group_done : (b : Book) (q : Request) (r : State) (bound : State → Option ℕ) (limit : Option ℕ) (k : Component) (reverse : Bool) {A E : Type 0} (result : Result A E) (old new : List Chosen) → k.piece.reverse ≡ reverse → OnOk result (Adds (IsComponentMove r bound limit k) old new) → IsComponent b q r k
+    → OnOk result (Adds (IsGroupMove q r bound limit k.flown.now reverse k.market.now k.group.now) old new)
+group_done b q r bound limit k reverse result old new same h is = on_ok result (Adds (IsComponentMove r bound limit k) old new) (Adds (IsGroupMove q r bound limit k.flown.now reverse k.market.now k.group.now) old new)
+    (λ a. subst (λ t. Adds (IsGroupMove q r bound limit k.flown.now t k.market.now k.group.now) old new) same (group_had b q r bound limit k is old new a)) h

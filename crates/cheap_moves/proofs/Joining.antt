@@ -1,0 +1,59 @@
+-- The moves of some things, one thing after another.
+use Rattle.std.proofs.Common.{◌≡◌, ◌≢◌, ◌⊎◌, ℕ, zero, suc, ◌+◌, ◌<◌, List, [], ◌∷◌, ◌++◌, length, map, take, get_or, refl, sym, ap, subst, ◌∙◌, inl, inr, arith}
+use Rattle.std.proofs.Math.Seq.{take-suc}
+use Rattle.cheap_moves.specs.Making.{Of}
+use Rattle.fare_law.specs.Lists.{AllDifferent, Each, IsIn}
+use Rattle.residual_keys.specs.declared.residual.Chosen.{Chosen}
+use Rattle.residual_keys.specs.Gathered.{Adds}
+use Rattle.residual_keys.proofs.Adding.{adds_like, adds_none, adds_then, in_either, in_left, in_right}
+use Rattle.residual_keys.proofs.PathByPath.{read_in}
+
+in_one : {X : Type 0} (x y : X) → IsIn x (y ∷ []) → x ≡ y
+in_one x y (inl e) = e
+in_one x y (inr n) = absurd n
+
+one_more : {X : Type 0} (xs : List X) (i : ℕ) (d x : X) → i < length xs → x ≡ get_or xs i d → take (i + 1) xs ≡ take i xs ++ x ∷ []
+one_more xs i d x lt e = let one : i + 1 ≡ suc i = omega arith in ap (λ n. take n xs) one ∙ take-suc xs i d lt ∙ ap (λ z. take i xs ++ z ∷ []) (sym e)
+
+apart_in : {X Y : Type 0} (key : X → Y) (k : Y) (xs : List X) (x : X) → Each (λ l. k ≢ l) (map key xs) → IsIn x xs → k ≢ key x
+apart_in key k [] x h i = absurd i
+apart_in key k (y ∷ xs) x h (inl e) = λ s. h.0 (s ∙ ap key e)
+apart_in key k (y ∷ xs) x h (inr i) = apart_in key k xs x h.1 i
+
+-- where all have different keys, those before one have other keys
+pub differs_before : {X Y : Type 0} (key : X → Y) (xs : List X) (i : ℕ) (d x y : X) → AllDifferent (map key xs) → i < length xs → x ≡ get_or xs i d → IsIn y (take i xs) → key y ≡ key x → ⊥
+differs_before key [] i d x y h lt e j s = absurd (omega arith)
+differs_before key (z ∷ xs) zero d x y h lt e j s = absurd j
+differs_before key (z ∷ xs) (suc i) d x y h lt e (inl a) s = apart_in key (key z) xs x h.0 (read_in xs i d x (omega arith) e) (ap key (sym a) ∙ s)
+differs_before key (z ∷ xs) (suc i) d x y h lt e (inr j) s = differs_before key xs i d x y h.1 (omega arith) e j s
+
+-- one of the first is one
+pub taken_in : {X : Type 0} (x : X) (i : ℕ) (xs : List X) → IsIn x (take i xs) → IsIn x xs
+taken_in x zero xs j = absurd j
+taken_in x (suc i) [] j = absurd j
+taken_in x (suc i) (y ∷ xs) (inl e) = inl e
+taken_in x (suc i) (y ∷ xs) (inr j) = inr (taken_in x i xs j)
+
+module _ {X : Type 0} (P : X → Chosen → Type 0) where
+  pub of_none : (old : List Chosen) → Adds (Of P []) old old
+  of_none old = adds_none (Of P []) old (λ c h. h.1)
+
+  -- one thing more, whose moves are none of those before
+  pub of_more : (xs : List X) (i : ℕ) (d x : X) (a m c : List Chosen) → i < length xs → x ≡ get_or xs i d
+      → ((y : X) → IsIn y (take i xs) → (u v : Chosen) → P y u → P x v → u.mv ≡ v.mv → ⊥) → Adds (Of P (take i xs)) a m → Adds (P x) m c → Adds (Of P (take (i + 1) xs)) a c
+  of_more xs i d x a m c lt e apart h k =
+      adds_like (λ z. Of P (take i xs) z ⊎ P x z) (Of P (take (i + 1) xs)) a c
+      (adds_then (Of P (take i xs)) (P x) a m c h k (λ u v s t f. apart s.0 s.1 u v s.2 t f)) (λ z. (forth z, back z))
+    where
+      front : take (i + 1) xs ≡ take i xs ++ x ∷ []
+      front = one_more xs i d x lt e
+
+      forth : (z : Chosen) → Of P (take i xs) z ⊎ P x z → Of P (take (i + 1) xs) z
+      forth z (inl s) = (s.0, subst (IsIn s.0) (sym front) (in_left s.0 (take i xs) (x ∷ []) s.1), s.2)
+      forth z (inr p) = (x, subst (IsIn x) (sym front) (in_right x (take i xs) (x ∷ []) (inl refl)), p)
+
+      back : (z : Chosen) → Of P (take (i + 1) xs) z → Of P (take i xs) z ⊎ P x z
+      back z s = elim (in_either s.0 (take i xs) (x ∷ []) (subst (IsIn s.0) front s.1)) [
+        | inl l ↦ inl (s.0, l, s.2)
+        | inr l ↦ inr (subst (λ y. P y z) (in_one s.0 x l) s.2)
+      ]

@@ -1,0 +1,9 @@
+pub mod LeastWithin
+pub mod Looking
+pub mod Joining
+pub mod FareMoves
+pub mod RoleMoves
+pub mod GroupMoves
+pub mod MarketMoves
+pub mod PathMoves
+pub mod EndsKnown

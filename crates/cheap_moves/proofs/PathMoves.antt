@@ -1,0 +1,163 @@
+-- The moves of a residual, path by path.
+use Rattle.std.proofs.Common.{◌≡◌, ◌⊎◌, ℕ, ◌+◌, ◌≤◌, ◌<◌, Bool, true, false, List, [], ◌∷◌, length, map, take, get_or, slice_get, MatchBool, Option, Some, None, refl, sym, ap, subst, ◌∙◌, inl, inr, arith}
+use Rattle.cheap_moves.specs.declared.component.Flown.{Flown}
+use Rattle.cheap_moves.specs.Making.{IsFlown, IsOver, IsWithinFiled, IsWithinOn, Of}
+use Rattle.cheap_moves.specs.Within.{IsMoveWithin}
+use Rattle.cheap_moves.proofs.Joining.{differs_before, of_more}
+use Rattle.component_table.specs.declared.markets.Market.{Market}
+use Rattle.component_table.specs.declared.markets.MarketKey.{MarketKey}
+use Rattle.component_table.specs.Markets.{AreMarkets, IsMarket, StandsAt}
+use Rattle.fare_book.specs.Keeping.{Limited, NoFare}
+use Rattle.fare_groups.proofs.Grouped.{each_in}
+use Rattle.fare_law.specs.declared.fares.FareKey.{FareKey}
+use Rattle.fare_law.specs.declared.flights.Flight.{Flight}
+use Rattle.fare_law.specs.declared.moves.Move.{Move}
+use Rattle.fare_law.specs.declared.moves.Role.{Role}
+use Rattle.fare_law.specs.declared.moves.Role.TheVariants.{Alone, Opens, GoesOn, Closes}
+use Rattle.fare_law.specs.declared.names.Place.{Place}
+use Rattle.fare_law.specs.declared.requests.Request.{Request}
+use Rattle.fare_law.specs.Book.{Book, live_fare}
+use Rattle.fare_law.specs.Lists.{AllDifferent, IsIn, OnFirst, OnLast}
+use Rattle.flight_paths.specs.declared.positions.Path.{Path}
+use Rattle.flight_paths.specs.Heads.{AreReached, EndWanted}
+use Rattle.flight_paths.specs.Positions.{Flies}
+use Rattle.open_unit.specs.declared.units.OpenUnit.{OpenUnit}
+use Rattle.outlines.proofs.ByOutline.{path_begins}
+use Rattle.residual_keys.specs.declared.residual.Chosen.{Chosen}
+use Rattle.residual_keys.specs.Gathered.{Adds, IsPathOf}
+use Rattle.residual_keys.specs.Residuals.{State, UnitStep, closes}
+use Rattle.residual_keys.specs.Steps.{IsChosen, MarketOver}
+use Rattle.residual_keys.proofs.Adding.{adds_like, adds_none, adds_then}
+use Rattle.residual_keys.proofs.OneNext.{flies_one, numbers_one}
+use Rattle.residual_keys.proofs.PathByPath.{read_in}
+use Rattle.residual_keys.proofs.Runs.{flies_numbers}
+use Rattle.residual_keys.proofs.Sheeted.{got_in}
+use Rattle.residual_keys.proofs.StepFacts.{moves_key}
+use Rattle.residual_keys.proofs.StepTaken.{slice_known, whole}
+
+clash : {b : Bool} → b ≡ true → b ≡ false → ⊥
+clash p q = cc
+
+module _ (b : Book) (q : Request) (r : State) (bound : State → Option ℕ) (limit : Option ℕ) (path : Path) where
+  -- where no unit is open, none is closed
+  none_closes : r.units ≡ [] → (c : Chosen) → IsWithinOn b q r bound limit path c → closes c.mv.role ≡ false
+  none_closes e c h = go c.mv.role c.mv.slot r.units e h.0.0.units h.0.0.moves.units
+    where
+      go : (role : Role) (slot : ℕ) (us : List OpenUnit) → us ≡ [] → (us' : List OpenUnit) → UnitStep role slot us h.0.0.piece us' → closes role ≡ false
+      go Alone slot us e us' k = refl
+      go Opens slot us e us' k = refl
+      go GoesOn slot us e us' k = refl
+      go Closes slot us e us' k = absurd (nothing slot k.0 (subst (λ x. slice_get x slot ≡ Some k.0) e k.1))
+        where
+          nothing : (s : ℕ) (u : OpenUnit) → ◌≡◌ {A = Option OpenUnit} (slice_get [] s) (Some u) → ⊥
+          nothing s u x = cc
+
+  pub forward_alone : r.units ≡ [] → (old new : List Chosen) → Adds (IsWithinFiled b q r bound limit path.flights false) old new → Adds (IsWithinOn b q r bound limit path) old new
+  forward_alone e old new h = adds_like (IsWithinFiled b q r bound limit path.flights false) (IsWithinOn b q r bound limit path) old new h (λ c. (λ k. (k.0.0, k.1), λ k. ((k.0, none_closes e c k), k.1)))
+
+  pub both_ways : (a m c : List Chosen) → Adds (IsWithinFiled b q r bound limit path.flights false) a m → Adds (IsWithinFiled b q r bound limit path.flights true) m c → Adds (IsWithinOn b q r bound limit path) a c
+  both_ways a m c h k = adds_like (λ x. IsWithinFiled b q r bound limit path.flights false x ⊎ IsWithinFiled b q r bound limit path.flights true x) (IsWithinOn b q r bound limit path) a c
+      (adds_then (IsWithinFiled b q r bound limit path.flights false) (IsWithinFiled b q r bound limit path.flights true) a m c h k (λ x y i j e. clash (ap (λ (z : Move). closes z.role) e ∙ j.0.1) i.0.1)) (λ x. (forth x, back x))
+    where
+      forth : (x : Chosen) → IsWithinFiled b q r bound limit path.flights false x ⊎ IsWithinFiled b q r bound limit path.flights true x → IsWithinOn b q r bound limit path x
+      forth x (inl i) = (i.0.0, i.1)
+      forth x (inr i) = (i.0.0, i.1)
+
+      back : (x : Chosen) → IsWithinOn b q r bound limit path x → IsWithinFiled b q r bound limit path.flights false x ⊎ IsWithinFiled b q r bound limit path.flights true x
+      back x i = of (closes x.mv.role) refl
+        where
+          of : (t : Bool) → closes x.mv.role ≡ t → IsWithinFiled b q r bound limit path.flights false x ⊎ IsWithinFiled b q r bound limit path.flights true x
+          of true e = inr ((i.0, e), i.1)
+          of false e = inl ((i.0, e), i.1)
+
+same_map : {X : Type 0} (xs : List X) → xs ≡ map (λ x. x) xs
+same_map [] = refl
+same_map (x ∷ xs) = ap (λ ys. x ∷ ys) (same_map xs)
+
+-- a path with its numbers is one
+path_one : (b : Book) (q : Request) (r : State) (p p' : Path) (fs gs : List Flight) → IsPathOf b q r p fs → IsPathOf b q r p' gs → p.flights ≡ p'.flights → p ≡ p'
+path_one b q r p p' fs gs h k e =
+    let flies = subst (λ ns. Flies b q.slices (Some r.at) ns fs p.after) e h.flies in
+    let same = numbers_one b p'.flights fs gs (flies_numbers b q.slices (Some r.at) p.after p'.flights fs flies) (flies_numbers b q.slices (Some r.at) p'.after p'.flights gs k.flies) in
+    let after = flies_one b q.slices (Some r.at) p'.flights gs p.after p'.after (subst (λ xs. Flies b q.slices (Some r.at) p'.flights xs p.after) same flies) k.flies in
+    λ i. record { flights = e i; after = after i }
+
+module _ (b : Book) (q : Request) (r : State) (bound : State → Option ℕ) (limit : Option ℕ) (wanted : Place → Bool) (paths : List Path) (are : AreReached b q.slices r.at wanted paths) where
+  pub paths_more : (i : ℕ) (d p : Path) (a m c : List Chosen) → i < length paths → p ≡ get_or paths i d → ((y : Path) → IsIn y (take i paths) → IsIn y paths)
+      → Adds (Of (IsWithinOn b q r bound limit) (take i paths)) a m → Adds (IsWithinOn b q r bound limit p) m c → Adds (Of (IsWithinOn b q r bound limit) (take (i + 1) paths)) a c
+  paths_more i d p a m c lt e in_all h one = of_more (IsWithinOn b q r bound limit) paths i d p a m c lt e apart h one
+    where
+      apart : (y : Path) → IsIn y (take i paths) → (u v : Chosen) → IsWithinOn b q r bound limit y u → IsWithinOn b q r bound limit p v → u.mv ≡ v.mv → ⊥
+      apart y j u v x z s =
+          let k = are.each y (in_all y j) in
+          let l = are.each p (read_in paths i d p lt e) in
+          differs_before (λ (w : Path). w) paths i d p y (subst AllDifferent (same_map paths) are.once) lt e j
+          (path_one b q r y p k.0 l.0 k.1 l.1 (sym x.0.1 ∙ ap (λ (w : Move). w.flights) s ∙ z.0.1))
+
+  -- a move's flights end where a fare is filed
+  module _ (others : (place : Place) → wanted place ≡ false → NoFare b r.at.place place × NoFare b place r.at.place) where
+    end_wanted : (c : Chosen) (k : IsChosen b q r c) → EndWanted wanted k.flights
+    end_wanted c k = by k.flights (path_begins b q.slices r.at c.mv.flights k.flights k.after k.moves.path) (moves_key b q r c.mv k.flights k.piece k.after k.units k.moves).ends
+      where
+        key : FareKey
+        key = k.piece.fare.key
+
+        one : (z : Flight) (from : Place) → from ≡ r.at.place → MatchBool (closes c.mv.role) ((key.from ≡ z.to) × (key.to ≡ from)) ((key.from ≡ from) × (key.to ≡ z.to)) → wanted z.to ≡ true
+        one z from e h = of (wanted z.to) refl
+          where
+            of : (t : Bool) → wanted z.to ≡ t → wanted z.to ≡ true
+            of true w = w
+            of false w = absurd (filed (closes c.mv.role) h)
+              where
+                no_fare : live_fare b key ≡ None → ⊥
+                no_fare n = clash_some (sym k.moves.stands.fare ∙ n)
+                  where
+                    clash_some : Some k.piece.fare ≡ None → ⊥
+                    clash_some x = cc
+
+                filed : (t : Bool) → MatchBool t ((key.from ≡ z.to) × (key.to ≡ from)) ((key.from ≡ from) × (key.to ≡ z.to)) → ⊥
+                filed true x = no_fare ((others z.to w).1 key x.0 (x.1 ∙ e))
+                filed false x = no_fare ((others z.to w).0 key (x.0 ∙ e) x.1)
+
+        last : (gs : List Flight) (from : Place) → from ≡ r.at.place → OnLast (λ z. MatchBool (closes c.mv.role) ((key.from ≡ z.to) × (key.to ≡ from)) ((key.from ≡ from) × (key.to ≡ z.to))) gs → OnLast (λ z. wanted z.to ≡ true) gs
+        last [] from e h = absurd h
+        last (z ∷ []) from e h = one z from e h
+        last (y ∷ z ∷ gs) from e h = last (z ∷ gs) from e h
+
+        by : (gs : List Flight) → OnFirst (λ f. f.from ≡ r.at.place) gs → MarketOver (closes c.mv.role) gs key.from key.to → EndWanted wanted gs
+        by [] h e = absurd h
+        by (f ∷ gs) h e = last (f ∷ gs) f.from h e
+
+    -- all paths that were seen have all moves
+    pub all_paths : (old new : List Chosen) → Adds (Of (IsWithinOn b q r bound limit) paths) old new → Adds (IsMoveWithin b q r bound limit) old new
+    all_paths old new h = adds_like (Of (IsWithinOn b q r bound limit) paths) (IsMoveWithin b q r bound limit) old new h (λ c. (λ u. (u.2.0.0, u.2.1), λ k. back c k))
+      where
+        back : (c : Chosen) → IsMoveWithin b q r bound limit c → Of (IsWithinOn b q r bound limit) paths c
+        back c k =
+            let p : Path = record { flights = c.mv.flights; after = k.0.after } in
+            (p, are.all p k.0.flights k.0.moves.path (end_wanted c k.0), ((k.0, refl), k.1))
+
+-- a residual past the last slice has no move
+pub no_slice : (b : Book) (q : Request) (r : State) (bound : State → Option ℕ) (limit : Option ℕ) (old : List Chosen) → length q.slices ≤ r.at.slice → Adds (IsMoveWithin b q r bound limit) old old
+no_slice b q r bound limit old le = adds_none (IsMoveWithin b q r bound limit) old (λ c h. absurd (let lt = slice_known b q r c.mv c.next (c.price, (whole b q r c).0 h.0) in omega (arith, lt, le)))
+
+-- the market that was found
+pub market_over : (b : Book) (q : Request) (r : State) (flown : Flown) (reverse : Bool) (key : MarketKey) (ms : List Market) (n : ℕ) (m : Market) → IsFlown b q r flown → MarketOver reverse flown.way.flights key.from key.to → Limited b → AreMarkets b ms → StandsAt ms key n → slice_get ms n ≡ Some m → IsOver b q r flown reverse m
+market_over b q r flown reverse key ms n m f over limited are s stands =
+    let same : s.market ≡ m = some_is s.market m (sym s.stands ∙ stands) in
+    let is = each_in (IsMarket b) ms m are (got_in ms n m stands) in
+    record {
+      over = record {
+        path_is = f.path;
+        legs_are = f.legs;
+        classes_are = f.classes;
+        market = subst (λ (x : Market). MarketOver reverse flown.way.flights x.sheet.value.from x.sheet.value.to) same (subst (λ p. MarketOver reverse flown.way.flights s.market.sheet.value.from p) (sym s.to) (subst (λ p. MarketOver reverse flown.way.flights p key.to) (sym s.from) over));
+        sheet_is = is.sheet;
+        groups_are = is.groups;
+        limited = limited;
+      };
+      limits = f.limits;
+    }
+  where
+    some_is : {X : Type 0} (x y : X) → Some x ≡ Some y → x ≡ y
+    some_is x y e = cc

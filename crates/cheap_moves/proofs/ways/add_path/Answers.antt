@@ -1,0 +1,29 @@
+use Rattle.std.proofs.Common.{false, true, sym, subst, ◌∙◌}
+use Rattle.cheap_moves.specs.Making.{IsWithinFiled}
+use Rattle.cheap_moves.proofs.Looking.{on_ok}
+use Rattle.cheap_moves.proofs.PathMoves.{both_ways, forward_alone}
+use Rattle.flight_paths.specs.declared.positions.Path.{Path}
+use Rattle.residual_keys.specs.Gathered.{Adds}
+use Rattle.cheap_moves.proofs.ways.add_path.Goals as goal
+
+pub returns-then-is_empty-clause-moves : goal.returns-then-is_empty-clause-moves
+returns-then-is_empty-clause-moves g c =
+    let b = c.args.search.now.book.now in
+    let q = c.args.search.now.request.now in
+    let r = c.args.search.now.residual.now in
+    let bound = g.B.ResidualBounds.bound c.args.search.now.bounds.now in
+    let limit = c.args.search.now.limit in
+    let there = subst (λ (p : Path). Adds (IsWithinFiled b q r bound limit p.flights false) c.args.found.now c.add_way.new.found) c.of-way.ensures.path c.in_ok-add_way.ensures.moves in
+    forward_alone b q r bound limit c.args.path.now (sym c.of.ensures ∙ c.is_empty.ensures.0 c.if-is_empty.true) c.args.found.now c.add_way.new.found there
+
+pub returns-clause-moves : goal.returns-clause-moves
+returns-clause-moves g c =
+    let b = c.args.search.now.book.now in
+    let q = c.args.search.now.request.now in
+    let r = c.args.search.now.residual.now in
+    let bound = g.B.ResidualBounds.bound c.args.search.now.bounds.now in
+    let limit = c.args.search.now.limit in
+    let there = subst (λ (p : Path). Adds (IsWithinFiled b q r bound limit p.flights false) c.args.found.now c.add_way.new.found) c.of-way.ensures.path c.in_ok-add_way.ensures.moves in
+    on_ok c.add_way-2.result _ _
+    (λ back. both_ways b q r bound limit c.args.path.now c.args.found.now c.add_way.new.found c.add_way-2.new.found there (subst (λ (p : Path). Adds (IsWithinFiled b q r bound limit p.flights true) c.add_way.new.found c.add_way-2.new.found) c.of-way.ensures.path back))
+    c.add_way-2.ensures.moves

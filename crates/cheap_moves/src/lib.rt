@@ -1,0 +1,22 @@
+//! The moves of a residual that count under bounds and whose totals are within a limit: a move's price and the bound
+//! of what it leaves. The others aren't made. The layer above may guess any limit: where enough moves are within it,
+//! the first of them are the first of all, and else it asks again without one.
+#![tactic(auto)]
+
+mod bounds;
+mod component;
+mod ends;
+mod fares;
+mod groups;
+mod laws;
+mod listing;
+mod paths;
+mod roles;
+mod search;
+mod ways;
+
+pub use bounds::ResidualBounds;
+pub use ends::fare_tails;
+pub use laws::first_within_are_first;
+pub use listing::moves_within;
+pub use search::MoveSearch;

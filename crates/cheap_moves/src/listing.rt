@@ -1,0 +1,82 @@
+//! The moves of a residual within a limit, in the order of their codes.
+ghost use Rattle.std.specs.Prelude.{[], map, IfOk};
+ghost use Rattle.std.specs.List.Sorted.{IsPermutation};
+ghost use Rattle.cheap_moves.specs.Tails.{AreFareTails};
+ghost use Rattle.cheap_moves.specs.Within.{AreMovesWithin, IsMoveWithin};
+ghost use Rattle.component_table.specs.Markets.{AreMarkets};
+ghost use Rattle.fare_law.specs.Limits.{IsRequest};
+ghost use Rattle.fare_law.specs.Lists.{AllDifferent, Each, EachPair, Less};
+ghost use Rattle.fare_law.specs.Codes.{move_code};
+ghost use Rattle.residual_keys.specs.Gathered.{Adds};
+ghost use Rattle.ticket_order.specs.Coding.{Coded};
+
+use crate::MoveSearch;
+use crate::bounds::ResidualBounds;
+use crate::paths::fare_paths;
+use crate::ways::add_path;
+use component_table::Markets;
+use fare_law::{List, Mem};
+use flight_paths::Path;
+use residual_keys::{Chosen, book_limits};
+use std::alloc::Global;
+use ticket_order::{codes_tell, move_code, order_laws};
+
+/// The moves of a residual that count under bounds, whose price and the bound of what they leave are within
+/// the limit: each once, ascending by code. The markets that it needs are found once for a search.
+pub fn moves_within<B: ResidualBounds>(
+    alloc: Global,
+    search: &MoveSearch<'_, B>,
+    tails: &[Path],
+    markets: &mut Markets,
+) -> Result<List<Chosen>, Mem>
+    requires request { IsRequest search.now.request.now }
+    requires tails { AreFareTails search.now.book.now search.now.request.now search.now.residual.now.at tails.now }
+    requires markets { AreMarkets search.now.book.now markets.old.kept.items }
+    ensures markets { AreMarkets search.now.book.now markets.new.kept.items }
+    ensures moves { IfOk result (AreMovesWithin search.now.book.now search.now.request.now search.now.residual.now (B.bound search.now.bounds.now) search.now.limit) }
+{
+    let found = gathered(alloc, search, tails, markets)?;
+    book_limits(search.book);
+    let mut found = found.into_vec();
+    put_in_order(found.as_mut_slice());
+    Ok(List::from_vec(found))
+}
+
+/// The moves within the limit, path by path.
+fn gathered<B: ResidualBounds>(
+    alloc: Global,
+    search: &MoveSearch<'_, B>,
+    tails: &[Path],
+    markets: &mut Markets,
+) -> Result<List<Chosen>, Mem>
+    requires request { IsRequest search.now.request.now }
+    requires tails { AreFareTails search.now.book.now search.now.request.now search.now.residual.now.at tails.now }
+    requires markets { AreMarkets search.now.book.now markets.old.kept.items }
+    ensures markets { AreMarkets search.now.book.now markets.new.kept.items }
+    ensures moves { IfOk result (Adds (IsMoveWithin search.now.book.now search.now.request.now search.now.residual.now (B.bound search.now.bounds.now) search.now.limit) []) }
+{
+    order_laws();
+    let mut found = List::new(alloc);
+    let residual = search.residual;
+    let at = &residual.at;
+    if usize::from(at.slice) >= search.request.slices.len() {
+        return Ok(found);
+    }
+    let paths = fare_paths(alloc, search.book, search.request, at, tails)?;
+    for path in paths.as_slice() {
+        add_path(alloc, &mut found, search, markets, path)?;
+    }
+    Ok(found)
+}
+
+/// Puts moves that differ into the order of their codes.
+fn put_in_order(found: &mut [Chosen])
+    requires once { AllDifferent (map (λ c. c.mv) found.old) }
+    requires coded { Each (λ c. Coded c.mv) found.old }
+    ensures order { EachPair (λ c d. Less (move_code c.mv) (move_code d.mv)) found.new }
+    ensures same { IsPermutation found.old found.new }
+{
+    codes_tell();
+    order_laws();
+    found.sort_unstable_by_key(|chosen| move_code(&chosen.mv));
+}

@@ -1,0 +1,108 @@
+//! The moves of a path: with the fares that are filed from its beginning to its end, and those in reverse.
+ghost use Rattle.std.specs.Prelude.{◌≢◌, [], OnOk};
+ghost use Rattle.cheap_moves.specs.Making.{IsFlown, IsOver, IsWithinFiled, IsWithinOn};
+ghost use Rattle.component_table.specs.Markets.{AreMarkets};
+ghost use Rattle.fare_law.specs.declared.flights.Flight.{Flight as DatedFlight};
+ghost use Rattle.std.specs.Prelude.{List as Items};
+ghost use Rattle.fare_law.specs.Limits.{IsRequest};
+ghost use Rattle.residual_keys.specs.Gathered.{Adds, IsPathOf};
+ghost use Rattle.residual_keys.specs.Steps.{MarketOver};
+
+use crate::MoveSearch;
+use crate::bounds::ResidualBounds;
+use crate::component::Flown;
+use crate::groups::add_group;
+use component_table::{Market, MarketKey, Markets};
+use fare_groups::classes_of_all;
+use fare_law::{Flight, List, Mem};
+use flight_paths::Path;
+use residual_keys::{Chosen, OpenUnits, Way, first_of, last_of};
+use std::alloc::Global;
+use ticket_order::order_laws;
+
+/// Adds the moves on a path that are within the limit.
+pub fn add_path<B: ResidualBounds>(
+    alloc: Global,
+    found: &mut List<Chosen>,
+    search: &MoveSearch<'_, B>,
+    markets: &mut Markets,
+    path: &Path,
+) -> Result<(), Mem>
+    requires request { IsRequest search.now.request.now }
+    requires markets { AreMarkets search.now.book.now markets.old.kept.items }
+    requires path { (fs : Items DatedFlight) × IsPathOf search.now.book.now search.now.request.now search.now.residual.now path.now fs }
+    ensures markets { AreMarkets search.now.book.now markets.new.kept.items }
+    ensures moves { OnOk result (Adds (IsWithinOn search.now.book.now search.now.request.now search.now.residual.now (B.bound search.now.bounds.now) search.now.limit path.now) found.old found.new) }
+{
+    let way = Way::of(search.book, search.request, path);
+    let classes = classes_of_all(way.legs.as_slice());
+    let flown = Flown { way, classes };
+    add_way(alloc, found, search, markets, &flown, false)?;
+    if OpenUnits::of(search.residual).is_empty() {
+        return Ok(());
+    }
+    add_way(alloc, found, search, markets, &flown, true)
+}
+
+/// Adds the moves on a path that are within the limit, with the fares that are filed from its beginning
+/// to its end, or in reverse.
+fn add_way<B: ResidualBounds>(
+    alloc: Global,
+    found: &mut List<Chosen>,
+    search: &MoveSearch<'_, B>,
+    markets: &mut Markets,
+    flown: &Flown,
+    reverse: bool,
+) -> Result<(), Mem>
+    requires request { IsRequest search.now.request.now }
+    requires markets { AreMarkets search.now.book.now markets.old.kept.items }
+    requires flown { IsFlown search.now.book.now search.now.request.now search.now.residual.now flown.now }
+    ensures markets { AreMarkets search.now.book.now markets.new.kept.items }
+    ensures moves { OnOk result (Adds (IsWithinFiled search.now.book.now search.now.request.now search.now.residual.now (B.bound search.now.bounds.now) search.now.limit flown.now.way.path.flights reverse) found.old found.new) }
+{
+    search.book.limits();
+    let key = key_over(flown.way.flights.as_slice(), reverse);
+    match markets.find(alloc, search.book, key)? {
+        Some(at) => add_market(found, search, flown, reverse, &markets.kept[at]),
+        None => Ok(()),
+    }
+}
+
+/// The market in which fares over these flights are filed: from their beginning to their end, or in reverse.
+fn key_over(flights: &[Flight], reverse: bool) -> MarketKey
+    requires { flights.now ≢ [] }
+    ensures { MarketOver reverse flights.now result.from result.to }
+{
+    let begin = first_of(flights).from;
+    let end = last_of(flights).to;
+    if reverse {
+        MarketKey {
+            from: end,
+            to: begin,
+        }
+    } else {
+        MarketKey {
+            from: begin,
+            to: end,
+        }
+    }
+}
+
+/// Adds the moves on a path that are within the limit, with the fares of a market.
+fn add_market<B: ResidualBounds>(
+    found: &mut List<Chosen>,
+    search: &MoveSearch<'_, B>,
+    flown: &Flown,
+    reverse: bool,
+    market: &Market,
+) -> Result<(), Mem>
+    requires request { IsRequest search.now.request.now }
+    requires over { IsOver search.now.book.now search.now.request.now search.now.residual.now flown.now reverse market.now }
+    ensures { OnOk result (Adds (IsWithinFiled search.now.book.now search.now.request.now search.now.residual.now (B.bound search.now.bounds.now) search.now.limit flown.now.way.path.flights reverse) found.old found.new) }
+{
+    order_laws();
+    for group in market.groups.as_slice() {
+        add_group(found, search, flown, reverse, market, group)?;
+    }
+    Ok(())
+}
