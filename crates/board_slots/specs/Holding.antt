@@ -1,0 +1,19 @@
+-- What a board and a pass are to a contract.
+use Rattle.std.specs.Prelude.{◌≡◌, ℕ, List, [], ◌∷◌, Option, Some, None}
+use Rattle.atomic_table.specs.Seated.{TableId}
+
+-- which board it is, and its number
+pub record BoardView : Type 0 where
+  pub board : TableId
+  pub number : ℕ
+
+-- the board that it is a pass of, and the slot that it holds
+pub record PassView : Type 0 where
+  pub of : BoardView
+  pub held : Option ℕ
+
+module _ {S : Type 0} where
+  -- the seat holds this slot and no other
+  abbrev pub Holds : Option ℕ → List (ℕ × S) → Type 0
+  Holds None taken = taken ≡ []
+  Holds (Some slot) taken = (value : S) × (taken ≡ (slot, value) ∷ [])
