@@ -1,1 +1,3 @@
 pub mod PageSteps
+pub mod Lengths
+pub mod ShortCase
