@@ -77,7 +77,8 @@ def rule(draw, carriers, places):
         "cat12": lambda: surcharges(draw, carriers),
         "cat14": lambda: travel(draw),
     }
-    chosen = [name for name in members if draw.random() < draw.choice([0.03, 0.1, 0.3])]
+    share = draw.choice([3, 10, 30]) / 100
+    chosen = [name for name in members if draw.random() < share]
     return {name: members[name]() for name in chosen}
 
 
