@@ -4,7 +4,7 @@ use Rattle.std.proofs.lemmas.Int.{ints}
 use Rattle.std.proofs.lemmas.List.Elements.{All-head, All-tail}
 use Rattle.component_table.specs.declared.markets.Market.{Market}
 use Rattle.component_table.specs.declared.ways.Flown.{Flown}
-use Rattle.component_table.specs.Tables.{GroupDone, HasRow, IsEntry, IsOver, IsRowOf, Lowered}
+use Rattle.component_table.specs.Tables.{GroupDone, HasRow, IsEntry, IsOver, IsPathOver, IsRowOf, Lowered}
 use Rattle.component_table.proofs.Lower.{goes_lowered, goes_self}
 use Rattle.fare_groups.specs.declared.group.FareGroup.{FareGroup}
 use Rattle.fare_groups.specs.declared.group.GroupKey.{GroupKey}
@@ -69,34 +69,42 @@ low_share O n h = h
 low_share R n h = omega (arith, h)
 low_share S n h = h
 
-module _ (b : Book) (q : Request) (at : Position) (flown : Flown) (reverse : Bool) (m : Market) (g : FareGroup) (is : IsOver b q at flown reverse m) (i : IsIn g m.groups) where
-  over : OverMarket b q at flown.way.path flown.way.flights flown.way.legs flown.classes reverse m.sheet.value m.groups
-  over = is.over
+module _ (b : Book) (q : Request) (at : Position) (flown : Flown) (reverse : Bool) (m : Market) (g : FareGroup) (is : IsOver b q flown m) (i : IsIn g m.groups) where
+  over : IsPathOver b q at flown reverse m → OverMarket b q at flown.path.now flown.flights is.flown_is.legs.legs flown.classes reverse m.sheet.value m.groups
+  over p = record {
+    path_is = p.path;
+    legs_are = is.flown_is.legs.legs_are;
+    classes_are = is.flown_is.legs.classes_are;
+    market = p.market;
+    sheet_is = is.market_is.sheet;
+    groups_are = is.market_is.groups;
+    limited = is.limited;
+  }
 
   live_of : (row : SheetRow) → IsIn row m.sheet.value.rows → IsLiveRow b m.sheet.value.from m.sheet.value.to row
-  live_of row j = (over.sheet_is.live row).0 j
+  live_of row j = (is.market_is.sheet.live row).0 j
 
   pub low_classes : Each (λ (f : GroupedFare). f.class ≤ 25) g.fares
-  low_classes = each_in (λ (x : FareGroup). Each (λ (f : GroupedFare). f.class ≤ 25) x.fares) m.groups g (classes_are_low m.sheet.value.rows m.groups over.groups_are
-      (in_each (λ (row : SheetRow). row.fare.class ≤ 25) m.sheet.value.rows (λ row j. (over.limited.fares row.fare.key row.fare (live_of row j).fare).1.class))) i
+  low_classes = each_in (λ (x : FareGroup). Each (λ (f : GroupedFare). f.class ≤ 25) x.fares) m.groups g (classes_are_low m.sheet.value.rows m.groups is.market_is.groups
+      (in_each (λ (row : SheetRow). row.fare.class ≤ 25) m.sheet.value.rows (λ row j. (is.limited.fares row.fare.key row.fare (live_of row j).fare).1.class))) i
 
   pub has_row : HasRow m.sheet.value.rows g
   has_row = record {
-    some = (each_in (IsGroup m.sheet.value.rows) m.groups g over.groups_are.each i).some;
-    are = λ f j. let x = fares_are_rows m.sheet.value.rows m.groups over.groups_are g i f j in (x.row, x.stands, x.key_is);
+    some = (each_in (IsGroup m.sheet.value.rows) m.groups g is.market_is.groups.each i).some;
+    are = λ f j. let x = fares_are_rows m.sheet.value.rows m.groups is.market_is.groups g i f j in (x.row, x.stands, x.key_is);
   }
 
   pub rule_live : (row : SheetRow) → IsRowOf m.sheet.value.rows g row → live_rule b g.key.carrier g.key.number ≡ Some row.rule
   rule_live row r = subst (λ (k : GroupKey). live_rule b k.carrier k.number ≡ Some row.rule) r.key (live_of row r.within).rule
 
   pub rule_within : (row : SheetRow) → IsRowOf m.sheet.value.rows g row → IsRule row.rule
-  rule_within row r = over.limited.rules row.fare.key.carrier row.fare.rule row.rule (live_of row r.within).rule
+  rule_within row r = is.limited.rules row.fare.key.carrier row.fare.rule row.rule (live_of row r.within).rule
 
   -- a least share is low
   pub share_low : (least : ℕ) → Cheapest flown.classes g.fares (Some least) → least ≤ 1000000000
   share_low least c =
-      let x = fares_are_rows m.sheet.value.rows m.groups over.groups_are g i c.fare c.within in
-      let amount = (over.limited.fares x.row.fare.key x.row.fare (live_of x.row (got_in m.sheet.value.rows c.fare.place x.row x.stands)).fare).1.amount in
+      let x = fares_are_rows m.sheet.value.rows m.groups is.market_is.groups g i c.fare c.within in
+      let amount = (is.limited.fares x.row.fare.key x.row.fare (live_of x.row (got_in m.sheet.value.rows c.fare.place x.row x.stands)).fare).1.amount in
       subst (λ n. n ≤ 1000000000) (sym (sym c.costs ∙ ap (λ (f : GroupedFare). f.share) x.fare)) (low_share x.row.fare.kind x.row.fare.amount amount)
 
   pub none_cheap : (old : List Entry) → Cheapest flown.classes g.fares None → GroupDone b q at flown reverse g old old
@@ -105,19 +113,19 @@ module _ (b : Book) (q : Request) (at : Position) (flown : Flown) (reverse : Boo
     has = λ rule live permits least c. absurd (each_in (λ (f : GroupedFare). IsBitSet flown.classes f.class → ⊥) g.fares c.fare none c.within c.open_class);
   }
 
-  pub none_extra : (old : List Entry) (row : SheetRow) → IsRowOf m.sheet.value.rows g row → (Permits row.rule g.key.carrier flown.way.flights → ⊥) → GroupDone b q at flown reverse g old old
+  pub none_extra : (old : List Entry) (row : SheetRow) → IsRowOf m.sheet.value.rows g row → (Permits row.rule g.key.carrier flown.flights → ⊥) → GroupDone b q at flown reverse g old old
   none_extra old row r none = record {
     goes = goes_self b q at old;
-    has = λ rule live permits least c. absurd (none (subst (λ x. Permits x g.key.carrier flown.way.flights) (some_one (live_rule b g.key.carrier g.key.number) rule row.rule live (rule_live row r)) permits));
+    has = λ rule live permits least c. absurd (none (subst (λ x. Permits x g.key.carrier flown.flights) (some_one (live_rule b g.key.carrier g.key.number) rule row.rule live (rule_live row r)) permits));
   }
 
-  pub group_had : (old new : List Entry) (row : SheetRow) (least charges : ℕ) (o : Outline) → IsRowOf m.sheet.value.rows g row → Cheapest flown.classes g.fares (Some least) → Permits row.rule g.key.carrier flown.way.flights → charges ≡ extra_of row.rule flown.way.flights
-      → OutlineOver o flown.way.path.after flown.way.flights g.key reverse → Lowered (record { outline = o; rule = row.rule; price = least + charges }) old new → GroupDone b q at flown reverse g old new
-  group_had old new row mine charges o r cheap permits extra oo l = record {
+  pub group_had : IsPathOver b q at flown reverse m → (old new : List Entry) (row : SheetRow) (least charges : ℕ) (o : Outline) → IsRowOf m.sheet.value.rows g row → Cheapest flown.classes g.fares (Some least) → Permits row.rule g.key.carrier flown.flights → charges ≡ extra_of row.rule flown.flights
+      → OutlineOver o flown.path.now.after flown.flights g.key reverse → Lowered (record { outline = o; rule = row.rule; price = least + charges }) old new → GroupDone b q at flown reverse g old new
+  group_had p old new row mine charges o r cheap permits extra oo l = record {
     goes = goes_lowered b q at x old new entry l;
-    has = λ rule live p least c.
+    has = λ rule live permits_too least c.
         let same = some_one (live_rule b g.key.carrier g.key.number) row.rule rule (rule_live row r) live in
-        (l.has.entry, l.has.within, subst (λ (z : Outline). OutlineOver z flown.way.path.after flown.way.flights g.key reverse) (sym l.has.outline) oo, below rule same least c);
+        (l.has.entry, l.has.within, subst (λ (z : Outline). OutlineOver z flown.path.now.after flown.flights g.key reverse) (sym l.has.outline) oo, below rule same least c);
   }
     where
       x : Entry
@@ -125,9 +133,9 @@ module _ (b : Book) (q : Request) (at : Position) (flown : Flown) (reverse : Boo
 
       entry : IsEntry b q at x
       entry = record {
-        outlined = subst (λ n. Outlined b q at o (mine + n)) (sym extra) (groups_give b q at flown.way.path flown.way.flights flown.way.legs flown.classes reverse m.sheet.value m.groups over g i row.rule (rule_live row r) permits mine cheap o oo);
+        outlined = subst (λ n. Outlined b q at o (mine + n)) (sym extra) (groups_give b q at flown.path.now flown.flights is.flown_is.legs.legs flown.classes reverse m.sheet.value m.groups (over p) g i row.rule (rule_live row r) permits mine cheap o oo);
         rule = ap (λ c. live_rule b c o.number) oo.carrier ∙ ap (live_rule b g.key.carrier) oo.number ∙ rule_live row r;
-        within = record { first = first_day o.first flown.way.flights is.limits oo.first; last = last_day o flown.way.flights is.limits oo.ends; rule = rule_within row r };
+        within = record { first = first_day o.first flown.flights is.flown_is.limits oo.first; last = last_day o flown.flights is.flown_is.limits oo.ends; rule = rule_within row r };
       }
 
       cheap_le : (least : ℕ) → Cheapest flown.classes g.fares (Some least) → mine ≤ least
@@ -136,5 +144,5 @@ module _ (b : Book) (q : Request) (at : Position) (flown : Flown) (reverse : Boo
       sums : (p least y z : ℕ) → p ≤ mine + y → mine ≤ least → y ≡ z → p ≤ least + z
       sums p least y z h k e = omega (arith, h, k, e)
 
-      below : (rule : Rule) → row.rule ≡ rule → (least : ℕ) → Cheapest flown.classes g.fares (Some least) → l.has.entry.price ≤ least + extra_of rule flown.way.flights
-      below rule same least c = sums l.has.entry.price least charges (extra_of rule flown.way.flights) l.has.below (cheap_le least c) (extra ∙ ap (λ z. extra_of z flown.way.flights) same)
+      below : (rule : Rule) → row.rule ≡ rule → (least : ℕ) → Cheapest flown.classes g.fares (Some least) → l.has.entry.price ≤ least + extra_of rule flown.flights
+      below rule same least c = sums l.has.entry.price least charges (extra_of rule flown.flights) l.has.below (cheap_le least c) (extra ∙ ap (λ z. extra_of z flown.flights) same)

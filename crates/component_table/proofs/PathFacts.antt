@@ -1,42 +1,48 @@
 -- The paths of a position, put into its table one after another.
-use Rattle.std.proofs.Common.{◌≡◌, ◌↔◌, ℕ, zero, suc, ◌+◌, ◌<◌, Bool, true, false, List, [], ◌∷◌, ◌++◌, length, take, get_or, slice_get, All, Some, IsBitSet, Result, Ok, Err, OnOk, ◌≤◌, refl, sym, ap, subst, ◌∙◌, inl, inr, arith}
+use Rattle.std.proofs.Common.{◌≡◌, ℕ, zero, suc, ◌+◌, ◌<◌, ◌≤◌, Bool, true, false, List, [], ◌∷◌, ◌++◌, length, take, get_or, slice_get, Option, Some, Result, Ok, Err, OnOk, refl, sym, ap, subst, ◌∙◌, inl, inr, arith}
 use Rattle.std.proofs.Math.Seq.{take-suc}
 use Rattle.component_table.specs.declared.markets.Market.{Market}
 use Rattle.component_table.specs.declared.markets.MarketKey.{MarketKey}
 use Rattle.component_table.specs.declared.ways.Flown.{Flown}
-use Rattle.component_table.specs.Markets.{AreMarkets, IsMarket, StandsAt}
-use Rattle.component_table.specs.Tables.{GoesOn, GroupDone, HasGroup, IsDone, IsEntry, IsFlown, IsOver, IsTable, MarketDone, PathAdded, WayDone}
+use Rattle.component_table.specs.Markets.{StandsAt}
+use Rattle.component_table.specs.Tables.{EndsAt, GoesOn, GroupDone, HasGroup, HasPut, IsDone, IsEntry, IsOfPath, IsOver, IsPathFrom, IsPathOver, IsTable, MarketDone, PathAdded, PutsIn, WayDone}
+use Rattle.component_table.proofs.GroupFacts.{path_some}
 use Rattle.component_table.proofs.Lower.{goes_on, goes_self, has_group_on, path_done_on}
-use Rattle.fare_book.specs.Keeping.{Limited, NoFare}
+use Rattle.fare_book.specs.Keeping.{NoFare}
 use Rattle.fare_groups.specs.declared.group.FareGroup.{FareGroup}
-use Rattle.fare_groups.specs.Groups.{HasClass}
-use Rattle.fare_groups.proofs.Grouped.{each_in, in_each, in_either}
+use Rattle.fare_groups.proofs.Grouped.{each_in, in_each, in_either, in_left, in_right}
 use Rattle.fare_law.specs.declared.flights.Flight.{Flight}
 use Rattle.fare_law.specs.declared.requests.Request.{Request}
 use Rattle.fare_law.specs.declared.names.Place.{Place}
 use Rattle.fare_law.specs.Book.{Book}
-use Rattle.fare_law.specs.Limits.{IsFlight}
-use Rattle.fare_law.specs.Sheets.{Sheet, SheetOf}
 use Rattle.fare_law.specs.Lists.{Each, IsIn, OnFirst, OnLast}
+use Rattle.fare_law.specs.Parts.{Numbers}
+use Rattle.fare_law.specs.Sheets.{Sheet, SheetOf}
 use Rattle.flight_paths.specs.declared.positions.Path.{Path}
 use Rattle.flight_paths.specs.declared.positions.Position.{Position}
-use Rattle.flight_paths.specs.Paths.{ArePaths}
-use Rattle.flight_paths.specs.Positions.{IsPath}
+use Rattle.flight_paths.specs.Heads.{AreReached, EndWanted, Saw}
+use Rattle.flight_paths.specs.Positions.{Flies, IsPath}
 use Rattle.outlines.specs.declared.outline.Entry.{Entry}
 use Rattle.outlines.specs.ByGroups.{PathDone}
 use Rattle.outlines.specs.Outcomes.{EntryWithin, HasRule}
 use Rattle.outlines.specs.Outlines.{Outlined}
 use Rattle.outlines.proofs.Tabling.{paths_tabled}
-use Rattle.residual_keys.specs.declared.way.Way.{Way}
-use Rattle.residual_keys.specs.Gathered.{AreLegs}
 use Rattle.residual_keys.specs.Residuals.{no_part}
 use Rattle.residual_keys.specs.Steps.{MarketOver}
 use Rattle.residual_keys.proofs.OneNext.{numbers_one}
 use Rattle.residual_keys.proofs.Runs.{flies_numbers}
-use Rattle.residual_keys.proofs.Sheeted.{got_in}
 use Rattle.residual_keys.proofs.StepTaken.{path_known}
 
-one_more : {X : Type 0} (xs : List X) (i : ℕ) (d x : X) → i < length xs → x ≡ get_or xs i d → take (i + 1) xs ≡ take i xs ++ x ∷ []
+-- the ends of the market between two places, this way
+abbrev pub end_from : Bool → Place → Place → Place
+end_from true from to = to
+end_from false from to = from
+
+abbrev pub end_to : Bool → Place → Place → Place
+end_to true from to = from
+end_to false from to = to
+
+pub one_more : {X : Type 0} (xs : List X) (i : ℕ) (d x : X) → i < length xs → x ≡ get_or xs i d → take (i + 1) xs ≡ take i xs ++ x ∷ []
 one_more xs i d x lt e = let one : i + 1 ≡ suc i = omega arith in ap (λ n. take n xs) one ∙ take-suc xs i d lt ∙ ap (λ z. take i xs ++ z ∷ []) (sym e)
 
 in_one : {X : Type 0} (x y : X) → IsIn x (y ∷ []) → x ≡ y
@@ -46,76 +52,6 @@ in_one x y (inr n) = absurd n
 -- what holds of each that was seen, and of one more
 seen_more : {X : Type 0} (P : X → Type 0) (xs : List X) (i : ℕ) (d x : X) → i < length xs → x ≡ get_or xs i d → ((y : X) → IsIn y (take i xs) → P y) → P x → (y : X) → IsIn y (take (i + 1) xs) → P y
 seen_more P xs i d x lt e h p y j = elim (in_either y (take i xs) (x ∷ []) (subst (IsIn y) (one_more xs i d x lt e) j)) [ inl k ↦ h y k | inr k ↦ subst P (sym (in_one y x k)) p ]
-
-module _ (b : Book) (q : Request) (at : Position) (flown : Flown) (reverse : Bool) where
-  pub market_over : (key : MarketKey) (ms : List Market) (n : ℕ) (m : Market) → IsFlown b q at flown → MarketOver reverse flown.way.flights key.from key.to → Limited b → AreMarkets b ms → StandsAt ms key n → slice_get ms n ≡ Some m → IsOver b q at flown reverse m
-  market_over key ms n m f over limited are s stands =
-      let same : s.market ≡ m = some_is s.market m (sym s.stands ∙ stands) in
-      let is = each_in (IsMarket b) ms m are (got_in ms n m stands) in
-      record {
-        over = record {
-          path_is = f.path;
-          legs_are = f.legs;
-          classes_are = f.classes;
-          market = subst (λ (x : Market). MarketOver reverse flown.way.flights x.sheet.value.from x.sheet.value.to) same (subst (λ p. MarketOver reverse flown.way.flights s.market.sheet.value.from p) (sym s.to) (subst (λ p. MarketOver reverse flown.way.flights p key.to) (sym s.from) over));
-          sheet_is = is.sheet;
-          groups_are = is.groups;
-          limited = limited;
-        };
-        limits = f.limits;
-      }
-    where
-      some_is : {X : Type 0} (x y : X) → Some x ≡ Some y → x ≡ y
-      some_is x y e = cc
-
-  pub none_done : (key : MarketKey) (old : List Entry) → MarketOver reverse flown.way.flights key.from key.to → NoFare b key.from key.to → WayDone b q at flown.way.path flown.way.flights reverse old old
-  none_done key old over none = record { goes = goes_self b q at old; done = record { from = key.from; to = key.to; market = over; done = inl none } }
-
-  pub way_done : (m : Market) (old new : List Entry) → IsOver b q at flown reverse m → MarketDone b q at flown reverse m old new → WayDone b q at flown.way.path flown.way.flights reverse old new
-  way_done m old new is d = record {
-    goes = d.goes;
-    done = record { from = m.sheet.value.from; to = m.sheet.value.to; market = is.over.market; done = inr (flown.way.legs, flown.classes, m.sheet.value, m.groups, is.over, d.has) };
-  }
-
-  -- group by group
-  pub groups_none : (gs : List FareGroup) (old : List Entry) → GoesOn b q at old old × ((g : FareGroup) → IsIn g [] → HasGroup b flown.way.path flown.way.flights flown.classes reverse g old)
-  groups_none gs old = (goes_self b q at old, λ g i. absurd i)
-
-  pub groups_more : (gs : List FareGroup) (i : ℕ) (d g : FareGroup) (old mid new : List Entry) → i < length gs → g ≡ get_or gs i d → GoesOn b q at old mid → ((x : FareGroup) → IsIn x (take i gs) → HasGroup b flown.way.path flown.way.flights flown.classes reverse x mid) → GroupDone b q at flown reverse g mid new
-      → (x : FareGroup) → IsIn x (take (i + 1) gs) → HasGroup b flown.way.path flown.way.flights flown.classes reverse x new
-  groups_more gs i d g old mid new lt e goes has done = seen_more (λ x. HasGroup b flown.way.path flown.way.flights flown.classes reverse x new) gs i d g lt e (λ x j. has_group_on b flown.way.path flown.way.flights flown.classes reverse x mid new done.goes.covers (has x j)) done.has
-
-module _ (b : Book) (q : Request) (at : Position) where
-  -- both ways
-  pub path_added : (path : Path) (flown : Flown) (old mid new : List Entry) → flown.way.path ≡ path → IsFlown b q at flown → WayDone b q at flown.way.path flown.way.flights false old mid → WayDone b q at flown.way.path flown.way.flights true mid new → PathAdded b q at path old new
-  path_added path flown old mid new same f there back = subst (λ p. PathAdded b q at p old new) same (record {
-    goes = goes_on b q at old mid new there.goes back.goes;
-    done = λ fs is reverse. subst (λ gs. PathDone b q at flown.way.path gs reverse new)
-        (numbers_one b flown.way.path.flights flown.way.flights fs (flies_numbers b q.slices (Some at) flown.way.path.after flown.way.path.flights flown.way.flights f.path.flies) (flies_numbers b q.slices (Some at) flown.way.path.after flown.way.path.flights fs is.flies))
-        (both reverse);
-  })
-    where
-      both : (reverse : Bool) → PathDone b q at flown.way.path flown.way.flights reverse new
-      both true = back.done
-      both false = path_done_on b q at flown.way.path flown.way.flights false mid new back.goes.covers there.done
-
-  pub paths_more : (paths : List Path) (i : ℕ) (d p : Path) (mid new : List Entry) → i < length paths → p ≡ get_or paths i d → ((x : Path) → IsIn x (take i paths) → IsDone b q at x mid) → PathAdded b q at p mid new → (x : Path) → IsIn x (take (i + 1) paths) → IsDone b q at x new
-  paths_more paths i d p mid new lt e has done = seen_more (λ x. IsDone b q at x new) paths i d p lt e (λ x j fs is reverse. path_done_on b q at x fs reverse mid new done.goes.covers (has x j fs is reverse)) done.done
-
-  pub table_is : (paths : List Path) (table : List Entry) → ArePaths b q.slices at paths → Each (IsEntry b q at) table → ((x : Path) → IsIn x paths → IsDone b q at x table) → IsTable b q at table
-  table_is paths table are right done = record {
-    tabled = paths_tabled b q at table (in_each (λ (e : Entry). Outlined b q at e.outline e.price) table (λ e i. (each_in (IsEntry b q at) table e right i).outlined)) (λ path fs is reverse. done path ((are.are path).1 (fs, is)) fs is reverse);
-    rules = in_each (HasRule b) table (λ e i. (each_in (IsEntry b q at) table e right i).rule);
-    within = in_each EntryWithin table (λ e i. (each_in (IsEntry b q at) table e right i).within);
-  }
-
-  -- a position behind the request's slices has no path
-  pub no_table : (length q.slices < suc at.slice) → IsTable b q at []
-  no_table past = record {
-    tabled = paths_tabled b q at [] tt (λ path fs is reverse. let lt = path_known b q (record { at = at; units = []; part = no_part }) path.flights fs path.after is in absurd (omega (arith, lt, past)));
-    rules = tt;
-    within = tt;
-  }
 
 -- what holds of the first and the last of some flights
 pub on_first_as : (P : Flight → Type 0) (fs : List Flight) (f : Flight) → OnFirst (λ x. f ≡ x) fs → P f → OnFirst P fs
@@ -127,11 +63,147 @@ on_last_as P [] f h p = absurd h
 on_last_as P (x ∷ []) f h p = subst P h p
 on_last_as P (x ∷ y ∷ fs) f h p = on_last_as P (y ∷ fs) f h p
 
-pub key_back : (r : Bool) (fs : List Flight) (f z : Flight) → r ≡ true → OnFirst (λ x. f ≡ x) fs → OnLast (λ x. z ≡ x) fs → MarketOver r fs z.to f.from
-key_back r fs f z e h k = subst (λ t. MarketOver t fs z.to f.from) (sym e) (on_first_as (λ x. OnLast (λ y. (z.to ≡ y.to) × (f.from ≡ x.from)) fs) fs f h (on_last_as (λ y. (z.to ≡ y.to) × (f.from ≡ f.from)) fs z k (refl, refl)))
+on_last_to : (P Q : Flight → Type 0) (fs : List Flight) → ((f : Flight) → P f → Q f) → OnLast P fs → OnLast Q fs
+on_last_to P Q [] to h = absurd h
+on_last_to P Q (f ∷ []) to h = to f h
+on_last_to P Q (f ∷ g ∷ fs) to h = on_last_to P Q (g ∷ fs) to h
 
-pub key_there : (r : Bool) (fs : List Flight) (f z : Flight) → r ≡ false → OnFirst (λ x. f ≡ x) fs → OnLast (λ x. z ≡ x) fs → MarketOver r fs f.from z.to
-key_there r fs f z e h k = subst (λ t. MarketOver t fs f.from z.to) (sym e) (on_first_as (λ x. OnLast (λ y. (f.from ≡ x.from) × (z.to ≡ y.to)) fs) fs f h (on_last_as (λ y. (f.from ≡ f.from) × (z.to ≡ y.to)) fs z k (refl, refl)))
+ends_somewhere : (fs : List Flight) → (fs ≡ [] → ⊥) → EndWanted (λ p. true) fs
+ends_somewhere [] some = absurd (some refl)
+ends_somewhere (f ∷ []) some = refl
+ends_somewhere (f ∷ g ∷ fs) some = ends_somewhere (g ∷ fs) (λ e. absurd (cc))
+
+-- the numbers and the flights of a path
+module _ (b : Book) (q : Request) (at : Position) (ns : List ℕ) (fs : List Flight) (next : Option Position) where
+  pub path_numbers : IsPath b q.slices at ns fs next → Numbers b ns fs
+  path_numbers is = flies_numbers b q.slices (Some at) next ns fs is.flies
+
+  pub path_flights : IsPath b q.slices at ns fs next → fs ≡ [] → ⊥
+  path_flights is e = path_some b q at ns fs next is e
+
+  -- a path begins at its position's place, and so fares are filed over it from there to its end, or in reverse
+  pub path_over : (place : Place) → IsPath b q.slices at ns fs next → OnLast (λ f. f.to ≡ place) fs → (reverse : Bool) → MarketOver reverse fs (end_from reverse at.place place) (end_to reverse at.place place)
+  path_over place is ends reverse = go ns fs is.flies ends is.some reverse
+    where
+      go : (ms : List ℕ) (gs : List Flight) → Flies b q.slices (Some at) ms gs next → OnLast (λ f. f.to ≡ place) gs → (ms ≡ [] → ⊥) → (r : Bool) → MarketOver r gs (end_from r at.place place) (end_to r at.place place)
+      go [] gs h e some r = absurd (some refl)
+      go (n ∷ ms) [] h e some r = absurd h
+      go (n ∷ ms) (f ∷ gs) h e some true = on_last_to (λ z. z.to ≡ place) (λ z. (place ≡ z.to) × (at.place ≡ f.from)) (f ∷ gs) (λ z k. (sym k, sym h.2.departs)) e
+      go (n ∷ ms) (f ∷ gs) h e some false = on_last_to (λ z. z.to ≡ place) (λ z. (at.place ≡ f.from) × (place ≡ z.to)) (f ∷ gs) (λ z k. (sym h.2.departs, sym k)) e
+
+module _ (b : Book) (q : Request) (at : Position) (flown : Flown) (reverse : Bool) where
+  pub none_done : (from to : Place) (old : List Entry) → MarketOver reverse flown.flights from to → NoFare b from to → WayDone b q at flown.path.now flown.flights reverse old old
+  none_done from to old over none = record { goes = goes_self b q at old; done = record { from = from; to = to; market = over; done = inl none } }
+
+  pub market_over : (key : MarketKey) (ms : List Market) (n : ℕ) (m : Market) → StandsAt ms key n → slice_get ms n ≡ Some m → MarketOver reverse flown.flights key.from key.to → MarketOver reverse flown.flights m.sheet.value.from m.sheet.value.to
+  market_over key ms n m s stands over =
+      let same : s.market ≡ m = some_is s.market m (sym s.stands ∙ stands) in
+      subst (λ (x : Market). MarketOver reverse flown.flights x.sheet.value.from x.sheet.value.to) same (subst (λ p. MarketOver reverse flown.flights s.market.sheet.value.from p) (sym s.to) (subst (λ p. MarketOver reverse flown.flights p key.to) (sym s.from) over))
+    where
+      some_is : {X : Type 0} (x y : X) → Some x ≡ Some y → x ≡ y
+      some_is x y e = cc
+
+  pub way_done : (m : Market) (old new : List Entry) (is : IsOver b q flown m) → IsPathOver b q at flown reverse m → MarketDone b q at flown reverse m old new → WayDone b q at flown.path.now flown.flights reverse old new
+  way_done m old new is p d = record {
+    goes = d.goes;
+    done = record {
+      from = m.sheet.value.from;
+      to = m.sheet.value.to;
+      market = p.market;
+      done = inr (
+        is.flown_is.legs.legs,
+        flown.classes,
+        m.sheet.value,
+        m.groups,
+        record {
+          path_is = p.path;
+          legs_are = is.flown_is.legs.legs_are;
+          classes_are = is.flown_is.legs.classes_are;
+          market = p.market;
+          sheet_is = is.market_is.sheet;
+          groups_are = is.market_is.groups;
+          limited = is.limited;
+        },
+        d.has,
+      );
+    };
+  }
+
+  -- group by group
+  pub groups_none : (gs : List FareGroup) (old : List Entry) → GoesOn b q at old old × ((g : FareGroup) → IsIn g [] → HasGroup b flown.path.now flown.flights flown.classes reverse g old)
+  groups_none gs old = (goes_self b q at old, λ g i. absurd i)
+
+  pub groups_more : (gs : List FareGroup) (i : ℕ) (d g : FareGroup) (old mid new : List Entry) → i < length gs → g ≡ get_or gs i d → GoesOn b q at old mid → ((x : FareGroup) → IsIn x (take i gs) → HasGroup b flown.path.now flown.flights flown.classes reverse x mid) → GroupDone b q at flown reverse g mid new
+      → (x : FareGroup) → IsIn x (take (i + 1) gs) → HasGroup b flown.path.now flown.flights flown.classes reverse x new
+  groups_more gs i d g old mid new lt e goes has done = seen_more (λ x. HasGroup b flown.path.now flown.flights flown.classes reverse x new) gs i d g lt e (λ x j. has_group_on b flown.path.now flown.flights flown.classes reverse x mid new done.goes.covers (has x j)) done.has
+
+module _ (b : Book) (q : Request) (at : Position) where
+  -- both ways
+  pub path_added : (flown : Flown) (old mid new : List Entry) → IsOfPath b q at flown → WayDone b q at flown.path.now flown.flights false old mid → WayDone b q at flown.path.now flown.flights true mid new → PathAdded b q at flown.path.now old new
+  path_added flown old mid new path there back = record {
+    goes = goes_on b q at old mid new there.goes back.goes;
+    done = λ fs is reverse. subst (λ gs. PathDone b q at flown.path.now gs reverse new) (numbers_one b flown.path.now.flights flown.flights fs (path_numbers b q at flown.path.now.flights flown.flights flown.path.now.after path) (path_numbers b q at flown.path.now.flights fs flown.path.now.after is)) (both reverse);
+  }
+    where
+      both : (reverse : Bool) → PathDone b q at flown.path.now flown.flights reverse new
+      both true = back.done
+      both false = path_done_on b q at flown.path.now flown.flights false mid new back.goes.covers there.done
+
+  -- a path to a place that no fare is filed to or from is done of itself
+  pub apart_added : (path : Path) (place : Place) (old : List Entry) → NoFare b at.place place → NoFare b place at.place → EndsAt b path.flights place → PathAdded b q at path old old
+  apart_added path place old there back ends = record { goes = goes_self b q at old; done = done }
+    where
+      done : IsDone b q at path old
+      done fs is true = record { from = place; to = at.place; market = path_over b q at path.flights fs path.after place is (ends fs (path_numbers b q at path.flights fs path.after is)) true; done = inl back }
+      done fs is false = record { from = at.place; to = place; market = path_over b q at path.flights fs path.after place is (ends fs (path_numbers b q at path.flights fs path.after is)) false; done = inl there }
+
+  -- a path of the position more
+  pub put_more : (path : Path) (before : List Path) (old new : List Entry) → (IsPathFrom b q at path → PathAdded b q at path old new) → PutsIn (record { book = b; request = q; at = at; entries = old }) before → PutsIn (record { book = b; request = q; at = at; entries = new }) (before ++ path ∷ [])
+  put_more path before old new added had all =
+      let h = had (λ x i. all x (in_left x before (path ∷ []) i)) in
+      let a = added (all path (in_right path before (path ∷ []) (inl refl))) in
+      record {
+        right = a.goes.right h.right;
+        done = λ x i. elim (in_either x before (path ∷ []) i) [
+          | inl j ↦ λ fs is reverse. path_done_on b q at x fs reverse old new a.goes.covers (h.done x j fs is reverse)
+          | inr j ↦ subst (λ y. IsDone b q at y new) (sym (in_one x path j)) a.done
+        ];
+      }
+
+  pub put_none : PutsIn (record { book = b; request = q; at = at; entries = [] }) []
+  put_none all = record { right = tt; done = λ x i. absurd i }
+
+  -- once all paths are put in, it is the position's table
+  pub table_put : (new : List Entry) (s : Saw (PutsIn (record { book = b; request = q; at = at; entries = [] })) (PutsIn (record { book = b; request = q; at = at; entries = new })) (AreReached b q.slices at (λ p. true))) → IsTable b q at new
+  table_put new s = record {
+    tabled = paths_tabled b q at new (in_each (λ (e : Entry). Outlined b q at e.outline e.price) new (λ e i. (each_in (IsEntry b q at) new e put.right i).outlined))
+        (λ path fs is reverse. put.done path (s.are.all path fs is (ends_somewhere fs (path_flights b q at path.flights fs path.after is))) fs is reverse);
+    rules = in_each (HasRule b) new (λ e i. (each_in (IsEntry b q at) new e put.right i).rule);
+    within = in_each EntryWithin new (λ e i. (each_in (IsEntry b q at) new e put.right i).within);
+  }
+    where
+      put : HasPut (record { book = b; request = q; at = at; entries = new }) s.seen
+      put = s.told [] put_none s.are.each
+
+  -- a position behind the request's slices has no path
+  pub no_table : (length q.slices < suc at.slice) → IsTable b q at []
+  no_table past = record {
+    tabled = paths_tabled b q at [] tt (λ path fs is reverse. let lt = path_known b q (record { at = at; units = []; part = no_part }) path.flights fs path.after is in absurd (omega (arith, lt, past)));
+    rules = tt;
+    within = tt;
+  }
+
+-- the same of a book, a request and a position that are these
+module _ (b : Book) (q : Request) (at : Position) (book : Book) (request : Request) (position : Position) (book_is : book ≡ b) (request_is : request ≡ q) (at_is : position ≡ at) where
+  pub added_for : (path : Path) (old new : List Entry) → (IsPathFrom book request position path → PathAdded book request position path old new) → IsPathFrom b q at path → PathAdded b q at path old new
+  added_for path old new h =
+      subst (λ x. IsPathFrom x q at path → PathAdded x q at path old new) book_is
+      (subst (λ x. IsPathFrom book x at path → PathAdded book x at path old new) request_is (subst (λ x. IsPathFrom book request x path → PathAdded book request x path old new) at_is h))
+
+  pub table_for : (new : List Entry) → Saw (PutsIn (record { book = b; request = q; at = at; entries = [] })) (PutsIn (record { book = b; request = q; at = at; entries = new })) (AreReached book request.slices position (λ p. true)) → IsTable book request position new
+  table_for new =
+      subst (λ x. Saw (PutsIn (record { book = b; request = q; at = at; entries = [] })) (PutsIn (record { book = b; request = q; at = at; entries = new })) (AreReached x request.slices position (λ p. true)) → IsTable x request position new) (sym book_is)
+      (subst (λ (y : Request). Saw (PutsIn (record { book = b; request = q; at = at; entries = [] })) (PutsIn (record { book = b; request = q; at = at; entries = new })) (AreReached b y.slices position (λ p. true)) → IsTable b y position new) (sym request_is) (subst (λ z. Saw (PutsIn (record { book = b; request = q; at = at; entries = [] })) (PutsIn (record { book = b; request = q; at = at; entries = new })) (AreReached b q.slices z (λ p. true)) → IsTable b q z new) (sym at_is) (table_put b q at new)))
 
 pub got_lt : {X : Type 0} (xs : List X) (n : ℕ) (x : X) → slice_get xs n ≡ Some x → n < length xs
 got_lt [] n x e = absurd (cc)
@@ -151,25 +223,13 @@ got_at (y ∷ xs) (suc n) d x lt e = got_at xs n d x (omega arith) e
 -- these groups of a market were put in
 pub record GroupsIn (b : Book) (q : Request) (at : Position) (flown : Flown) (reverse : Bool) (gs : List FareGroup) (old new : List Entry) : Type 0 where
   pub goes : GoesOn b q at old new
-  pub has : (g : FareGroup) → IsIn g gs → HasGroup b flown.way.path flown.way.flights flown.classes reverse g new
+  pub has : (g : FareGroup) → IsIn g gs → HasGroup b flown.path.now flown.flights flown.classes reverse g new
 
 pub groups_in_none : (b : Book) (q : Request) (at : Position) (flown : Flown) (reverse : Bool) (old : List Entry) → GroupsIn b q at flown reverse [] old old
 groups_in_none b q at flown reverse old = record { goes = goes_self b q at old; has = λ g i. absurd i }
 
 pub groups_in_more : (b : Book) (q : Request) (at : Position) (flown : Flown) (reverse : Bool) (gs : List FareGroup) (i : ℕ) (d g : FareGroup) (old mid new : List Entry) → i < length gs → g ≡ get_or gs i d → GroupsIn b q at flown reverse (take i gs) old mid → GroupDone b q at flown reverse g mid new → GroupsIn b q at flown reverse (take (i + 1) gs) old new
 groups_in_more b q at flown reverse gs i d g old mid new lt e h done = record { goes = goes_on b q at old mid new h.goes done.goes; has = groups_more b q at flown reverse gs i d g old mid new lt e h.goes h.has done }
-
--- these paths were put in
-pub record PathsIn (b : Book) (q : Request) (at : Position) (paths : List Path) (ms : List Market) (table : List Entry) : Type 0 where
-  pub markets : AreMarkets b ms
-  pub right : Each (IsEntry b q at) table
-  pub done : (x : Path) → IsIn x paths → IsDone b q at x table
-
-pub paths_in_none : (b : Book) (q : Request) (at : Position) (ms : List Market) → AreMarkets b ms → PathsIn b q at [] ms []
-paths_in_none b q at ms h = record { markets = h; right = tt; done = λ x i. absurd i }
-
-pub paths_in_more : (b : Book) (q : Request) (at : Position) (paths : List Path) (i : ℕ) (d p : Path) (ms ns : List Market) (mid new : List Entry) → i < length paths → p ≡ get_or paths i d → PathsIn b q at (take i paths) ms mid → AreMarkets b ns → PathAdded b q at p mid new → PathsIn b q at (take (i + 1) paths) ns new
-paths_in_more b q at paths i d p ms ns mid new lt e h are done = record { markets = are; right = done.goes.right h.right; done = paths_more b q at paths i d p mid new lt e h.done done }
 
 pub read_in : {X : Type 0} (xs : List X) (i : ℕ) (d x : X) → i < length xs → x ≡ get_or xs i d → IsIn x xs
 read_in [] i d x lt e = absurd (omega arith)
@@ -197,11 +257,3 @@ own_sheet b from to sheet h = subst (λ p. SheetOf b p sheet.to sheet) (sym h.fi
 pub low_sum : (a c charges : ℕ) → a ≤ 3000000 → c ≤ 32000000 → charges ≡ a + c → charges ≤ 35000000
 low_sum a c charges h k e = omega (arith, h, k, e)
 
-pub flown_is : (b : Book) (q : Request) (at : Position) (path : Path) (fs : List Flight) (way : Way) (classes : ℕ) → IsPath b q.slices at path.flights fs path.after → way.path ≡ path → way.flights ≡ fs → All IsFlight way.flights → AreLegs b q way.flights way.legs
-    → ((class : ℕ) → class < 32 → IsBitSet classes class ↔ HasClass class way.legs) → IsFlown b q at (record { way = way; classes = classes })
-flown_is b q at path fs way classes is p f limits legs open_classes = record {
-  path = subst (λ (x : Path). IsPath b q.slices at x.flights way.flights x.after) (sym p) (subst (λ gs. IsPath b q.slices at path.flights gs path.after) (sym f) is);
-  legs = legs;
-  classes = open_classes;
-  limits = limits;
-}

@@ -1,2 +1,4 @@
 pub mod Markets
+pub mod Reaches
+pub mod Networks
 pub mod Tables

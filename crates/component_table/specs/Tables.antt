@@ -1,27 +1,36 @@
 -- A table as it grows: what it has stands there at no more, and each group of a path's market is put in.
-use Rattle.std.specs.Prelude.{◌≡◌, ◌≢◌, ◌⊎◌, ◌↔◌, ℕ, ◌+◌, ◌≤◌, ◌<◌, Bool, List, [], slice_get, Some, All, IsBitSet}
+use Rattle.std.specs.Prelude.{◌≡◌, ◌≢◌, ◌⊎◌, ◌↔◌, ℕ, ◌+◌, ◌≤◌, ◌<◌, Bool, List, [], length, slice_get, Some, All, IsBitSet}
+use Rattle.std.specs.Int.{IsInRange}
+use Rattle.component_table.specs.declared.ends.Reach.{Reach}
 use Rattle.component_table.specs.declared.markets.Market.{Market}
 use Rattle.component_table.specs.declared.ways.Flown.{Flown}
+use Rattle.component_table.specs.Markets.{IsMarket}
+use Rattle.component_table.specs.Reaches.{IsReach}
+use Rattle.fare_book.specs.Keeping.{Limited}
 use Rattle.fare_groups.specs.declared.group.FareGroup.{FareGroup}
 use Rattle.fare_groups.specs.declared.group.GroupedFare.{GroupedFare}
 use Rattle.fare_groups.specs.Grouping.{Cheapest}
 use Rattle.fare_groups.specs.Groups.{HasClass, Permits, extra_of, group_of}
 use Rattle.fare_law.specs.declared.flights.Flight.{Flight}
+use Rattle.fare_law.specs.declared.names.Place.{Place}
 use Rattle.fare_law.specs.declared.requests.Request.{Request}
 use Rattle.fare_law.specs.declared.rules.Rule.{Rule}
+use Rattle.fare_law.specs.declared.sheets.Leg.{Leg}
 use Rattle.fare_law.specs.declared.sheets.SheetRow.{SheetRow}
 use Rattle.fare_law.specs.Book.{Book, live_rule}
 use Rattle.fare_law.specs.Limits.{IsFlight}
-use Rattle.fare_law.specs.Lists.{Each, IsIn}
+use Rattle.fare_law.specs.Lists.{Each, IsIn, OnLast}
+use Rattle.fare_law.specs.Parts.{Numbers}
 use Rattle.flight_paths.specs.declared.positions.Path.{Path}
 use Rattle.flight_paths.specs.declared.positions.Position.{Position}
 use Rattle.flight_paths.specs.Positions.{IsPath}
 use Rattle.outlines.specs.declared.outline.Entry.{Entry}
 use Rattle.outlines.specs.declared.outline.Outline.{Outline}
-use Rattle.outlines.specs.ByGroups.{OutlineOver, OverMarket, PathDone}
+use Rattle.outlines.specs.ByGroups.{OutlineOver, PathDone}
 use Rattle.outlines.specs.Outcomes.{EntryWithin, HasRule, Tabled}
 use Rattle.outlines.specs.Outlines.{Outlined}
 use Rattle.residual_keys.specs.Gathered.{AreLegs}
+use Rattle.residual_keys.specs.Steps.{MarketOver}
 
 -- an entry of this outline stands at this place
 pub record HasAt (entries : List Entry) (o : Outline) (at : ℕ) : Type 0 where
@@ -62,17 +71,36 @@ abbrev pub HasGroup : Book → Path → List Flight → ℕ → Bool → FareGro
 HasGroup b path fs classes reverse g table = (rule : Rule) → live_rule b g.key.carrier g.key.number ≡ Some rule → Permits rule g.key.carrier fs → (least : ℕ) → Cheapest classes g.fares (Some least)
     → (e : Entry) × IsIn e table × OutlineOver e.outline path.after fs g.key reverse × (e.price ≤ least + extra_of rule fs)
 
--- A flown path of the position, over a market of the book that is filed this way.
-pub record IsOver (b : Book) (q : Request) (at : Position) (flown : Flown) (reverse : Bool) (m : Market) : Type 0 where
-  pub over : OverMarket b q at flown.way.path flown.way.flights flown.way.legs flown.classes reverse m.sheet.value m.groups
-  pub limits : All IsFlight flown.way.flights
+-- The flights have legs, with the classes that have seats for the party, and these are the classes that are open in all of them.
+pub record HasLegs (b : Book) (q : Request) (fs : List Flight) (classes : ℕ) : Type 0 where
+  pub legs : List Leg
+  pub legs_are : AreLegs b q fs legs
+  pub classes_are : (class : ℕ) → class < 32 → IsBitSet classes class ↔ HasClass class legs
 
--- A flown path of the position, with the classes that are open in all of its legs.
-pub record IsFlown (b : Book) (q : Request) (at : Position) (flown : Flown) : Type 0 where
-  pub path : IsPath b q.slices at flown.way.path.flights flown.way.flights flown.way.path.after
-  pub legs : AreLegs b q flown.way.flights flown.way.legs
-  pub classes : (class : ℕ) → class < 32 → IsBitSet flown.classes class ↔ HasClass class flown.way.legs
-  pub limits : All IsFlight flown.way.flights
+-- One to four flights of the book, with the classes that are open in all of them.
+pub record IsFlown (b : Book) (q : Request) (flown : Flown) : Type 0 where
+  pub count : IsInRange 1 4 (length flown.flights)
+  pub limits : All IsFlight flown.flights
+  pub legs : HasLegs b q flown.flights flown.classes
+
+-- Such flights, and a market of the book.
+pub record IsOver (b : Book) (q : Request) (flown : Flown) (m : Market) : Type 0 where
+  pub flown_is : IsFlown b q flown
+  pub market_is : IsMarket b m
+  pub limited : Limited b
+
+-- the last of the flights of these numbers arrives at this place
+abbrev pub EndsAt : Book → List ℕ → Place → Type 0
+EndsAt b ns place = (fs : List Flight) → Numbers b ns fs → OnLast (λ f. f.to ≡ place) fs
+
+-- the flights are those of their path, which is one of the position
+abbrev pub IsOfPath : Book → Request → Position → Flown → Type 0
+IsOfPath b q at flown = IsPath b q.slices at flown.path.now.flights flown.flights flown.path.now.after
+
+-- and fares of the market are filed over them this way
+pub record IsPathOver (b : Book) (q : Request) (at : Position) (flown : Flown) (reverse : Bool) (m : Market) : Type 0 where
+  pub path : IsOfPath b q at flown
+  pub market : MarketOver reverse flown.flights m.sheet.value.from m.sheet.value.to
 
 -- a path of the position
 abbrev pub IsPathFrom : Book → Request → Position → Path → Type 0
@@ -91,12 +119,12 @@ pub record HasRow (rows : List SheetRow) (g : FareGroup) : Type 0 where
 -- a group was put in
 pub record GroupDone (b : Book) (q : Request) (at : Position) (flown : Flown) (reverse : Bool) (g : FareGroup) (old new : List Entry) : Type 0 where
   pub goes : GoesOn b q at old new
-  pub has : HasGroup b flown.way.path flown.way.flights flown.classes reverse g new
+  pub has : HasGroup b flown.path.now flown.flights flown.classes reverse g new
 
 -- the groups of a market were put in
 pub record MarketDone (b : Book) (q : Request) (at : Position) (flown : Flown) (reverse : Bool) (m : Market) (old new : List Entry) : Type 0 where
   pub goes : GoesOn b q at old new
-  pub has : (g : FareGroup) → IsIn g m.groups → HasGroup b flown.way.path flown.way.flights flown.classes reverse g new
+  pub has : (g : FareGroup) → IsIn g m.groups → HasGroup b flown.path.now flown.flights flown.classes reverse g new
 
 -- a path was put in with the fares that are filed this way
 pub record WayDone (b : Book) (q : Request) (at : Position) (path : Path) (fs : List Flight) (reverse : Bool) (old new : List Entry) : Type 0 where
@@ -111,6 +139,28 @@ IsDone b q at path table = (fs : List Flight) → IsPath b q.slices at path.flig
 pub record PathAdded (b : Book) (q : Request) (at : Position) (path : Path) (old new : List Entry) : Type 0 where
   pub goes : GoesOn b q at old new
   pub done : IsDone b q at path new
+
+-- What puts paths of a position into its table has this book, request and position, and the markets between its place and others.
+pub record IsPutting (b : Book) (q : Request) (at : Position) (book : Book) (request : Request) (position : Position) (r : Reach) : Type 0 where
+  pub book_is : book ≡ b
+  pub request_is : request ≡ q
+  pub at_is : position ≡ at
+  pub reach : IsReach book position.place r
+
+-- A table of a position as it is made.
+pub record Put : Type 0 where
+  pub book : Book
+  pub request : Request
+  pub at : Position
+  pub entries : List Entry
+
+-- Where these are paths of the position, its table has them: its entries are the position's, and each of the paths is done.
+pub record HasPut (p : Put) (paths : List Path) : Type 0 where
+  pub right : Each (IsEntry p.book p.request p.at) p.entries
+  pub done : (x : Path) → IsIn x paths → IsDone p.book p.request p.at x p.entries
+
+abbrev pub PutsIn : Put → List Path → Type 0
+PutsIn p paths = ((x : Path) → IsIn x paths → IsPathFrom p.book p.request p.at x) → HasPut p paths
 
 -- The table of a position, with live rules.
 pub record IsTable (b : Book) (q : Request) (at : Position) (table : List Entry) : Type 0 where

@@ -3,6 +3,7 @@ ghost use Rattle.std.specs.Prelude.{◌≡◌, [], IfOk, IfSome, List as Items, 
 ghost use Rattle.std.specs.Arc.{arc_value};
 ghost use Rattle.component_table.specs.Markets.{AreMarkets, Stands, StandsAt};
 ghost use Rattle.fare_book.specs.Keeping.{NoFare};
+ghost use Rattle.fare_law.specs.Lists.{IsPrefix};
 
 use fare_book::Book;
 use fare_groups::{FareGroup, groups_of};
@@ -49,6 +50,7 @@ impl Markets {
     pub fn find(&mut self, alloc: Global, book: &Book, key: MarketKey) -> Result<Option<usize>, Mem>
         requires { AreMarkets book.now self.old.kept.items }
         ensures kept { AreMarkets book.now self.new.kept.items }
+        ensures grows { IsPrefix self.old.kept.items self.new.kept.items }
         ensures found { IfOk result (λ r. MatchOption r (NoFare book.now key.from key.to) (StandsAt self.new.kept.items key)) }
     {
         if let Some(at) = known(self.kept.as_slice(), &self.places, key) {
@@ -71,6 +73,7 @@ impl Markets {
         requires kept { AreMarkets book.now self.old.kept.items }
         requires sheet { Stands book.now key (arc_value sheet.now) }
         ensures kept { AreMarkets book.now self.new.kept.items }
+        ensures grows { IsPrefix self.old.kept.items self.new.kept.items }
         ensures found { IfOk result (StandsAt self.new.kept.items key) }
     {
         book.limits();

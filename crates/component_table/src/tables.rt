@@ -1,75 +1,76 @@
 //! The table of a position, path by path.
-ghost use Rattle.std.specs.Prelude.{IfOk, OnOk};
+ghost use Rattle.std.specs.Prelude.{◌≡◌, ◌+◌, ◌<◌, IfOk, length};
 ghost use Rattle.component_table.specs.Markets.{AreMarkets};
-ghost use Rattle.component_table.specs.Tables.{IsPathFrom, IsTable, PathAdded};
+ghost use Rattle.component_table.specs.Networks.{AreTailsOver, IsNetwork};
+ghost use Rattle.component_table.specs.Tables.{IsTable};
 ghost use Rattle.fare_law.specs.Limits.{IsRequest};
-ghost use Rattle.flight_paths.specs.Plans.{HasPlan};
 
-use crate::adding::add_way;
-use crate::growing::Growing;
+use crate::gathering::schedule_of;
 use crate::markets::Markets;
-use crate::ways::{Flown, Origin};
+use crate::networks::Network;
+use crate::scenes::Scene;
+use crate::visiting::Putting;
+use crate::ways::Origin;
 use fare_book::Book;
-use fare_groups::classes_of_all;
 use fare_law::{List, Mem, Request};
-use flight_paths::{Path, Position, component_paths};
+use flight_paths::{Path, Position, visit_paths};
 use outlines::Entry;
-use residual_keys::Way;
-use schedule_book::Schedule;
 use std::alloc::Global;
+use std::marker::Brand;
+use std::mem;
 
-/// The table of a position. The markets that it needs are found once.
+/// The table of a position. The markets and the tails that it needs are found once.
 pub fn outlines_of(
     alloc: Global,
     book: &Book,
     request: &Request,
     position: &Position,
-    markets: &mut Markets,
+    network: &mut Network,
 ) -> Result<List<Entry>, Mem>
     requires request { IsRequest request.now }
-    requires markets { AreMarkets book.now markets.old.kept.items }
-    ensures markets { AreMarkets book.now markets.new.kept.items }
+    requires network { IsNetwork book.now request.now network.old }
+    ensures network { IsNetwork book.now request.now network.new }
     ensures table { IfOk result (IsTable book.now request.now position.now) }
 {
-    let mut table = Growing::new(alloc);
     if usize::from(position.slice) >= request.slices.len() {
-        return Ok(List::from_vec(table.entries));
+        return Ok(List::new(alloc));
     }
+    let at = network.find_tails(alloc, book, request, position.slice + 1)?;
     let origin = Origin {
         book,
         request,
         at: position,
     };
-    let paths = component_paths(alloc, schedule_of(book), request, position)?;
-    for path in paths.as_slice() {
-        add_path(alloc, &mut table, markets, &origin, path)?;
-    }
-    Ok(List::from_vec(table.entries))
+    let markets = mem::replace(&mut network.markets, Markets::new(alloc));
+    let (entries, markets) = made::<Brand>(alloc, &origin, network.tails[at].paths.as_slice(), markets)?;
+    network.markets = markets;
+    Ok(List::from_vec(entries))
 }
 
-/// The places and the flights of a book.
-fn schedule_of(book: &Book) -> &Schedule
-    ensures { HasPlan book.now result.now }
-{
-    book.timetable().schedule()
-}
-
-/// Puts a path into the table, with the fares that are filed from its beginning to its end, and those in reverse.
-fn add_path(
+/// The table of a position, by the tails of the next slice, and the markets with those that it needed.
+fn made<S: Scene>(
     alloc: Global,
-    table: &mut Growing,
-    markets: &mut Markets,
-    origin: &Origin,
-    path: &Path,
-) -> Result<(), Mem>
-    requires markets { AreMarkets origin.now.book.now markets.old.kept.items }
-    requires path { IsPathFrom origin.now.book.now origin.now.request.now origin.now.at.now path.now }
-    ensures markets { AreMarkets origin.now.book.now markets.new.kept.items }
-    ensures done { OnOk result (PathAdded origin.now.book.now origin.now.request.now origin.now.at.now path.now table.old.entries.items table.new.entries.items) }
+    origin: &Origin<'_>,
+    tails: &[Path],
+    markets: Markets,
+) -> Result<(Vec<Entry>, Markets), Mem>
+    requires book { origin.now.book.now ≡ S.book }
+    requires request { origin.now.request.now ≡ S.request }
+    requires at { origin.now.at.now ≡ S.at }
+    requires known { origin.now.at.now.slice < length origin.now.request.now.slices }
+    requires markets { AreMarkets origin.now.book.now markets.kept.items }
+    requires tails { AreTailsOver origin.now.book.now origin.now.request.now.slices (origin.now.at.now.slice + 1) tails.now }
+    ensures table { IfOk result (λ made. IsTable origin.now.book.now origin.now.request.now origin.now.at.now made.0.items) }
+    ensures markets { IfOk result (λ made. AreMarkets origin.now.book.now made.1.kept.items) }
 {
-    let way = Way::of(origin.book, origin.request, path);
-    let classes = classes_of_all(way.legs.as_slice());
-    let flown = Flown { way, classes };
-    add_way(alloc, table, markets, origin, &flown, false)?;
-    add_way(alloc, table, markets, origin, &flown, true)
+    let mut putting: Putting<'_, S> = Putting::new(alloc, origin, markets);
+    visit_paths(
+        alloc,
+        schedule_of(origin.book),
+        origin.request,
+        origin.at,
+        tails,
+        &mut putting,
+    )?;
+    Ok(putting.finish())
 }

@@ -1,8 +1,8 @@
 //! Paths of a position as they are put into its table.
+
 use fare_book::Book;
-use fare_law::Request;
-use flight_paths::Position;
-use residual_keys::Way;
+use fare_law::{ArrayVec, Flight, Request};
+use flight_paths::{Path, Position};
 
 /// A position of a search: its book, its request, and where it stands.
 #[derive(Clone, Copy)]
@@ -12,9 +12,10 @@ pub struct Origin<'a> {
     pub at: &'a Position,
 }
 
-/// A path with its flights and legs, and the classes that are open in every leg.
+/// A path with its flights, and the classes that are open in every leg.
 #[derive(Drop)]
-pub struct Flown {
-    pub way: Way,
+pub struct Flown<'a> {
+    pub path: &'a Path,
+    pub flights: ArrayVec<Flight, 4>,
     pub classes: u32,
 }

@@ -1,32 +1,29 @@
-use Rattle.std.proofs.Common.{subst, sym, ◌∙◌, arith}
-use Rattle.std.proofs.lemmas.List.{take_all}
+use Rattle.std.proofs.Common.{◌≡◌, ◌+◌, ◌<◌, ap, length, subst, sym, vec_len, ◌∙◌, arith}
+use Rattle.component_table.specs.declared.networks.SliceTails.{SliceTails}
+use Rattle.component_table.specs.Networks.{AreTailsOver}
 use Rattle.component_table.specs.Tables.{IsTable}
-use Rattle.component_table.proofs.PathFacts.{no_table, paths_in_more, read_in, table_is}
-use Rattle.fare_law.specs.Lists.{IsIn}
+use Rattle.component_table.proofs.PathFacts.{got_is, got_lt, no_table}
+use Rattle.fare_groups.proofs.Grouped.{each_in}
+use Rattle.residual_keys.proofs.Sheeted.{got_in}
 use Rattle.component_table.proofs.tables.outlines_of.Goals as goal
 
 pub returns-then-from-len-clause-table : goal.returns-then-from-len-clause-table
 returns-then-from-len-clause-table c =
-    subst (IsTable c.args.book.now c.args.request.now c.args.position.now) (sym (c.from_vec.ensures ∙ c.new-table.ensures))
-    (no_table c.args.book.now c.args.request.now c.args.position.now (omega (arith, c.if-from-len.true, c.from.ensures, c.len.ensures.value)))
+    subst (IsTable c.args.book.now c.args.request.now c.args.position.now) (sym c.new.ensures) (no_table c.args.book.now c.args.request.now c.args.position.now (omega (arith, c.if-from-len.true, c.from.ensures, c.len.ensures.value)))
 
-pub add_path-requires-clause-path : goal.add_path-requires-clause-path
-add_path-requires-clause-path c =
-    let are = c.in_ok-paths.ensures c.args.book.now c.schedule_of.ensures in
-    (are.are c.path-item.result).0 (subst (IsIn c.path-item.result) c.as_slice-path-items.ensures (read_in c.as_slice-path-items.result.now c.loop-path.path-index _ c.path-item.result c.loop-path-test.true c.path-item.is))
+pub index-requires : goal.index-requires
+index-requires c =
+    let s = c.in_ok-at.ensures.tails in
+    let lt = got_lt c.find_tails.new.self.tails.items c.in_ok-at.at s.kept s.stands in
+    let e : vec_len c.find_tails.new.self.tails ≡ length c.find_tails.new.self.tails.items = omega arith in
+    omega (arith, lt, e)
 
-pub loop-path-preserved : goal.loop-path-preserved
-loop-path-preserved c =
-    paths_in_more c.args.book.now c.args.request.now c.args.position.now c.as_slice-path-items.result.now c.loop-path.path-index _ c.path-item.result c.loop-path.markets.kept.items c.add_path.new.markets.kept.items
-    c.loop-path.table.entries.items c.add_path.new.table.entries.items c.loop-path-test.true c.path-item.is c.loop-path.invariant c.in_ok-add_path.ensures.markets c.in_ok-add_path.ensures.done
-
-pub returns-clause-table : goal.returns-clause-table
-returns-clause-table c =
+pub made-requires-clause-tails : goal.made-requires-clause-tails
+made-requires-clause-tails c =
     let b = c.args.book.now in
     let q = c.args.request.now in
-    let at = c.args.position.now in
-    let items = c.as_slice-path-items.result.now in
-    let table = c.loop-path.table.entries.items in
-    let all = take_all c.loop-path.path-index items c.loop-path-test.false ∙ c.as_slice-path-items.ensures in
-    subst (IsTable b q at) (sym c.from_vec-2.ensures)
-    (table_is b q at c.in_ok-paths.paths table (c.in_ok-paths.ensures b c.schedule_of.ensures) c.loop-path.invariant.right (λ x i. c.loop-path.invariant.done x (subst (IsIn x) (sym all) i)))
+    let ts = c.find_tails.new.self.tails.items in
+    let s = c.in_ok-at.ensures.tails in
+    let same = c.index.ensures ∙ got_is ts c.in_ok-at.at c.index.result.now s.kept s.stands in
+    let are = each_in (λ (t : SliceTails). AreTailsOver b q.slices t.slice t.paths) ts s.kept c.in_ok-at.ensures.network.tails (got_in ts c.in_ok-at.at s.kept s.stands) in
+    subst (AreTailsOver b q.slices (c.args.position.now.slice + 1)) (sym (c.as_slice.ensures ∙ ap (λ (t : SliceTails). t.paths) same)) (subst (λ i. AreTailsOver b q.slices i s.kept.paths) s.slice_is are)

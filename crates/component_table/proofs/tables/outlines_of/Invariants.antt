@@ -1,6 +1,4 @@
-use Rattle.std.proofs.Common.{take}
-use Rattle.component_table.proofs.PathFacts.{PathsIn}
 use Rattle.component_table.proofs.tables.outlines_of.Given as goal
 
-abbrev pub invariant-loop-path : goal.invariant-loop-path
-invariant-loop-path l = PathsIn l.book l.request l.position (take l.path-index l.path-items) l.markets.kept.items l.table.entries.items
+abbrev pub ghosts-made : goal.ghosts-made
+ghosts-made a = record { book = a.origin.now.book.now; request = a.origin.now.request.now; at = a.origin.now.at.now }

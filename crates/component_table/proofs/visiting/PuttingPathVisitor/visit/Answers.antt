@@ -1,0 +1,17 @@
+use Rattle.std.proofs.Common.{subst, sym}
+use Rattle.component_table.specs.Tables.{PutsIn}
+use Rattle.component_table.proofs.PathFacts.{added_for, on_ok, put_more}
+use Rattle.component_table.proofs.visiting.PuttingPathVisitor.visit.Goals as goal
+
+pub returns : goal.returns
+returns g c =
+    let b = g.S.Scene.book in
+    let q = g.S.Scene.request in
+    let at = g.S.Scene.at in
+    let s = c.self.inside in
+    let i = c.self.invariant in
+    on_ok c.add_path.result _ _
+    (λ d before h. put_more b q at c.args.path.now before s.table.entries.items c.add_path.new.table.entries.items
+        (added_for b q at s.origin.book.now s.origin.request.now s.origin.at.now i.book_is i.request_is i.at_is c.args.path.now s.table.entries.items c.add_path.new.table.entries.items d)
+        (subst (λ es. PutsIn (record { book = b; request = q; at = at; entries = es }) before) (sym c.self.view_is) h))
+    c.add_path.ensures.done

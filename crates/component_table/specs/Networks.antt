@@ -1,0 +1,26 @@
+-- What is found once for a search.
+use Rattle.std.specs.Prelude.{◌≡◌, ℕ, List, slice_get, Some}
+use Rattle.component_table.specs.declared.networks.Network.{Network}
+use Rattle.component_table.specs.declared.networks.SliceTails.{SliceTails}
+use Rattle.component_table.specs.Markets.{AreMarkets}
+use Rattle.fare_law.specs.declared.requests.Request.{Request}
+use Rattle.fare_law.specs.declared.requests.Slice.{Slice}
+use Rattle.fare_law.specs.Book.{Book}
+use Rattle.fare_law.specs.Lists.{Each}
+use Rattle.flight_paths.specs.declared.positions.Path.{Path}
+use Rattle.flight_paths.specs.Heads.{AreTails}
+
+-- these are the tails of slice i, whichever seats and filings there are over the book's flights
+abbrev pub AreTailsOver : Book → List Slice → ℕ → List Path → Type 0
+AreTailsOver b slices i tails = (x : Book) → x.timetable.places ≡ b.timetable.places → x.timetable.flights ≡ b.timetable.flights → AreTails x slices i tails
+
+-- The markets are the book's, and each list of tails is that of its slice.
+pub record IsNetwork (b : Book) (q : Request) (n : Network) : Type 0 where
+  pub markets : AreMarkets b n.markets.kept.items
+  pub tails : Each (λ t. AreTailsOver b q.slices t.slice t.paths) n.tails.items
+
+-- the tails of this slice stand at this place
+pub record TailsStand (tails : List SliceTails) (slice at : ℕ) : Type 0 where
+  pub kept : SliceTails
+  pub stands : slice_get tails at ≡ Some kept
+  pub slice_is : kept.slice ≡ slice

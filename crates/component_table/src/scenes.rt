@@ -1,0 +1,25 @@
+//! Names what paths are put in for, so that a visitor of them may speak of it.
+use std::marker::Brand;
+
+/// Names a book, a request and a position. A call picks them.
+pub trait Scene {
+    ghost use Rattle.fare_law.specs.declared.requests.Request.{Request};
+    ghost use Rattle.fare_law.specs.Book.{Book};
+    ghost use Rattle.flight_paths.specs.declared.positions.Position.{Position};
+
+    ghost book: { Book };
+
+    ghost request: { Request };
+
+    ghost at: { Position };
+}
+
+impl Scene for Brand {
+    ghost use Rattle.std.specs.Prelude.{[], None, pos};
+
+    ghost book = { record { timetable = record { places = []; flights = []; seats = [] }; entries = [] } };
+
+    ghost request = { record { sale = pos 0; party = 0; best = 0; slices = [] } };
+
+    ghost at = { record { slice = 0; leg = 0; place = record { 0 = [] }; via = None; lo = 0; hi = 0 } };
+}

@@ -1,0 +1,82 @@
+//! What puts the paths that it visits into a table.
+ghost use Rattle.std.specs.Prelude.{◌≡◌, []};
+ghost use Rattle.component_table.specs.Markets.{AreMarkets};
+ghost use Rattle.component_table.specs.Tables.{PutsIn};
+
+use crate::adding::add_path;
+use crate::ends::Reach;
+use crate::growing::Growing;
+use crate::markets::Markets;
+use crate::scenes::Scene;
+use crate::ways::Origin;
+use fare_law::Mem;
+use flight_paths::{Path, PathVisitor};
+use outlines::Entry;
+use std::alloc::Global;
+use std::marker::{Model, PhantomData};
+
+/// A table of a position, into which paths are put one after another. Contracts see the entries.
+#[derive(Drop)]
+pub struct Putting<'a, S: Scene> {
+    alloc: Global,
+    origin: Origin<'a>,
+    reach: Reach,
+    table: Growing,
+    of: PhantomData<S>,
+}
+
+impl<'a, S: Scene> Model for Putting<'a, S> {
+    ghost use Rattle.std.specs.Prelude.{List};
+    ghost use Rattle.component_table.specs.Tables.{IsPutting};
+    ghost use Rattle.outlines.specs.declared.outline.Entry.{Entry as OneEntry};
+
+    ghost Value = { List OneEntry };
+
+    ghost view = { λ p. p.table.entries.items };
+
+    ghost invariant = { λ p. IsPutting S.book S.request S.at p.origin.book.now p.origin.request.now p.origin.at.now p.reach };
+}
+
+impl<'a, S: Scene> PathVisitor for Putting<'a, S> {
+    ghost told = { λ v paths. PutsIn (record { book = S.book; request = S.request; at = S.at; entries = v }) paths };
+
+    fn visit(&mut self, path: &Path) -> Result<(), Mem> {
+        add_path(
+            self.alloc,
+            &mut self.table,
+            &mut self.reach,
+            &self.origin,
+            path,
+        )
+    }
+}
+
+impl<'a, S: Scene> Putting<'a, S> {
+    /// An empty table.
+    pub fn new(alloc: Global, origin: &Origin<'a>, markets: Markets) -> Putting<'a, S>
+        requires book { origin.now.book.now ≡ S.book }
+        requires request { origin.now.request.now ≡ S.request }
+        requires at { origin.now.at.now ≡ S.at }
+        requires markets { AreMarkets origin.now.book.now markets.kept.items }
+        ensures { result ≡ [] }
+    {
+        Putting {
+            alloc,
+            origin: *origin,
+            reach: Reach::new(alloc, origin.book, origin.at.place, markets),
+            table: Growing::new(alloc),
+            of: PhantomData,
+        }
+    }
+
+    /// The entries and the markets.
+    pub fn finish(self) -> (Vec<Entry>, Markets)
+        ensures entries { result.0.items ≡ self.entry }
+        ensures markets { AreMarkets S.book result.1.kept.items }
+    {
+        let Putting { reach, table, .. } = self;
+        let Reach { markets, .. } = reach;
+        let Growing { entries, .. } = table;
+        (entries, markets)
+    }
+}
