@@ -1,0 +1,31 @@
+//! The walk over all residuals of a board's search.
+ghost use Rattle.std.specs.Prelude.{◌≡◌};
+ghost use Rattle.fare_law.specs.Limits.{IsRequest};
+
+use crate::Board;
+use fare_component::OfferSource;
+use fare_law::Mem;
+use pricing_graph::{Graph, GraphFault};
+use search_steps::SearchSteps;
+use std::alloc::Global;
+
+/// Walks the residuals that are reached, up to the budget, and so takes each node that the search needs.
+pub fn walk_all<O: OfferSource>(alloc: Global, board: &Board, offers: &mut O) -> Result<(), Mem>
+    requires { IsRequest board.now.request }
+    ensures { O.base offers.new ≡ O.base offers.old }
+{
+    let mut steps = SearchSteps::new(&board.book, &board.request, offers);
+    walk(alloc, board.budget, &mut steps)
+}
+
+/// The walk of these steps.
+fn walk<O: OfferSource>(alloc: Global, budget: u32, steps: &mut SearchSteps<O>) -> Result<(), Mem>
+    requires { IsRequest steps.old.case.request.now }
+    ensures same_offers { steps.new.offers.ghost_name ≡ steps.old.offers.ghost_name }
+    ensures base { O.base steps.new.offers.now ≡ O.base steps.old.offers.now }
+{
+    match Graph::build(alloc, budget, steps) {
+        Ok(_) | Err(GraphFault::TooLarge { .. }) => Ok(()),
+        Err(GraphFault::Mem) => Err(Mem),
+    }
+}
