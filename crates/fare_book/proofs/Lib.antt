@@ -20,6 +20,5 @@ pub mod Making
 pub mod TakingLemmas
 pub mod Placing
 pub mod Versions
-pub mod OpenBooks
 pub mod Causes
 pub mod OneFault

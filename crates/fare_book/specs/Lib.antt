@@ -7,4 +7,3 @@ pub mod Tables
 pub mod Drafts
 pub mod Ready
 pub mod Taking
-pub mod Opened
