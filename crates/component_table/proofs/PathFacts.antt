@@ -256,4 +256,3 @@ own_sheet b from to sheet h = subst (λ p. SheetOf b p sheet.to sheet) (sym h.fi
 
 pub low_sum : (a c charges : ℕ) → a ≤ 3000000 → c ≤ 32000000 → charges ≡ a + c → charges ≤ 35000000
 low_sum a c charges h k e = omega (arith, h, k, e)
-

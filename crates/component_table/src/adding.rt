@@ -6,10 +6,10 @@ ghost use Rattle.component_table.specs.Tables.{EndsAt, GroupDone, HasRow, IsFlow
 ghost use Rattle.fare_law.specs.Lists.{IsIn, OnLast};
 ghost use Rattle.outlines.specs.ByGroups.{OutlineOver};
 
-use crate::growing::Growing;
-use crate::gathering::{classes_of, end_of, flights_of};
-use crate::markets::Market;
 use crate::ends::{End, Reach};
+use crate::gathering::{classes_of, end_of, flights_of};
+use crate::growing::Growing;
+use crate::markets::Market;
 use crate::ways::{Flown, Origin};
 use fare_groups::{FareGroup, GroupKey, extra};
 use fare_law::{Flight, MarketSheet, Mem, SheetRow};

@@ -78,9 +78,5 @@ fn known(ends: &[End], places: &IndexMap<Place, usize>, place: Place) -> Option<
 {
     let at = places.get(&place).copied()?;
     let end = *ends.get(at)?;
-    if end.place.is(place) {
-        Some(end)
-    } else {
-        None
-    }
+    if end.place.is(place) { Some(end) } else { None }
 }

@@ -42,7 +42,12 @@ pub fn outlines_of(
         at: position,
     };
     let markets = mem::replace(&mut network.markets, Markets::new(alloc));
-    let (entries, markets) = made::<Brand>(alloc, &origin, network.tails[at].paths.as_slice(), markets)?;
+    let (entries, markets) = made::<Brand>(
+        alloc,
+        &origin,
+        network.tails[at].paths.as_slice(),
+        markets,
+    )?;
     network.markets = markets;
     Ok(List::from_vec(entries))
 }

@@ -54,6 +54,6 @@ returns c =
     let ends = c.requires.ends fs numbers in
     on_ok c.add_way-2.result _ _
     (λ w p.
-        let own = subst (λ gs. IsPath b q.slices at ns gs path.after) (numbers_one b ns p.0 fs (path_numbers b q at ns p.0 path.after p.1) numbers) p.1 in
-        path_added b q at (record { path = c.args.path; flights = fs; classes = c.classes_of-classes.result }) c.args.table.now.entries.items c.add_way.new.table.entries.items c.add_way-2.new.table.entries.items own (c.in_ok-add_way.ensures own ends) (w own ends))
+    let own = subst (λ gs. IsPath b q.slices at ns gs path.after) (numbers_one b ns p.0 fs (path_numbers b q at ns p.0 path.after p.1) numbers) p.1 in
+    path_added b q at (record { path = c.args.path; flights = fs; classes = c.classes_of-classes.result }) c.args.table.now.entries.items c.add_way.new.table.entries.items c.add_way-2.new.table.entries.items own (c.in_ok-add_way.ensures own ends) (w own ends))
     c.add_way-2.ensures

@@ -45,12 +45,12 @@ returns-in-Some c =
     let stands = got_at ms c.in-Some.at _ m (got_lt ms c.in-Some.at found.market found.stands) c.index-markets-at.is in
     on_ok c.add_market.result _ _
     (λ d path ends.
-        let over : IsPathOver b q at flown r m = record {
-          path = path;
-          market = market_over b q at flown r (record { from = end_from r p e.place; to = end_to r p e.place }) ms c.in-Some.at m found stands (path_over b q at flown.path.now.flights flown.flights flown.path.now.after e.place path ends r);
-        } in
-        way_done b q at flown r m c.args.table.now.entries.items c.add_market.new.table.entries.items
-        (record { flown_is = c.requires.flown; market_is = each_in (IsMarket b) ms m c.requires.markets (got_in ms c.in-Some.at m stands); limited = c.limits.ensures }) over (d over))
+    let over : IsPathOver b q at flown r m = record {
+      path = path;
+      market = market_over b q at flown r (record { from = end_from r p e.place; to = end_to r p e.place }) ms c.in-Some.at m found stands (path_over b q at flown.path.now.flights flown.flights flown.path.now.after e.place path ends r);
+    } in
+    way_done b q at flown r m c.args.table.now.entries.items c.add_market.new.table.entries.items
+    (record { flown_is = c.requires.flown; market_is = each_in (IsMarket b) ms m c.requires.markets (got_in ms c.in-Some.at m stands); limited = c.limits.ensures }) over (d over))
     c.add_market.ensures
 
 pub returns-in-None : goal.returns-in-None
