@@ -1,5 +1,5 @@
 //! The tails that end where a fare is filed from a place or to it.
-ghost use Rattle.std.specs.Prelude.{◌≡◌, ◌+◌, false, true, IfOk, unwrap_or};
+ghost use Rattle.std.specs.Prelude.{◌≡◌, ◌+◌, ◌<◌, false, length, true, IfOk, unwrap_or};
 ghost use Rattle.cheap_moves.specs.Tails.{AreFareTails, AreTailsOver, HasNoFares, KnowsEnds};
 ghost use Rattle.fare_law.specs.declared.requests.Request.{Request as Asked};
 ghost use Rattle.flight_paths.specs.declared.positions.Position.{Position as PositionData};
@@ -7,8 +7,8 @@ ghost use Rattle.flight_paths.specs.Plans.{HasPlan};
 ghost use Rattle.indexmap.specs.IndexMap.{get};
 
 use fare_book::Book;
-use fare_law::{Flight, List, Mem, Place};
-use flight_paths::{Ends, Path, tails_to};
+use fare_law::{Flight, List, Mem, Place, Request};
+use flight_paths::{Ends, Path, Position, tails, tails_to};
 use indexmap::IndexMap;
 use schedule_book::Schedule;
 use std::alloc::Global;
@@ -40,6 +40,31 @@ pub fn fare_tails(
     let known = ends_of(alloc, book, from, tails)?;
     let ends = FareEnds { known };
     tails_to(alloc, schedule_of(book), tails, &ends)
+}
+
+/// The tails that the paths of a position may need: of the slice after its own, those that end where a fare is
+/// filed from its place or to it.
+pub fn position_tails(
+    alloc: Global,
+    book: &Book,
+    request: &Request,
+    position: &Position,
+) -> Result<List<Path>, Mem>
+    requires { position.now.slice < length request.now.slices }
+    ensures { IfOk result (AreFareTails book.now request.now position.now) }
+{
+    let slice = next_slice(request, position);
+    let all = tails(alloc, schedule_of(book), request, slice)?;
+    fare_tails(alloc, book, position.place, all.as_slice())
+}
+
+/// The slice after a position's.
+fn next_slice(request: &Request, position: &Position) -> u8
+    requires { position.now.slice < length request.now.slices }
+    ensures { result ≡ position.now.slice + 1 }
+{
+    let _count = request.slices.len();
+    position.slice + 1
 }
 
 /// The ends of tails, each with whether a fare is filed from a place to it or back.

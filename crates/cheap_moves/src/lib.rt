@@ -16,7 +16,7 @@ mod search;
 mod ways;
 
 pub use bounds::ResidualBounds;
-pub use ends::fare_tails;
+pub use ends::{fare_tails, position_tails};
 pub use laws::first_within_are_first;
 pub use listing::moves_within;
 pub use search::MoveSearch;
