@@ -1,0 +1,4 @@
+pub mod Causes
+pub mod Counting
+pub mod Records
+pub mod Worlds
