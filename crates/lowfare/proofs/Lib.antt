@@ -1,12 +1,16 @@
 pub mod Ranges
 pub mod Finishing
 pub mod Apart
+pub mod Ending
 pub mod SearchOwes
 pub mod CheckOwes
+pub mod MakeOwes
 pub mod Owing
 pub mod Due
 pub mod Unread
 pub mod Telling
 pub mod Refusing
 pub mod SearchMakes
+pub mod MakeMakes
+pub mod Summing
 pub mod CheckMakes

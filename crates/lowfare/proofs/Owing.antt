@@ -1,5 +1,6 @@
 -- What a command makes it owes, and of one input it owes one status.
-use Rattle.std.proofs.Common.{◌≡◌, ℕ, List, Option}
+use Rattle.std.proofs.Common.{◌≡◌, ℕ, List, Option, None}
+use Rattle.case_maker.specs.MadeCase.{made_case}
 use Rattle.certificate.specs.Checks.{OneFailure}
 use Rattle.certificate.specs.declared.parts.Certificate.{Certificate}
 use Rattle.fare_law.specs.Book.{Book}
@@ -12,6 +13,7 @@ use Rattle.lowfare.specs.declared.status.Status.{Status}
 use Rattle.program_words.specs.declared.commands.Command.{Command}
 use Rattle.program_words.specs.declared.commands.Command.TheVariants.{Search, Check, Make, Serve, Calendar, Verdict}
 use Rattle.lowfare.proofs.CheckOwes.{check_made, check_owes_one}
+use Rattle.lowfare.proofs.MakeOwes.{make_made, make_owes_one}
 use Rattle.lowfare.proofs.SearchOwes.{search_made, search_owes_one}
 
 -- what the layers below know of cases and certificates, as their law functions give it
@@ -23,7 +25,7 @@ pub record Known : Type 0 where
 pub made_owed : (c : Command) (bytes : List ℕ) (status : Status) (text : List ℕ) → IsBuilt c → Makes c bytes status text → Owes c bytes status
 made_owed (Search best budget at) bytes status text built m = search_made best budget at bytes status text m
 made_owed (Check best at) bytes status text built m = check_made best at bytes status text m
-made_owed (Make seed size is_summary) bytes status text built m = absurd built
+made_owed (Make seed size is_summary) bytes status text built m = make_made seed size bytes is_summary status text m
 made_owed (Serve best budget) bytes status text built m = absurd built
 made_owed (Calendar outs backs budget at) bytes status text built m = absurd built
 made_owed (Verdict at) bytes status text built m = absurd built
@@ -31,7 +33,7 @@ made_owed (Verdict at) bytes status text built m = absurd built
 pub owes_one : Known → (c : Command) (bytes : List ℕ) (status due : Status) → IsBuilt c → Owes c bytes status → Owes c bytes due → status ≡ due
 owes_one k (Search best budget at) bytes status due built h g = search_owes_one best budget at bytes (k.search best at bytes) status due h g
 owes_one k (Check best at) bytes status due built h g = check_owes_one best at bytes (k.check best at bytes) k.failure status due h g
-owes_one k (Make seed size is_summary) bytes status due built h g = absurd built
+owes_one k (Make seed size is_summary) bytes status due built h g = make_owes_one seed size bytes (k.search None None (made_case seed size)) is_summary status due h g
 owes_one k (Serve best budget) bytes status due built h g = absurd built
 owes_one k (Calendar outs backs budget at) bytes status due built h g = absurd built
 owes_one k (Verdict at) bytes status due built h g = absurd built

@@ -42,6 +42,10 @@ best_range (Some text) best e = by (number_in 1 1000 text) refl e
     by None p h = absurd (none_some best h)
     by (Some n) p h = subst (λ b. IfSome b (IsInRange 1 1000)) (some_same (Some n) best h) (number_range 1 1000 text n p)
 
+size_range : (text : Option Text) (size : ℕ) → required 1 100 text ≡ Some size → IsInRange 1 100 size
+size_range None size e = absurd (none_some size e)
+size_range (Some text) size e = number_range 1 100 text size e
+
 -- ---- a command, where there is one
 abbrev AreRanged : Option Command → Type 0
 AreRanged c = IfSome c HasRange
@@ -63,7 +67,7 @@ check_ranged : (t : GivenTexts) → AreRanged (check_of t)
 check_ranged t = if_ranged _ _ None (then_ranged (best_of t.best) _ (λ best e. then_ranged (at_of t.at) _ (λ at _. best_range t.best best e))) tt
 
 make_ranged : (t : GivenTexts) → AreRanged (make_of t)
-make_ranged t = if_ranged _ _ None (then_ranged (required 0 4294967295 t.seed) _ (λ seed _. then_ranged (required 1 100 t.size) _ (λ size _. tt))) tt
+make_ranged t = if_ranged _ _ None (then_ranged (required 0 4294967295 t.seed) _ (λ seed _. then_ranged (required 1 100 t.size) _ (λ size e. size_range t.size size e))) tt
 
 serve_ranged : (t : GivenTexts) → AreRanged (serve_of t)
 serve_ranged t = if_ranged _ _ None (then_ranged (best_of t.best) _ (λ best _. then_ranged (budget_of t.budget) _ (λ budget _. tt))) tt

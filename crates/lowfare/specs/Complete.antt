@@ -1,9 +1,9 @@
 -- Nothing valid is refused, and each answer comes where it is due.
-use Rattle.std.specs.Prelude.{◌≡◌, ◌⊎◌, ◌≤◌, ◌<◌, ℕ, List, length, Option, Some}
+use Rattle.std.specs.Prelude.{◌≡◌, ◌⊎◌, ◌<◌, ℕ, List, length, Option, Some}
 use Rattle.fare_io.specs.Counts.{Rose}
-use Rattle.lowfare.specs.Lines.{AreLine, Asks}
+use Rattle.lowfare.specs.Inputs.{Gets, most_bytes}
+use Rattle.lowfare.specs.Lines.{AreLine, AskForInput, Asks}
 use Rattle.lowfare.specs.Makes.{Owes}
-use Rattle.lowfare.specs.Says.{most_bytes}
 use Rattle.lowfare.specs.declared.status.Status.{Status}
 use Rattle.lowfare.specs.declared.status.Status.TheVariants.{Usage, OutOfMemory, TooLong}
 use Rattle.program_words.specs.declared.commands.Command.{Command}
@@ -21,5 +21,5 @@ IsOr status due = (status ≡ due) ⊎ (status ≡ OutOfMemory)
 -- The status is the one that is due: to words that are no command line, to more bytes than the limit, and to the bytes of a command's input.
 pub record IsComplete (status : Status) (words : List (List ℕ)) (left : Option (List ℕ)) : Type 0 where
   pub usage : (AreLine words → ⊥) → IsOr status Usage
-  pub long : (bytes : List ℕ) → AreLine words → left ≡ Some bytes → most_bytes < length bytes → IsOr status TooLong
-  pub owed : (c : Command) (bytes : List ℕ) (due : Status) → Asks words c → left ≡ Some bytes → length bytes ≤ most_bytes → Owes c bytes due → IsOr status due
+  pub long : (bytes : List ℕ) → AskForInput words → left ≡ Some bytes → most_bytes < length bytes → IsOr status TooLong
+  pub owed : (c : Command) (bytes : List ℕ) (due : Status) → Asks words c → Gets c left bytes → Owes c bytes due → IsOr status due

@@ -1,9 +1,12 @@
 pub mod Numbers
 pub mod Lines
+pub mod Inputs
 pub mod Refusals
 pub mod Cases
+pub mod Answered
 pub mod Searches
 pub mod Checked
+pub mod Made
 pub mod Makes
 pub mod Says
 pub mod Complete

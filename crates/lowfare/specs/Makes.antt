@@ -1,13 +1,14 @@
--- What each command makes of the bytes of its input, by the status that it ends with. A command that is built later adds its lines.
+-- What each command makes of the bytes of its input, by the status that it ends with. `make` has no input. A command that is built later adds its lines.
 use Rattle.std.specs.Prelude.{ℕ, List}
 use Rattle.lowfare.specs.Cases.{ExceedsBudget, FitsBudget}
 use Rattle.lowfare.specs.Checked.{Accepts, Fails, FailsCheck, MeetsChecks}
+use Rattle.lowfare.specs.Made.{MakesCase, OwesCase}
 use Rattle.lowfare.specs.Refusals.{HasRefusal, IsRefused}
 use Rattle.lowfare.specs.Searches.{IsTooLarge, Searches}
 use Rattle.lowfare.specs.declared.status.Status.{Status}
 use Rattle.lowfare.specs.declared.status.Status.TheVariants.{Done, Refused, TooLarge, No}
 use Rattle.program_words.specs.declared.commands.Command.{Command}
-use Rattle.program_words.specs.declared.commands.Command.TheVariants.{Search, Check}
+use Rattle.program_words.specs.declared.commands.Command.TheVariants.{Search, Check, Make}
 use Rattle.whole_case.specs.Cases.{check_case, search_case}
 
 -- the text that a command makes
@@ -18,6 +19,7 @@ Makes (Search best budget at) bytes Refused text = IsRefused (search_case best a
 Makes (Check best at) bytes Done text = Accepts best at bytes text
 Makes (Check best at) bytes No text = Fails best at bytes text
 Makes (Check best at) bytes Refused text = IsRefused (check_case best at bytes) text
+Makes (Make seed size is_summary) bytes status text = MakesCase seed size is_summary status text
 Makes c bytes status text = ⊥
 
 -- what the bytes are, where a command is to end with this status
@@ -28,6 +30,7 @@ Owes (Search best budget at) bytes Refused = HasRefusal (search_case best at byt
 Owes (Check best at) bytes Done = MeetsChecks best at bytes
 Owes (Check best at) bytes No = FailsCheck best at bytes
 Owes (Check best at) bytes Refused = HasRefusal (check_case best at bytes)
+Owes (Make seed size is_summary) bytes status = OwesCase seed size is_summary status
 Owes c bytes status = ⊥
 
 -- a status that a command ends with

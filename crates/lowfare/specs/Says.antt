@@ -1,25 +1,21 @@
 -- What each status says of the words, of what the source had left and the sink held, and of the counts, before and after.
-use Rattle.std.specs.Prelude.{◌≡◌, ◌⊎◌, ◌≤◌, ℕ, List, length, codes, Option}
+use Rattle.std.specs.Prelude.{◌≡◌, ◌⊎◌, ℕ, List, codes, Option}
 use Rattle.std.specs.Io.KnownBytes.{Appends}
 use Rattle.fare_io.specs.Counts.{Rose}
-use Rattle.fare_io.specs.Streams.{AppendsFront, ReadsPast, ReadsWhole}
-use Rattle.lowfare.specs.Lines.{AreLine, Asks}
+use Rattle.fare_io.specs.Streams.{AppendsFront, ReadsPast}
+use Rattle.lowfare.specs.Inputs.{IsInput, most_bytes}
+use Rattle.lowfare.specs.Lines.{AreLine, AskForInput, Asks}
 use Rattle.lowfare.specs.Makes.{Makes}
 use Rattle.lowfare.specs.declared.status.Status.{Status}
 use Rattle.lowfare.specs.declared.status.Status.TheVariants.{Done, Refused, Usage, ReadFault, WriteFault, OutOfMemory, TooLarge, No, TooLong}
 use Rattle.program_words.specs.declared.commands.Command.{Command}
 
--- the most bytes that an input may have
-abbrev pub most_bytes : ℕ
-most_bytes = 67108864
-
--- The words are a command line, the source was read to its end, and of its bytes, which are within the limit, the command makes this text.
+-- The words are a command line, and of its input, for which the source was read to its end, the command makes this text.
 pub record Ends (status : Status) (words : List (List ℕ)) (left left' : Option (List ℕ)) (text : List ℕ) : Type 0 where
   pub command : Command
   pub asked : Asks words command
   pub bytes : List ℕ
-  pub read : ReadsWhole left left' bytes
-  pub fits : length bytes ≤ most_bytes
+  pub input : IsInput command left left' bytes
   pub made : Makes command bytes status text
 
 -- what the words and what was read make due: a status with its text
@@ -29,7 +25,7 @@ Due Refused words left left' text = Ends Refused words left left' text
 Due TooLarge words left left' text = Ends TooLarge words left left' text
 Due No words left left' text = Ends No words left left' text
 Due Usage words left left' text = (AreLine words → ⊥) × (left' ≡ left) × (text ≡ codes "usage: lowfare search|check|make|serve|calendar|verdict\n")
-Due TooLong words left left' text = AreLine words × ReadsPast left left' most_bytes × (text ≡ codes "too long\n")
+Due TooLong words left left' text = AskForInput words × ReadsPast left left' most_bytes × (text ≡ codes "too long\n")
 Due ReadFault words left left' text = ⊥
 Due WriteFault words left left' text = ⊥
 Due OutOfMemory words left left' text = ⊥
@@ -50,7 +46,7 @@ pub record Broken (words : List (List ℕ)) (left left' held held' : Option (Lis
 
 -- r and r' are the source's count of faults, w and w' the sink's, s and s' its count of stalls
 abbrev pub Says : Status → List (List ℕ) → Option (List ℕ) → Option (List ℕ) → Option (List ℕ) → Option (List ℕ) → ℕ → ℕ → ℕ → ℕ → ℕ → ℕ → Type 0
-Says ReadFault words left left' held held' r r' w w' s s' = AreLine words × Rose r r' × (held' ≡ held)
+Says ReadFault words left left' held held' r r' w w' s s' = AskForInput words × Rose r r' × (held' ≡ held)
 Says WriteFault words left left' held held' r r' w w' s s' = Broken words left left' held held' w w' s s'
 Says OutOfMemory words left left' held held' r r' w w' s s' = held' ≡ held
 Says status words left left' held held' r r' w w' s s' = Written status words left left' held held'

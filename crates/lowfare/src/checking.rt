@@ -2,8 +2,8 @@
 ghost use Rattle.std.specs.Int.{IsInRange};
 ghost use Rattle.std.specs.Prelude.{◌≡◌, ◌≤◌, codes, length, IfOk, IfSome};
 ghost use Rattle.lowfare.specs.Checked.{no_text};
+ghost use Rattle.lowfare.specs.Inputs.{most_bytes};
 ghost use Rattle.lowfare.specs.Makes.{IsEnd, Makes};
-ghost use Rattle.lowfare.specs.Says.{most_bytes};
 ghost use Rattle.program_words.specs.declared.commands.Command.TheVariants.{Check};
 
 use crate::Status;

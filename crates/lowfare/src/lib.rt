@@ -2,8 +2,12 @@
 //! written, the status. Each command is a module of its own, and a definition of what it makes.
 #![tactic(auto)]
 
+mod case_search;
 mod checking;
+mod inputs;
+mod laws;
 mod limits;
+mod making;
 mod outcomes;
 mod program;
 mod searching;

@@ -1,12 +1,13 @@
 //! What commands make of their input.
-ghost use Rattle.std.specs.Prelude.{◌≡◌, ◌≤◌, length, IfOk};
+ghost use Rattle.std.specs.Prelude.{◌≡◌, ◌≤◌, codes, length, IfOk};
+ghost use Rattle.lowfare.specs.Inputs.{most_bytes};
 ghost use Rattle.lowfare.specs.Lines.{HasRange, IsBuilt};
 ghost use Rattle.lowfare.specs.Makes.{IsEnd, Makes};
-ghost use Rattle.lowfare.specs.Says.{most_bytes};
 ghost use Rattle.whole_case.specs.Texts as Texts;
 
 use crate::Status;
 use crate::checking::checked;
+use crate::making::made;
 use crate::searching::searched;
 use fare_law::{List, Mem};
 use program_words::Command;
@@ -31,6 +32,11 @@ pub(crate) fn outcome_of(alloc: Global, command: &Command, bytes: &[u8]) -> Resu
     match *command {
         Command::Search { best, budget, at } => searched(alloc, bytes, best, budget, at),
         Command::Check { best, at } => checked(alloc, bytes, best, at),
+        Command::Make {
+            seed,
+            size,
+            is_summary,
+        } => made(alloc, seed, size, is_summary),
         _ => unreachable!(),
     }
 }
@@ -43,5 +49,16 @@ pub(crate) fn refused(alloc: Global, refusal: &Refusal) -> Result<Outcome, Mem>
     Ok(Outcome {
         status: Status::Refused,
         text: List::from_vec(refusal_text(alloc, refusal)?.into_bytes()),
+    })
+}
+
+/// More residuals are reached than the budget.
+pub(crate) fn too_large(alloc: Global) -> Result<Outcome, Mem>
+    ensures status { IfOk result (λ o. o.status ≡ Status.TooLarge) }
+    ensures text { IfOk result (λ o. o.text ≡ codes "too large\n") }
+{
+    Ok(Outcome {
+        status: Status::TooLarge,
+        text: List::from_vec(b"too large\n".to_vec(alloc)?),
     })
 }

@@ -4,28 +4,26 @@ ghost use Rattle.std.specs.Prelude.{◌≡◌, ◌≢◌, ◌⊎◌, ◌+◌, ma
 ghost use Rattle.fare_io.specs.Counts.{Rose};
 ghost use Rattle.fare_io.specs.Streams.{AppendsFront, GivesAtMost};
 ghost use Rattle.lowfare.specs.Complete.{IsComplete, NoneRose};
-ghost use Rattle.lowfare.specs.Lines.{AreLine};
-ghost use Rattle.lowfare.specs.Says.{Says, most_bytes};
+ghost use Rattle.lowfare.specs.Inputs.{most_bytes};
+ghost use Rattle.lowfare.specs.Lines.{AskForInput};
+ghost use Rattle.lowfare.specs.Says.{Says};
 
 use crate::Status;
+use crate::inputs::input_of;
+use crate::laws::one_status_is_owed;
 use crate::outcomes::outcome_of;
 use crate::words::asked;
-use certificate::one_failure;
-use fare_io::{InFault, Sink, Source, read_all, write_all};
+use fare_io::{InFault, Sink, Source, write_all};
 use fare_law::Mem;
 use program_words::WordsFault;
 use std::alloc::Global;
-use whole_case::{one_check_case, one_search_case};
-
-/// The most bytes that an input may have.
-const MOST_BYTES: usize = 67_108_864;
 
 const USAGE: &[u8] = b"usage: lowfare search|check|make|serve|calendar|verdict\n";
 
 const TOO_LONG: &[u8] = b"too long\n";
 
 /// Runs the command that the words ask for: reads its input from the source to the end, makes the whole text, and
-/// only then writes it to the sink. Words that are no command line leave the source as it is.
+/// only then writes it to the sink. Words that are no command line, and those of `make`, leave the source as it is.
 pub fn run<S: Source, K: Sink>(
     alloc: Global,
     words: &[String],
@@ -34,22 +32,20 @@ pub fn run<S: Source, K: Sink>(
 ) -> Status
     ensures says { Says result (map string_bytes words.now) (S.left source.old) (S.left source.new) (K.held sink.old) (K.held sink.new)
         (S.faults source.old) (S.faults source.new) (K.faults sink.old) (K.faults sink.new) (K.stalls sink.old) (K.stalls sink.new) }
-    ensures unread { (AreLine (map string_bytes words.now) → ⊥) → source.new ≡ source.old }
+    ensures unread { (AskForInput (map string_bytes words.now) → ⊥) → source.new ≡ source.old }
     // Whatever the status, no byte is read past the one that is too many.
     ensures gives { GivesAtMost (S.left source.old) (S.left source.new) (most_bytes + 1) }
     // Where no count rose, the status is the one that is due, unless memory ran out.
     ensures complete { NoneRose (S.faults source.old) (S.faults source.new) (K.faults sink.old) (K.faults sink.new) (K.stalls sink.old) (K.stalls sink.new)
         → IsComplete result (map string_bytes words.now) (S.left source.old) }
 {
-    one_search_case();
-    one_check_case();
-    one_failure();
+    one_status_is_owed();
     let command = match asked(alloc, words) {
         Ok(command) => command,
         Err(WordsFault::Usage) => return finish(sink, USAGE, Status::Usage),
         Err(WordsFault::Mem) => return Status::OutOfMemory,
     };
-    let bytes = match read_all(alloc, source, MOST_BYTES) {
+    let bytes = match input_of(alloc, &command, source) {
         Ok(bytes) => bytes,
         Err(InFault::ReadFault) => return Status::ReadFault,
         Err(InFault::TooLong) => return finish(sink, TOO_LONG, Status::TooLong),

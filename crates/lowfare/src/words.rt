@@ -24,7 +24,7 @@ fn is_built(command: &Command) -> bool
     ensures { IsTrue result ↔ IsBuilt command.now }
 {
     match command {
-        Command::Search { .. } | Command::Check { .. } => true,
+        Command::Search { .. } | Command::Check { .. } | Command::Make { .. } => true,
         _ => false,
     }
 }

@@ -12,17 +12,17 @@ returns-in-Err-Usage-clause-says g c =
 
 pub returns-in-Err-Usage-clause-complete : goal.returns-in-Err-Usage-clause-complete
 returns-in-Err-Usage-clause-complete g c =
-    complete (record { search = c.one_search_case.ensures; check = c.one_check_case.ensures; failure = c.one_failure.ensures }) _ _ _ _ _ _ _ _ _ _ _ _ (returns-in-Err-Usage-clause-says g c)
+    complete c.one_status_is_owed.ensures _ _ _ _ _ _ _ _ _ _ _ _ (returns-in-Err-Usage-clause-says g c)
 
 -- too many bytes came
 pub returns-in-Err-TooLong-clause-says : goal.returns-in-Err-TooLong-clause-says
 returns-in-Err-TooLong-clause-says g c =
-    told TooLong c.finish-in-Err-TooLong.result _ _ _ _ _ _ _ _ _ _ _ _ ((c.in-Ok.command, c.in-Ok.ensures.line), search rules, refl)
+    told TooLong c.finish-in-Err-TooLong.result _ _ _ _ _ _ _ _ _ _ _ _ ((c.in-Ok.command, c.in-Ok.ensures.line, search rules), search rules, refl)
     c.finish-in-Err-TooLong.ensures.whole c.finish-in-Err-TooLong.ensures.front c.finish-in-Err-TooLong.ensures.cause
 
 pub returns-in-Err-TooLong-clause-complete : goal.returns-in-Err-TooLong-clause-complete
 returns-in-Err-TooLong-clause-complete g c =
-    complete (record { search = c.one_search_case.ensures; check = c.one_check_case.ensures; failure = c.one_failure.ensures }) _ _ _ _ _ _ _ _ _ _ _ _ (returns-in-Err-TooLong-clause-says g c)
+    complete c.one_status_is_owed.ensures _ _ _ _ _ _ _ _ _ _ _ _ (returns-in-Err-TooLong-clause-says g c)
 
 -- the command made this of its input
 pub returns-in-Ok-outcome_of-clause-says : goal.returns-in-Ok-outcome_of-clause-says
@@ -32,13 +32,12 @@ returns-in-Ok-outcome_of-clause-says g c =
     (due_of o.status _ _ _ _ c.in-Ok-outcome_of.ensures.ends (record {
       command = c.in-Ok.command;
       asked = c.in-Ok.ensures.line;
-      bytes = c.in-Ok-read_all.bytes;
-      read = c.in-Ok-read_all.ensures.whole;
-      fits = c.in-Ok-read_all.ensures.fits;
-      made = subst (λ (t : List ℕ). Makes c.in-Ok.command c.in-Ok-read_all.bytes o.status t) (sym c.as_slice-in-Ok-outcome_of.ensures)
+      bytes = c.in-Ok-input_of.bytes;
+      input = c.in-Ok-input_of.ensures.input;
+      made = subst (λ (t : List ℕ). Makes c.in-Ok.command c.in-Ok-input_of.bytes o.status t) (sym c.as_slice-in-Ok-outcome_of.ensures)
           (subst (λ (bs : List ℕ). Makes c.in-Ok.command bs o.status o.text) c.as_slice.ensures c.in-Ok-outcome_of.ensures.makes);
     })) c.finish-in-Ok-outcome_of.ensures.whole c.finish-in-Ok-outcome_of.ensures.front c.finish-in-Ok-outcome_of.ensures.cause
 
 pub returns-in-Ok-outcome_of-clause-complete : goal.returns-in-Ok-outcome_of-clause-complete
 returns-in-Ok-outcome_of-clause-complete g c =
-    complete (record { search = c.one_search_case.ensures; check = c.one_check_case.ensures; failure = c.one_failure.ensures }) _ _ _ _ _ _ _ _ _ _ _ _ (returns-in-Ok-outcome_of-clause-says g c)
+    complete c.one_status_is_owed.ensures _ _ _ _ _ _ _ _ _ _ _ _ (returns-in-Ok-outcome_of-clause-says g c)

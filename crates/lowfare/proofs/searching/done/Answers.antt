@@ -15,6 +15,6 @@ returns-clause-text c =
     let head = c.into_bytes-text.result.items in
     let mid = c.push_answer_text.new.text.items in
     let version : head ≡ codes "version " ++ (decimal a.number ++ codes "\n") = search rules in
-    tells_best found a head mid c.from_vec.result c.requires.answer c.requires.checks version
+    tells_best found a head mid c.from_vec.result c.requires.is c.requires.meets version
     (subst (λ (ts : List Priced). (q : Request) → Each (IsRight found.book q) ts → Adds (AnswerText found.book q (map (λ (p : Priced). p.ticket) ts)) head mid) c.as_slice.ensures c.in_ok-push_answer_text.ensures)
     (subst (AddsCertText a.certificate mid) (sym c.from_vec.ensures) c.in_ok-push_cert_text.ensures)
