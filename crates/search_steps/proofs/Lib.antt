@@ -2,3 +2,4 @@ pub mod Bridge
 pub mod Sooner
 pub mod Counting
 pub mod RowsInOrder
+pub mod TableFacts

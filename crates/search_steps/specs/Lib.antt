@@ -2,3 +2,4 @@ pub mod Leads
 pub mod Keys
 pub mod Cases
 pub mod LeastMoves
+pub mod Tables
