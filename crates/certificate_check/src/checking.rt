@@ -1,5 +1,6 @@
 //! The check of a certificate.
-ghost use Rattle.std.specs.Prelude.{◌<◌, ◌^◌, IfOk, length};
+ghost use Rattle.std.specs.Prelude.{◌≡◌, ◌<◌, ◌^◌, IfOk, length};
+ghost use Rattle.certificate.specs.RowCheck.{RowsHold};
 ghost use Rattle.certificate_check.specs.Verdicts.{IsVerdict};
 ghost use Rattle.fare_law.specs.Limits.{IsRequest};
 
@@ -32,22 +33,41 @@ pub fn check(
     requires rows { length certificate.now.rows < 2 ^ 32 }
     ensures { IfOk result (IsVerdict certificate.now book.now request.now) }
 {
-    residual_order();
     let rows = certificate.rows.as_slice();
-    let answers = certificate.answers.as_slice();
     if let Some(place) = rows_fail(book, request, rows) {
         return Ok(Verdict::No { rule: 1, place });
     }
     let mut offers = Plain;
-    let mut steps = SearchSteps::new(book, request, &mut offers);
-    let table = table_of(alloc, &mut steps, rows)?;
-    if let Some(place) = bounds_fail(alloc, &mut steps, &table)? {
+    let mut steps = SearchSteps::new(alloc, book, request, &mut offers);
+    check_by(alloc, book, request, certificate, &mut steps)
+}
+
+/// The verdict by the checks after that of the rows.
+fn check_by(
+    alloc: Global,
+    book: &Book,
+    request: &Request,
+    certificate: &Certificate,
+    steps: &mut SearchSteps<Plain>,
+) -> Result<Verdict, Mem>
+    requires request { IsRequest request.now }
+    requires rows { length certificate.now.rows < 2 ^ 32 }
+    requires hold { RowsHold book.now request.now certificate.now.rows }
+    requires of_book { steps.old.case.book.now ≡ book.now }
+    requires of_request { steps.old.case.request.now ≡ request.now }
+    ensures { IfOk result (IsVerdict certificate.now book.now request.now) }
+{
+    residual_order();
+    let rows = certificate.rows.as_slice();
+    let answers = certificate.answers.as_slice();
+    let table = table_of(alloc, steps, rows)?;
+    if let Some(place) = bounds_fail(alloc, steps, &table)? {
         return Ok(Verdict::No { rule: 2, place });
     }
     if let Some(place) = answers_fail(book, request, answers) {
         return Ok(Verdict::No { rule: 3, place });
     }
-    if let Some(place) = departures_fail(alloc, &mut steps, &table, answers)? {
+    if let Some(place) = departures_fail(alloc, steps, &table, answers)? {
         return Ok(Verdict::No { rule: 4, place });
     }
     if let Some(place) = request_fails(book, request, certificate) {

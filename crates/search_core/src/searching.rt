@@ -41,8 +41,10 @@ pub fn search<O: OfferSource>(
 {
     request_ok(book, request)?;
     answers_meet_checks(book, request);
-    let mut steps = SearchSteps::new(book, request, offers);
-    answer_by(alloc, budget, &mut steps)
+    let mut steps = SearchSteps::new(alloc, book, request, offers);
+    let answer = answer_by(alloc, budget, &mut steps);
+    steps.into_offers();
+    answer
 }
 
 /// The answer of these steps.

@@ -49,6 +49,12 @@ module _ {X : Type 0} (Below : X → X → Type 0) (trans : (x y z : X) → Belo
   pub front_least : (k : ℕ) (xs : List X) → EachPair Below xs → KLeast (λ x. IsIn x xs) Below k (take k xs)
   front_least k xs h = record { ascending = front_pairs k xs h; each = front_in k xs xs (λ x i. i); few = front_few k xs; rest = front_first k xs h }
 
+-- the front of a list that is long enough
+pub take_long : {X : Type 0} (k : ℕ) (xs : List X) → k ≤ length xs → length (take k xs) ≡ k
+take_long zero xs h = refl
+take_long (suc k) [] h = absurd (omega arith)
+take_long (suc k) (x ∷ xs) h = ap suc (take_long k xs (omega arith))
+
 -- the k least of the same things
 pub same_least : {X : Type 0} (Has Has' : X → Type 0) (Below : X → X → Type 0) (k : ℕ) (xs : List X) → ((x : X) → Has x → Has' x) → ((x : X) → Has' x → Has x) → KLeast Has Below k xs → KLeast Has' Below k xs
 same_least Has Has' Below k xs to from h = record { ascending = h.ascending; each = weaken Has Has' to xs h.each; few = h.few; rest = λ x has out. h.rest x (from x has) out }
@@ -101,18 +107,18 @@ in_more m None ms i = i
 in_more m (Some n) ms i = inr i
 
 module _ (bound : Key → Option ℕ) where
-  counted_has : (c : Chosen) (cs : List Chosen) (m : LeastMove Key) → IsIn c cs → counted_of bound c ≡ Some m → IsIn m (counted_in bound cs)
+  pub counted_has : (c : Chosen) (cs : List Chosen) (m : LeastMove Key) → IsIn c cs → counted_of bound c ≡ Some m → IsIn m (counted_in bound cs)
   counted_has c [] m i e = absurd i
   counted_has c (d ∷ cs) m (inl s) e = in_one m (counted_of bound d) (counted_in bound cs) (ap (counted_of bound) (sym s) ∙ e)
   counted_has c (d ∷ cs) m (inr i) e = in_more m (counted_of bound d) (counted_in bound cs) (counted_has c cs m i e)
 
   -- where a counted move comes from
-  record CountedFrom (cs : List Chosen) (m : LeastMove Key) : Type 0 where
+  pub record CountedFrom (cs : List Chosen) (m : LeastMove Key) : Type 0 where
     pub chosen : Chosen
     pub there : IsIn chosen cs
     pub is : counted_of bound chosen ≡ Some m
 
-  has_counted : (cs : List Chosen) (m : LeastMove Key) → IsIn m (counted_in bound cs) → CountedFrom cs m
+  pub has_counted : (cs : List Chosen) (m : LeastMove Key) → IsIn m (counted_in bound cs) → CountedFrom cs m
   has_counted [] m i = absurd i
   has_counted (c ∷ cs) m i = by (λ j. has_counted cs m j) (counted_of bound c) refl i
     where
@@ -155,11 +161,11 @@ module _ (bound : Key → Option ℕ) where
 
 -- ---- what counts
 
-module _ (b : Book) (q : Request) (x : State) (bound : Key → Option ℕ) (found : List Chosen) (are : AreMoves b q x found) where
+module _ (b : Book) (q : Request) (x : State) (bound : Key → Option ℕ) where
   abbrev Bound : State → ℕ → Type 0
   Bound = BoundBy IsKey residual_of bound
 
-  count_one : (c : Chosen) (m : LeastMove Key) → IsChosen b q x c → IfSome m.next IsKey → counted_of bound c ≡ Some m → Counts b q Bound x (least_as residual_of m)
+  pub count_one : (c : Chosen) (m : LeastMove Key) → IsChosen b q x c → IfSome m.next IsKey → counted_of bound c ≡ Some m → Counts b q Bound x (least_as residual_of m)
   count_one c m h k e = by c.next refl
     where
       made : (next : Next) → c.next ≡ next → IsChosen b q x (record { mv = c.mv; price = c.price; next = next })
@@ -185,7 +191,8 @@ module _ (b : Book) (q : Request) (x : State) (bound : Key → Option ℕ) (foun
           is n (some_same n (sym (ap (λ z. option_map (λ rest. record { mv = c.mv; price = c.price; next = key_of z; total = c.price + rest }) (rest_of bound (key_of z))) s) ∙ e)) (record { move = made Done s; rest = 0; bound = refl; total = refl })
       by (At y) s = at y s (bound (record { residual = y })) refl (sym (ap (λ z. option_map (λ rest. record { mv = c.mv; price = c.price; next = key_of z; total = c.price + rest }) (rest_of bound (key_of z))) s) ∙ e)
 
-  made_from : (mv : Move) (price total : ℕ) (next : Option State) → IsChosen b q x (record { mv = mv; price = price; next = next_of next }) → (rest : ℕ) → RestIs Bound next rest → total ≡ price + rest
+module _ (b : Book) (q : Request) (x : State) (bound : Key → Option ℕ) (found : List Chosen) (are : AreMoves b q x found) where
+  made_from : (mv : Move) (price total : ℕ) (next : Option State) → IsChosen b q x (record { mv = mv; price = price; next = next_of next }) → (rest : ℕ) → RestIs (BoundBy IsKey residual_of bound) next rest → total ≡ price + rest
       → (m : LeastMove Key) × IsIn m (counted_in bound found) × (least_as residual_of m ≡ record { mv = mv; price = price; next = next; total = total })
   made_from mv price total None h rest z t =
       let c : Chosen = record { mv = mv; price = price; next = Done } in
@@ -197,11 +204,11 @@ module _ (b : Book) (q : Request) (x : State) (bound : Key → Option ℕ) (foun
       let m : LeastMove Key = record { mv = mv; price = price; next = Some (record { residual = y }); total = price + rest } in
       (m, counted_has bound c found m ((are.are c).1 h) (ap (option_map (λ r. record { mv = mv; price = price; next = Some (record { residual = y }); total = price + r })) e), λ i. record { mv = mv; price = price; next = Some y; total = sym t i })
 
-  count_from : (m : LeastMove State) → Counts b q Bound x m → (n : LeastMove Key) × IsIn n (counted_in bound found) × (least_as residual_of n ≡ m)
+  count_from : (m : LeastMove State) → Counts b q (BoundBy IsKey residual_of bound) x m → (n : LeastMove Key) × IsIn n (counted_in bound found) × (least_as residual_of n ≡ m)
   count_from m h = made_from m.mv m.price m.total m.next h.move h.rest h.bound h.total
 
-  pub are_least : (wanted : ℕ) (ms : List (LeastMove Key)) → LeaveLive IsKey (counted_in bound found) → KLeast (λ m. IsIn m (counted_in bound found)) IsSooner wanted ms → AreLeastMoves b q Bound x wanted (map (least_as residual_of) ms)
+  pub are_least : (wanted : ℕ) (ms : List (LeastMove Key)) → LeaveLive IsKey (counted_in bound found) → KLeast (λ m. IsIn m (counted_in bound found)) IsSooner wanted ms → AreLeastMoves b q (BoundBy IsKey residual_of bound) x wanted (map (least_as residual_of) ms)
   are_least wanted ms live h =
-      map_least (least_as residual_of) (λ m. IsIn m (counted_in bound found)) (Counts b q Bound x) IsSooner IsSooner
-      (λ m i. let f = has_counted bound found m i in count_one f.chosen m ((are.are f.chosen).0 f.there) (in_each (λ n. IfSome n.next IsKey) m (counted_in bound found) live i) f.is)
+      map_least (least_as residual_of) (λ m. IsIn m (counted_in bound found)) (Counts b q (BoundBy IsKey residual_of bound) x) IsSooner IsSooner
+      (λ m i. let f = has_counted bound found m i in count_one b q x bound f.chosen m ((are.are f.chosen).0 f.there) (in_each (λ n. IfSome n.next IsKey) m (counted_in bound found) live i) f.is)
       count_from (λ m n k. k) wanted ms h

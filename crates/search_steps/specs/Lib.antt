@@ -2,3 +2,5 @@ pub mod Leads
 pub mod Keys
 pub mod Cases
 pub mod LeastMoves
+pub mod Tables
+pub mod Within

@@ -1,5 +1,5 @@
 //! The least moves of a residual.
-ghost use Rattle.std.specs.Prelude.{◌≡◌, ◌++◌, IfOk, IfSome, List as Items, map};
+ghost use Rattle.std.specs.Prelude.{◌≡◌, ◌≤◌, length, ◌++◌, IfOk, IfSome, List as Items, map};
 ghost use Rattle.std.specs.List.Sorted.{IsPermutation};
 ghost use Rattle.fare_law.specs.Lists.{AllDifferent, EachPair, IsIn, KLeast};
 ghost use Rattle.fare_law.specs.Codes.{move_code};
@@ -65,7 +65,8 @@ fn counted_move<B: Bounds>(chosen: &Chosen, bounds: &B) -> Option<LeastMove<Key>
 /// The first of moves whose codes differ, as many as are wanted, by their totals and codes.
 pub fn first_of(counted: Vec<LeastMove<Key>>, wanted: usize) -> List<LeastMove<Key>>
     requires { AllDifferent (map (λ m. move_code m.mv) counted.items) }
-    ensures { KLeast (λ m. IsIn m counted.items) IsSooner wanted result }
+    ensures least { KLeast (λ m. IsIn m counted.items) IsSooner wanted result }
+    ensures long { wanted ≤ length counted.items → length result ≡ wanted }
 {
     order_laws();
     let mut counted = counted;

@@ -3,18 +3,25 @@
 #![tactic(auto)]
 
 mod bounds;
+mod caching;
 mod case;
 mod key;
 mod laws;
 mod least;
+mod nearest;
 mod ordering;
 mod outcomes;
 mod steps;
+mod tabled;
+mod tables;
 mod walking;
+mod within;
 
 pub use bounds::Bounds;
+pub use caching::TabledCase;
 pub use case::Case;
 pub use key::Key;
 pub use laws::{keys_in_order, least_prices_are_least, reached_states_are_reached, residuals_tell};
 pub use least::LeastMove;
 pub use steps::SearchSteps;
+pub use tables::{PositionTable, Tables};

@@ -13,7 +13,7 @@ ghost use Rattle.search_steps.specs.LeastMoves.{AreLeastMoves, BoundBy, LeaveLiv
 use crate::laws::residuals_tell;
 use crate::least::{counted_moves, first_of};
 use crate::outcomes::outcomes_of_moves;
-use crate::{Bounds, Case, Key, LeastMove};
+use crate::{Bounds, Case, Key, LeastMove, TabledCase};
 use fare_book::Book;
 use fare_component::OfferSource;
 use fare_law::{List, Mem, Request};
@@ -26,22 +26,36 @@ use ticket_order::order_laws;
 /// by keys. A key that it gave stands for its residual for as long as it lives.
 #[derive(Drop)]
 pub struct SearchSteps<'a, O> {
-    pub(crate) case: Case<'a>,
+    pub(crate) case: TabledCase<'a>,
     pub(crate) offers: &'a mut O,
 }
 
 impl<'a, O: OfferSource> SearchSteps<'a, O> {
     /// The steps of a request on a book.
-    pub fn new(book: &'a Book, request: &'a Request, offers: &'a mut O) -> SearchSteps<'a, O>
+    pub fn new(
+        alloc: Global,
+        book: &'a Book,
+        request: &'a Request,
+        offers: &'a mut O,
+    ) -> SearchSteps<'a, O>
         ensures same_offers { result.offers.ghost_name ≡ offers.entry.ghost_name }
         ensures book { result.case.book.now ≡ book.now }
         ensures request { result.case.request.now ≡ request.now }
         ensures offers { result.offers.now ≡ offers.old }
     {
         SearchSteps {
-            case: Case { book, request },
+            case: TabledCase::new(alloc, Case { book, request }),
             offers,
         }
+    }
+
+    /// The source of offers, when the steps are done.
+    pub fn into_offers(self) -> &'a mut O
+        ensures same { result.ghost_name ≡ self.entry.offers.ghost_name }
+        ensures offers { result.now ≡ self.entry.offers.now }
+    {
+        let SearchSteps { case: _, offers } = self;
+        offers
     }
 
     /// The book and the request.
@@ -49,7 +63,7 @@ impl<'a, O: OfferSource> SearchSteps<'a, O> {
         ensures book { result.book.now ≡ self.now.case.book.now }
         ensures request { result.request.now ≡ self.now.case.request.now }
     {
-        self.case
+        self.case.case()
     }
 
     /// The key of a residual.
@@ -95,14 +109,12 @@ impl<'a, O: OfferSource> SearchSteps<'a, O> {
         ensures base { O.base self.new.offers.now ≡ O.base self.old.offers.now }
         ensures stays { (a : Asked) → O.settled self.old.offers.now a → O.settled self.new.offers.now a }
     {
-        let found = moves(
-            alloc,
-            self.case.book,
-            self.case.request,
-            &key.residual,
-            self.offers,
-        )?;
-        Ok(outcomes_of_moves(alloc, found.as_slice())?)
+        if self.offers.settles_all() {
+            return self.case.outcomes(alloc, &key.residual);
+        }
+        let case = self.case.case();
+        let found = moves(alloc, case.book, case.request, &key.residual, self.offers)?;
+        outcomes_of_moves(alloc, found.as_slice())
     }
 
     /// The moves of a residual that count under bounds, the first `wanted` of them by total and code:
@@ -125,13 +137,11 @@ impl<'a, O: OfferSource> SearchSteps<'a, O> {
         ensures stays { (a : Asked) → O.settled self.old.offers.now a → O.settled self.new.offers.now a }
     {
         order_laws();
-        let found = moves(
-            alloc,
-            self.case.book,
-            self.case.request,
-            &key.residual,
-            self.offers,
-        )?;
+        let case = self.case.case();
+        if usize::from(key.residual.at.slice) < case.request.slices.len() && self.offers.settles_all() {
+            return self.case.least_moves(alloc, &key.residual, bounds, wanted);
+        }
+        let found = moves(alloc, case.book, case.request, &key.residual, self.offers)?;
         let counted = counted_moves(alloc, found.as_slice(), bounds)?;
         Ok(first_of(counted, wanted))
     }

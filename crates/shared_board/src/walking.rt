@@ -14,8 +14,10 @@ pub fn walk_all<O: OfferSource>(alloc: Global, board: &Board, offers: &mut O) ->
     requires { IsRequest board.now.request }
     ensures { O.base offers.new ≡ O.base offers.old }
 {
-    let mut steps = SearchSteps::new(&board.book, &board.request, offers);
-    walk(alloc, board.budget, &mut steps)
+    let mut steps = SearchSteps::new(alloc, &board.book, &board.request, offers);
+    let walked = walk(alloc, board.budget, &mut steps);
+    steps.into_offers();
+    walked
 }
 
 /// The walk of these steps.

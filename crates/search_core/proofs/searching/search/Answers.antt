@@ -10,12 +10,12 @@ returns-clause-fits g c =
     let q = c.args.request.now in
     let budget = c.args.budget in
     let same = said_of (λ b q. ReachesMoreThan budget b q → ⊥) _ b _ q c.new-steps.ensures.book c.new-steps.ensures.request in
-    IfOk-weaker c.answer_by.result _ (λ _. Searchable b q budget) (λ _ small. searchable b q budget c.in_ok-request_ok.ensures.right (same small)) c.answer_by.ensures.fits
+    IfOk-weaker c.answer_by-answer.result _ (λ _. Searchable b q budget) (λ _ small. searchable b q budget c.in_ok-request_ok.ensures.right (same small)) c.answer_by-answer.ensures.fits
 
 pub returns-clause-cause : goal.returns-clause-cause
 returns-clause-cause g c =
     let b = c.args.book.now in
     let q = c.args.request.now in
     let budget = c.args.budget in
-    IfErr-weaker c.answer_by.result _ (HasCause b q budget)
-    (λ fault large. caused b q budget c.in_ok-request_ok.ensures.right fault (said_of (λ b q. IsTooLarge b q budget fault) _ b _ q c.new-steps.ensures.book c.new-steps.ensures.request large)) c.answer_by.ensures.large
+    IfErr-weaker c.answer_by-answer.result _ (HasCause b q budget)
+    (λ fault large. caused b q budget c.in_ok-request_ok.ensures.right fault (said_of (λ b q. IsTooLarge b q budget fault) _ b _ q c.new-steps.ensures.book c.new-steps.ensures.request large)) c.answer_by-answer.ensures.large

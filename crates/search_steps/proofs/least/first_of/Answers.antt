@@ -4,12 +4,12 @@ use Rattle.residual_keys.proofs.SortedWords.{same_elements, same_length, written
 use Rattle.search_steps.specs.declared.key.Key.{Key}
 use Rattle.search_steps.specs.declared.least.LeastMove.{LeastMove}
 use Rattle.search_steps.specs.LeastMoves.{IsSooner}
-use Rattle.search_steps.proofs.Counting.{front_least, same_least}
+use Rattle.search_steps.proofs.Counting.{front_least, same_least, take_long}
 use Rattle.search_steps.proofs.Sooner.{code_of}
 use Rattle.search_steps.proofs.least.first_of.Goals as goal
 
-pub returns : goal.returns
-returns c =
+pub returns-clause-least : goal.returns-clause-least
+returns-clause-least c =
     let items = c.args.counted.items in
     let old = c.as_mut_slice.result.now in
     let new = c.put_in_order.new.counted in
@@ -23,3 +23,13 @@ returns c =
     subst (KLeast (λ m. IsIn m items) IsSooner c.args.wanted) (sym result_is)
     (same_least (λ m. IsIn m new) (λ m. IsIn m items) IsSooner c.args.wanted (take c.args.wanted new)
     (λ m i. subst (IsIn m) old_is ((same_elements m old new c.put_in_order.ensures.same).1 i)) (λ m i. (same_elements m old new c.put_in_order.ensures.same).0 (subst (IsIn m) (sym old_is) i)) least)
+
+pub returns-clause-long : goal.returns-clause-long
+returns-clause-long c = λ enough.
+    let items = c.args.counted.items in
+    let old = c.as_mut_slice.result.now in
+    let new = c.put_in_order.new.counted in
+    let long : length new ≡ length items = same_length old new c.put_in_order.ensures.same ∙ ap length c.as_mut_slice.ensures.value in
+    let whole = written c.args.counted.len items new (omega (arith, c.args.counted.ok.0)) long in
+    let result_is : c.from_vec.result ≡ take c.args.wanted new = c.from_vec.ensures ∙ c.truncate.ensures.items ∙ ap (take c.args.wanted) whole in
+    ap length result_is ∙ take_long c.args.wanted new (omega (arith, enough, long))

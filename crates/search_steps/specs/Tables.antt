@@ -1,0 +1,32 @@
+-- The tables of positions.
+use Rattle.std.specs.Prelude.{◌≡◌, ℕ, List, map, slice_get, Some}
+use Rattle.component_table.specs.declared.networks.Network.{Network}
+use Rattle.component_table.specs.Networks.{IsNetwork}
+use Rattle.component_table.specs.Tables.{IsTable}
+use Rattle.fare_law.specs.declared.requests.Request.{Request}
+use Rattle.fare_law.specs.Book.{Book}
+use Rattle.fare_law.specs.Lists.{Each}
+use Rattle.flight_paths.specs.declared.positions.Position.{Position}
+use Rattle.graph_walk.specs.declared.outcome.Outcome.{Outcome}
+use Rattle.outlines.specs.declared.outline.Outcome.{Outcome as Tried}
+use Rattle.residual_keys.specs.Residuals.{State}
+use Rattle.search_steps.specs.declared.tables.PositionTable.{PositionTable}
+use Rattle.search_steps.specs.Leads.{state_of}
+
+-- each is the table of its position, and the network is the search's
+pub record AreTables (b : Book) (q : Request) (ts : List PositionTable) (n : Network) : Type 0 where
+  pub tables : Each (λ t. IsTable b q t.at t.entries) ts
+  pub network : IsNetwork b q n
+
+-- the table of a position stands at this place
+pub record TableAt (ts : List PositionTable) (at : Position) (n : ℕ) : Type 0 where
+  pub table : PositionTable
+  pub stands : slice_get ts n ≡ Some table
+  pub position : table.at ≡ at
+
+-- an outcome of a table, as one of states
+abbrev pub outcome_tried : Tried → Outcome State
+outcome_tried o = record { next = state_of o.next; price = o.price }
+
+abbrev pub AsTried : List Tried → List (Outcome State) → Type 0
+AsTried tried outcomes = outcomes ≡ map outcome_tried tried
