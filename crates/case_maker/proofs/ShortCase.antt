@@ -98,6 +98,7 @@ seat_row_fits number from few three =
     drawn_fits 10 22 (λ a. drawing 10 (seated number from a)) (omega (arith)) (λ a _. drawn_fits 10 22 (seated number from a) (omega (arith)) (λ b _ x.
     row_fits (codes "MX" ∷ decimal number ∷ from ∷ codes "*" ∷ seats_word a b ∷ []) (2 ∷ 4 ∷ 3 ∷ 1 ∷ 6 ∷ [])
     (is_long (codes "MX") 2 refl, (four number few, (is_long from 3 three, (is_long (codes "*") 1 refl, (is_long (seats_word a b) 6 refl, tt))))) x))
+
 hub_seats_fit : (i : ℕ) → i < 100 → AtMost 88 (hub_seats i)
 hub_seats_fit i h =
     then_fits 22 66 (seat_row (1000 + i) home) (seat_row (2000 + i) (hub i) before seat_row (3000 + i) away before seat_row (4000 + i) (hub i)) (seat_row_fits (1000 + i) home (omega (arith, h)) refl)

@@ -62,8 +62,19 @@ fn least_over<B: Bounds>(
     let at = residual.at;
     let network = &mut tables.network;
     let place = network.find_tails(alloc, search.book, search.request, at.slice + 1)?;
-    let tails = fare_tails(alloc, search.book, at.place, network.tails[place].paths.as_slice())?;
-    least_within(alloc, search, tails.as_slice(), &mut network.markets, wanted)
+    let tails = fare_tails(
+        alloc,
+        search.book,
+        at.place,
+        network.tails[place].paths.as_slice(),
+    )?;
+    least_within(
+        alloc,
+        search,
+        tails.as_slice(),
+        &mut network.markets,
+        wanted,
+    )
 }
 
 /// A total within which so many moves are to be expected: each outcome is that of a move. None where

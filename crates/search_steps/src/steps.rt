@@ -138,7 +138,9 @@ impl<'a, O: OfferSource> SearchSteps<'a, O> {
     {
         order_laws();
         let case = self.case.case();
-        if usize::from(key.residual.at.slice) < case.request.slices.len() && self.offers.settles_all() {
+        if usize::from(key.residual.at.slice) < case.request.slices.len()
+            && self.offers.settles_all()
+        {
             return self.case.least_moves(alloc, &key.residual, bounds, wanted);
         }
         let found = moves(alloc, case.book, case.request, &key.residual, self.offers)?;
