@@ -11,7 +11,7 @@ use Rattle.whole_case.specs.declared.asked.AskedCase.{AskedCase}
 use Rattle.whole_case.specs.declared.refusals.LoadFault.{LoadFault}
 use Rattle.whole_case.specs.Cases.{asked_case}
 use Rattle.whole_case.specs.Filings.{filed_version}
-use Rattle.whole_case.specs.Requests.{sole_request}
+use Rattle.whole_case.specs.Requests.{sole_line, sole_request}
 use Rattle.whole_case.specs.Stages.{Reads, Stage, done, ◌>>=◌}
 use Rattle.whole_case.specs.Timetables.{opening_of, sections_in, timetable_of}
 use Rattle.whole_case.proofs.StageLemmas.{goes_on, stops}
@@ -20,7 +20,7 @@ abbrev pub opening : Timetable → Book
 opening timetable = record { timetable = timetable; entries = [] }
 
 abbrev pub asked_of : Case → Book → Request → AskedCase
-asked_of case book request = record { book = book; request = request; filings = case.filings; certificate = case.certificate; end = case.end }
+asked_of case book request = record { book = book; request = request; line = sole_line case.requests; filings = case.filings; ticket = case.ticket; certificate = case.certificate; end = case.end }
 
 abbrev pub after_request : Case → Book → Request → Stage AskedCase
 after_request case book request = done (asked_of case book request)

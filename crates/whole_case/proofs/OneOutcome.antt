@@ -66,7 +66,7 @@ one_then first then f t (Err one) (Err other) (inr (a, q, r)) (inl p) = absurd (
 one_then first then f t (Err one) (Err other) (inr (a, p, q)) (inr (d, r, s)) = t a (Err one) (Err other) q (subst (λ x. then x (Err other)) (sym (ok_same a d (f (Ok a) (Ok d) p r))) s)
 
 -- what a reader tells
-one_told : {A F : Type 0} (spelled : Result A F) (refusal_of : F → Option Refusal) → IsOne (told spelled refusal_of)
+pub one_told : {A F : Type 0} (spelled : Result A F) (refusal_of : F → Option Refusal) → IsOne (told spelled refusal_of)
 one_told spelled refusal_of (Ok a) (Ok b) p q = ap Ok (ok_same a b (sym p ∙ q))
 one_told spelled refusal_of (Ok a) (Err refusal) p (fault, q, e) = absurd (not_both a fault (sym p ∙ q))
 one_told spelled refusal_of (Err refusal) (Ok a) (fault, q, e) p = absurd (not_both a fault (sym p ∙ q))

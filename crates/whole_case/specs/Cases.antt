@@ -2,24 +2,29 @@
 -- filings, the request, then what the kind of case has more, and last the version.
 use Rattle.std.specs.Prelude.{ℕ, List, length, Option}
 use Rattle.case_text.specs.declared.kinds.CaseKind.{CaseKind}
-use Rattle.case_text.specs.declared.kinds.CaseKind.TheVariants.{Search, Check}
+use Rattle.case_text.specs.declared.kinds.CaseKind.TheVariants.{Search, Check, Verdict}
 use Rattle.whole_case.specs.declared.asked.AskedCase.{AskedCase}
+use Rattle.whole_case.specs.declared.calendar.CalendarCase.{CalendarCase}
 use Rattle.whole_case.specs.declared.check.CheckCase.{CheckCase}
 use Rattle.whole_case.specs.declared.search.SearchCase.{SearchCase}
+use Rattle.whole_case.specs.declared.verdict.VerdictCase.{VerdictCase}
+use Rattle.whole_case.specs.Calendars.{has_spans, has_two}
 use Rattle.whole_case.specs.Certificates.{certificate_in}
 use Rattle.whole_case.specs.Filings.{filed_version, has_version}
-use Rattle.whole_case.specs.Requests.{sole_request, with_best}
+use Rattle.whole_case.specs.Requests.{sole_line, sole_request, with_best}
 use Rattle.whole_case.specs.Stages.{Stage, done, ◌>>=◌}
+use Rattle.whole_case.specs.Tickets.{ticket_in}
 use Rattle.whole_case.specs.Timetables.{opening_of, sections_in}
 
--- what each kind of case with one request has: the version of the book that is asked for, the request, and the lines of the sections after it
+-- what each kind of case with one request has: the version of the book that is asked for, the request with its line, and the lines of the sections
+-- after it
 abbrev pub asked_case : CaseKind → Option ℕ → List ℕ → Stage AskedCase
 asked_case kind at bytes = do
   case ← sections_in kind bytes
   opening ← opening_of case.places case.flights case.seats
   book ← filed_version opening case.filings at
   request ← sole_request book case.requests
-  done (record { book = book; request = request; filings = case.filings; certificate = case.certificate; end = case.end })
+  done (record { book = book; request = request; line = sole_line case.requests; filings = case.filings; ticket = case.ticket; certificate = case.certificate; end = case.end })
 
 -- the case of a search, with the number of tickets and the version that are asked for
 abbrev pub search_case : Option ℕ → Option ℕ → List ℕ → Stage SearchCase
@@ -35,3 +40,20 @@ check_case best at bytes = do
   certificate ← certificate_in asked.certificate asked.end
   _ ← has_version at (length asked.filings)
   done (record { book = asked.book; request = with_best best asked.request; certificate = certificate })
+
+-- the case of a calendar of so many days out and so many back: that of a search, whose request has two slices with so many days each
+abbrev pub calendar_case : ℕ → ℕ → Option ℕ → List ℕ → Stage CalendarCase
+calendar_case outs backs at bytes = do
+  asked ← asked_case Search at bytes
+  _ ← has_two asked.line asked.request
+  _ ← has_spans outs backs asked.line asked.request
+  _ ← has_version at (length asked.filings)
+  done (record { book = asked.book; request = asked.request })
+
+-- the case of a verdict: that of a search, and the ticket
+abbrev pub verdict_case : Option ℕ → List ℕ → Stage VerdictCase
+verdict_case at bytes = do
+  asked ← asked_case Verdict at bytes
+  ticket ← ticket_in asked.book asked.ticket
+  _ ← has_version at (length asked.filings)
+  done (record { book = asked.book; request = asked.request; ticket = ticket })

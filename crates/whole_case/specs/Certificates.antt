@@ -1,5 +1,5 @@
 -- The certificate of a case: read from the lines of its section, or the first line at fault.
-use Rattle.std.specs.Prelude.{◌≡◌, ℕ, List, Option, Some, Ok, Err}
+use Rattle.std.specs.Prelude.{◌≡◌, ℕ, List, Some, Ok, Err}
 use Rattle.certificate.specs.declared.parts.Certificate.{Certificate}
 use Rattle.certificate_text.specs.declared.faults.CertFault.{CertFault}
 use Rattle.certificate_text.specs.CertText.{CertLines, IsCertificate}

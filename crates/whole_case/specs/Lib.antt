@@ -4,5 +4,7 @@ pub mod Texts
 pub mod Timetables
 pub mod Filings
 pub mod Requests
+pub mod Calendars
+pub mod Tickets
 pub mod Certificates
 pub mod Cases

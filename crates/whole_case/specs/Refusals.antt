@@ -8,6 +8,8 @@ use Rattle.fare_filing.specs.declared.fault.FilingFault.{FilingFault}
 use Rattle.fare_filing.specs.declared.fault.FilingFault.TheVariants as filing
 use Rattle.request_text.specs.declared.fault.RequestFault.{RequestFault}
 use Rattle.request_text.specs.declared.fault.RequestFault.TheVariants as request
+use Rattle.fare_verdict.specs.declared.faults.TicketFault.{TicketFault}
+use Rattle.fare_verdict.specs.declared.faults.TicketFault.TheVariants as ticket
 use Rattle.rule_text.specs.declared.fault.RuleFault.{RuleFault}
 use Rattle.rule_text.specs.declared.fault.RuleFault.TheVariants as rule
 use Rattle.schedule_book.specs.declared.faults.SchedFault.{SchedFault}
@@ -15,7 +17,7 @@ use Rattle.schedule_book.specs.declared.faults.SchedFault.TheVariants as rows
 use Rattle.whole_case.specs.declared.refusals.LoadFault.{LoadFault}
 use Rattle.whole_case.specs.declared.refusals.LoadFault.TheVariants.{Refused, Mem}
 use Rattle.whole_case.specs.declared.refusals.Reason.{Reason}
-use Rattle.whole_case.specs.declared.refusals.Reason.TheVariants.{NoEnd, UnknownSection, Order, BadRow, TooMany, AfterEnd, PlaceTwice, UnknownPlace, SamePlace, BadPeriod, ArrivesBefore, Twice, Syntax, Shape, ActionShape, ActionRule, BadRequest, Count}
+use Rattle.whole_case.specs.declared.refusals.Reason.TheVariants.{NoEnd, UnknownSection, Order, BadRow, TooMany, AfterEnd, PlaceTwice, UnknownPlace, SamePlace, BadPeriod, ArrivesBefore, Twice, Syntax, Shape, ActionShape, ActionRule, BadRequest, Ticket, Count}
 use Rattle.whole_case.specs.declared.refusals.Refusal.{Refusal}
 use Rattle.whole_case.specs.declared.refusals.RuleWhy.TheVariants.{Missing, Unknown, Range}
 
@@ -59,6 +61,9 @@ request_reason request.Syntax = Some Syntax
 request_reason request.Shape = Some Shape
 request_reason (request.BadRequest why) = Some (BadRequest why)
 request_reason request.Mem = None
+
+abbrev pub of_ticket : TicketFault → Option Refusal
+of_ticket (ticket.Line line) = Some (refused_at line Ticket)
 
 abbrev pub of_certificate : CertFault → Option Refusal
 of_certificate (certificate.Syntax line) = Some (refused_at line Syntax)

@@ -30,6 +30,11 @@ abbrev pub sole_request : Book → List TextLine → Stage Request
 sole_request b (line ∷ []) outcome = request_in b line outcome
 sole_request b lines outcome = ⊥
 
+-- the line of the one request
+abbrev pub sole_line : List TextLine → ℕ
+sole_line [] = 0
+sole_line (line ∷ lines) = line.line
+
 -- the request with another number of tickets, where one is given
 abbrev pub with_best : Option ℕ → Request → Request
 with_best None request = request

@@ -6,20 +6,23 @@ ghost use Rattle.whole_case.specs.Stages.{Reads};
 
 use crate::LoadFault;
 use crate::histories::filed_version;
-use crate::requests::sole_request;
+use crate::requests::{sole_line, sole_request};
 use crate::rows::{opening_of, sections_in};
 use case_text::{Case, CaseKind};
 use fare_book::Book;
 use fare_law::{List, Request, TextLine};
 use std::alloc::Global;
 
-/// The version of the book that a case is about, what is asked, and the lines of the sections that
-/// are read after the request.
+/// The version of the book that a case is about, what is asked and in which line, and the lines of the
+/// sections that are read after the request.
 #[derive(Drop)]
 pub struct AskedCase {
     pub book: Book,
     pub request: Request,
+    /// The line of the request.
+    pub line: u32,
     pub filings: List<TextLine>,
+    pub ticket: List<TextLine>,
     pub certificate: List<TextLine>,
     /// The line of `#end`.
     pub end: u32,
@@ -44,6 +47,7 @@ pub fn asked_case(
         filings,
         requests,
         certificate,
+        ticket,
         end,
         ..
     } = case;
@@ -53,7 +57,9 @@ pub fn asked_case(
     Ok(AskedCase {
         book,
         request,
+        line: sole_line(&requests),
         filings,
+        ticket,
         certificate,
         end,
     })

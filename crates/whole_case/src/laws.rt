@@ -1,11 +1,14 @@
 //! Bytes have one reading, and what they ask is right.
-ghost use Rattle.std.specs.Prelude.{◌≡◌, ℕ, List, Option, None, Ok, IfSome};
+ghost use Rattle.std.specs.Prelude.{◌≡◌, ℕ, true, List, length, Option, None, Ok, IfSome};
 ghost use Rattle.std.specs.Int.{IsInRange};
 ghost use Rattle.case_text.specs.declared.kinds.CaseKind.{CaseKind as Kind};
 ghost use Rattle.fare_law.specs.Requests.{judged, known_places};
-ghost use Rattle.whole_case.specs.Cases.{asked_case, check_case, search_case};
+ghost use Rattle.whole_case.specs.Cases.{asked_case, calendar_case, check_case, search_case, verdict_case};
+ghost use Rattle.whole_case.specs.Calendars.{spans_fit};
+ghost use Rattle.whole_case.specs.declared.calendar.CalendarCase.{CalendarCase as Spanned};
 ghost use Rattle.whole_case.specs.declared.check.CheckCase.{CheckCase as Checked};
 ghost use Rattle.whole_case.specs.declared.search.SearchCase.{SearchCase as Found};
+ghost use Rattle.whole_case.specs.declared.verdict.VerdictCase.{VerdictCase as Ticketed};
 ghost use Rattle.whole_case.specs.Stages.{IsOne};
 
 use certificate_text::one_reading;
@@ -37,6 +40,20 @@ pub fn one_check_case()
     one_reading();
 }
 
+/// Bytes spell one case of a calendar at most, or have one first refusal, and not both.
+pub fn one_calendar_case()
+    ensures { (outs backs : ℕ) (at : Option ℕ) (bytes : List ℕ) → IsOne (calendar_case outs backs at bytes) }
+{
+    one_asked_case();
+}
+
+/// Bytes spell one case of a verdict at most, or have one first refusal, and not both.
+pub fn one_verdict_case()
+    ensures { (at : Option ℕ) (bytes : List ℕ) → IsOne (verdict_case at bytes) }
+{
+    one_asked_case();
+}
+
 /// What a case that is spelled asks is refused for no reason in its book, also where another number of
 /// tickets within the limits is put in.
 pub fn spelled_requests_are_right()
@@ -44,4 +61,14 @@ pub fn spelled_requests_are_right()
         → search_case best at bytes (Ok found) → judged (known_places found.book) found.request ≡ None }
     ensures check { (best at : Option ℕ) (bytes : List ℕ) (found : Checked) → IfSome best (IsInRange 1 1000)
         → check_case best at bytes (Ok found) → judged (known_places found.book) found.request ≡ None }
+    ensures calendar { (outs backs : ℕ) (at : Option ℕ) (bytes : List ℕ) (found : Spanned) → calendar_case outs backs at bytes (Ok found)
+        → judged (known_places found.book) found.request ≡ None }
+    ensures verdict { (at : Option ℕ) (bytes : List ℕ) (found : Ticketed) → verdict_case at bytes (Ok found) → judged (known_places found.book) found.request ≡ None }
+{}
+
+/// A calendar's case that is spelled has two slices, and each has the days of the calendar.
+pub fn spelled_calendars_fit()
+    ensures two { (outs backs : ℕ) (at : Option ℕ) (bytes : List ℕ) (found : Spanned) → calendar_case outs backs at bytes (Ok found) → length found.request.slices ≡ 2 }
+    ensures spans { (outs backs : ℕ) (at : Option ℕ) (bytes : List ℕ) (found : Spanned) → calendar_case outs backs at bytes (Ok found)
+        → spans_fit outs backs found.request.slices ≡ true }
 {}

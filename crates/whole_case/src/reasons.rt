@@ -7,6 +7,7 @@ use crate::{LoadFault, Reason, Refusal, RuleWhy};
 use case_text::CaseFault;
 use certificate_text::CertFault;
 use fare_filing::FilingFault;
+use fare_verdict::TicketFault;
 use request_text::RequestFault;
 use rule_text::RuleFault;
 use schedule_book::SchedFault;
@@ -82,6 +83,15 @@ pub fn of_request(line: u32, fault: RequestFault) -> LoadFault
         RequestFault::Shape => refused_at(line, Reason::Shape),
         RequestFault::BadRequest(why) => refused_at(line, Reason::BadRequest(why)),
         RequestFault::Mem => LoadFault::Mem,
+    }
+}
+
+/// A fault of the ticket.
+pub fn of_ticket(fault: TicketFault) -> LoadFault
+    ensures { IsAs result (Refusals.of_ticket fault) }
+{
+    match fault {
+        TicketFault::Line { line } => refused_at(line, Reason::Ticket),
     }
 }
 

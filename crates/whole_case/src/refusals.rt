@@ -54,6 +54,13 @@ pub enum Reason {
     ActionRefused { action: u32, why: BookWhy },
     /// A request breaks a limit, or names a place that isn't known: `BadRequest` and why.
     BadRequest(Why),
+    /// A calendar is asked for, and the request hasn't two slices.
+    NotTwo,
+    /// A calendar's days of a slice aren't 1 to 31, or the last of them is after 2099-12-31.
+    Span,
+    /// A line of a ticket isn't of its form, is a flight before any component or a fifth flight of one,
+    /// or is a nineteenth component.
+    Ticket,
     /// A certificate has fewer or more answers or rows than it says.
     Count,
     /// There is no version of the number that is asked for.

@@ -77,6 +77,16 @@ pub fn sole_request(
     }
 }
 
+/// The line of the one request.
+pub fn sole_line(lines: &List<TextLine>) -> u32
+    ensures { result ≡ Requests.sole_line lines.now }
+{
+    match lines.as_slice() {
+        [line, ..] => line.line,
+        [] => 0,
+    }
+}
+
 /// The request with another number of tickets, where one is given.
 pub fn with_best(request: Request, best: Option<u16>) -> Request
     ensures { result ≡ Requests.with_best best request }

@@ -38,6 +38,9 @@ fn reason_text(alloc: Global, reason: Reason) -> Result<String, Mem>
         Reason::ActionRule { action, why } => action_text(alloc, action, rule_text(why)),
         Reason::ActionRefused { action, why } => action_text(alloc, action, book_text(why)),
         Reason::BadRequest(why) => request_text(alloc, why),
+        Reason::NotTwo => name(alloc, "NotTwo"),
+        Reason::Span => name(alloc, "Span"),
+        Reason::Ticket => name(alloc, "Ticket"),
         Reason::Count => name(alloc, "Count"),
         Reason::NoVersion => name(alloc, "NoVersion"),
     }

@@ -1,0 +1,10 @@
+-- The version, the last stage, where it refuses the case.
+use Rattle.std.proofs.lemmas.Result.{err_from_is_err_and}
+use Rattle.whole_case.proofs.CaseSteps.{calendar_number_stops}
+use Rattle.whole_case.proofs.calendar.load_calendar_case.Goals as goal
+
+pub returns-in_err-check_version : goal.returns-in_err-check_version
+returns-in_err-check_version c =
+    let p = err_from_is_err_and c.from_residual-in_err-check_version.result c.from_residual-in_err-check_version.ensures.1 in
+    rw (p.1, p.2) (calendar_number_stops c.args.outs c.args.backs c.args.at c.args.bytes.now c.in_ok-asked.asked c.in_ok-asked.ensures c.in_ok-check_two.ensures c.in_ok-check_spans.ensures
+    c.in_err-check_version.field-0.0 c.in_err-check_version.ensures)
