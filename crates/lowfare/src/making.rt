@@ -25,12 +25,7 @@ use whole_case::SearchCase;
 const DEFAULT_BUDGET: u32 = 100_000;
 
 /// What `make` makes of a seed and a size, without any input: the made case, or the summary of its search.
-pub(crate) fn made(
-    alloc: Global,
-    seed: u32,
-    size: u8,
-    is_summary: bool,
-) -> Result<Outcome, Mem>
+pub(crate) fn made(alloc: Global, seed: u32, size: u8, is_summary: bool) -> Result<Outcome, Mem>
     requires { IsInRange 1 100 size }
     ensures makes { IfOk result (λ o. MakesCase seed size is_summary o.status o.text) }
     ensures ends { IfOk result (λ o. IsEnd o.status) }

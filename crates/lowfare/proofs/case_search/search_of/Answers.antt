@@ -18,13 +18,15 @@ returns-in-Err-Refused c =
 -- the case was searched
 pub returns-in-Ok-search : goal.returns-in-Ok-search
 returns-in-Ok-search c =
-    let found = c.in-Ok.found in
-    (c.in-Ok.ensures, record {
-      right = c.spelled_requests_are_right.ensures.search c.args.best c.args.at c.args.bytes.now found c.requires.best c.in-Ok.ensures;
-      few = c.in-Ok-search.ensures.fits.small;
-      is = c.in-Ok-search.ensures.answer;
-      meets = c.in-Ok-search.ensures.checks;
-    })
+    let found = c.in-Ok.found in (
+      c.in-Ok.ensures,
+      record {
+        right = c.spelled_requests_are_right.ensures.search c.args.best c.args.at c.args.bytes.now found c.requires.best c.in-Ok.ensures;
+        few = c.in-Ok-search.ensures.fits.small;
+        is = c.in-Ok-search.ensures.answer;
+        meets = c.in-Ok-search.ensures.checks;
+      },
+    )
 
 -- the request of a case is right
 pub unreachable-requires : goal.unreachable-requires
