@@ -5,6 +5,9 @@ pub mod Ending
 pub mod SearchOwes
 pub mod CheckOwes
 pub mod MakeOwes
+pub mod DoneOrRefused
+pub mod CalendarOwes
+pub mod VerdictOwes
 pub mod Owing
 pub mod Due
 pub mod Unread
@@ -13,4 +16,6 @@ pub mod Refusing
 pub mod SearchMakes
 pub mod MakeMakes
 pub mod Summing
+pub mod CalendarMakes
+pub mod VerdictMakes
 pub mod CheckMakes

@@ -7,6 +7,8 @@ pub mod Answered
 pub mod Searches
 pub mod Checked
 pub mod Made
+pub mod Calendars
+pub mod Verdicts
 pub mod Makes
 pub mod Says
 pub mod Complete

@@ -3,14 +3,12 @@ use Rattle.std.specs.Prelude.{◌≡◌, ℕ, List, Some, IfSome}
 use Rattle.std.specs.Int.{IsInRange}
 use Rattle.program_words.specs.Lines.{line_of}
 use Rattle.program_words.specs.declared.commands.Command.{Command}
-use Rattle.program_words.specs.declared.commands.Command.TheVariants.{Search, Check, Make}
+use Rattle.program_words.specs.declared.commands.Command.TheVariants.{Search, Check, Make, Serve}
 
 -- the command is built
 abbrev pub IsBuilt : Command → Type 0
-IsBuilt (Search best budget at) = Unit {0}
-IsBuilt (Check best at) = Unit {0}
-IsBuilt (Make seed size is_summary) = Unit {0}
-IsBuilt c = ⊥
+IsBuilt (Serve best budget) = ⊥
+IsBuilt c = Unit {0}
 
 -- The words are this command line.
 pub record Asks (words : List (List ℕ)) (c : Command) : Type 0 where

@@ -1,15 +1,17 @@
 -- What each command makes of the bytes of its input, by the status that it ends with. `make` has no input. A command that is built later adds its lines.
 use Rattle.std.specs.Prelude.{ℕ, List}
+use Rattle.lowfare.specs.Calendars.{HasCalendar, TellsCalendar}
 use Rattle.lowfare.specs.Cases.{ExceedsBudget, FitsBudget}
 use Rattle.lowfare.specs.Checked.{Accepts, Fails, FailsCheck, MeetsChecks}
 use Rattle.lowfare.specs.Made.{MakesCase, OwesCase}
 use Rattle.lowfare.specs.Refusals.{HasRefusal, IsRefused}
 use Rattle.lowfare.specs.Searches.{IsTooLarge, Searches}
+use Rattle.lowfare.specs.Verdicts.{HasTicket, TellsVerdict}
 use Rattle.lowfare.specs.declared.status.Status.{Status}
 use Rattle.lowfare.specs.declared.status.Status.TheVariants.{Done, Refused, TooLarge, No}
 use Rattle.program_words.specs.declared.commands.Command.{Command}
-use Rattle.program_words.specs.declared.commands.Command.TheVariants.{Search, Check, Make}
-use Rattle.whole_case.specs.Cases.{check_case, search_case}
+use Rattle.program_words.specs.declared.commands.Command.TheVariants.{Search, Check, Make, Calendar, Verdict}
+use Rattle.whole_case.specs.Cases.{calendar_case, check_case, search_case, verdict_case}
 
 -- the text that a command makes
 abbrev pub Makes : Command → List ℕ → Status → List ℕ → Type 0
@@ -20,6 +22,10 @@ Makes (Check best at) bytes Done text = Accepts best at bytes text
 Makes (Check best at) bytes No text = Fails best at bytes text
 Makes (Check best at) bytes Refused text = IsRefused (check_case best at bytes) text
 Makes (Make seed size is_summary) bytes status text = MakesCase seed size is_summary status text
+Makes (Calendar outs backs budget at) bytes Done text = TellsCalendar outs backs budget at bytes text
+Makes (Calendar outs backs budget at) bytes Refused text = IsRefused (calendar_case outs backs at bytes) text
+Makes (Verdict at) bytes Done text = TellsVerdict at bytes text
+Makes (Verdict at) bytes Refused text = IsRefused (verdict_case at bytes) text
 Makes c bytes status text = ⊥
 
 -- what the bytes are, where a command is to end with this status
@@ -31,6 +37,10 @@ Owes (Check best at) bytes Done = MeetsChecks best at bytes
 Owes (Check best at) bytes No = FailsCheck best at bytes
 Owes (Check best at) bytes Refused = HasRefusal (check_case best at bytes)
 Owes (Make seed size is_summary) bytes status = OwesCase seed size is_summary status
+Owes (Calendar outs backs budget at) bytes Done = HasCalendar outs backs at bytes
+Owes (Calendar outs backs budget at) bytes Refused = HasRefusal (calendar_case outs backs at bytes)
+Owes (Verdict at) bytes Done = HasTicket at bytes
+Owes (Verdict at) bytes Refused = HasRefusal (verdict_case at bytes)
 Owes c bytes status = ⊥
 
 -- a status that a command ends with

@@ -6,7 +6,7 @@ ghost use Rattle.lowfare.specs.declared.status.Status.{Status as Due};
 ghost use Rattle.program_words.specs.declared.commands.Command.{Command as Asked};
 
 use certificate::one_failure;
-use whole_case::{one_check_case, one_search_case};
+use whole_case::{one_calendar_case, one_check_case, one_search_case, one_verdict_case};
 
 /// Of one input a command owes one status.
 pub(crate) fn one_status_is_owed()
@@ -14,5 +14,7 @@ pub(crate) fn one_status_is_owed()
 {
     one_search_case();
     one_check_case();
+    one_calendar_case();
+    one_verdict_case();
     one_failure();
 }

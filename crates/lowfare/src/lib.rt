@@ -2,6 +2,7 @@
 //! written, the status. Each command is a module of its own, and a definition of what it makes.
 #![tactic(auto)]
 
+mod calendars;
 mod case_search;
 mod checking;
 mod inputs;
@@ -12,6 +13,7 @@ mod outcomes;
 mod program;
 mod searching;
 mod status;
+mod verdicts;
 mod words;
 
 pub use program::run;

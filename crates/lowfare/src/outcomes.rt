@@ -6,9 +6,12 @@ ghost use Rattle.lowfare.specs.Makes.{IsEnd, Makes};
 ghost use Rattle.whole_case.specs.Texts as Texts;
 
 use crate::Status;
+use crate::calendars::days_priced;
 use crate::checking::checked;
 use crate::making::made;
 use crate::searching::searched;
+use crate::verdicts::ticket_judged;
+use fare_calendar::Spans;
 use fare_law::{List, Mem};
 use program_words::Command;
 use std::alloc::Global;
@@ -37,7 +40,14 @@ pub(crate) fn outcome_of(alloc: Global, command: &Command, bytes: &[u8]) -> Resu
             size,
             is_summary,
         } => made(alloc, seed, size, is_summary),
-        _ => unreachable!(),
+        Command::Calendar {
+            outs,
+            backs,
+            budget,
+            at,
+        } => days_priced(alloc, bytes, Spans { outs, backs }, budget, at),
+        Command::Verdict { at } => ticket_judged(alloc, bytes, at),
+        Command::Serve { .. } => unreachable!(),
     }
 }
 

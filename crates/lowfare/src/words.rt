@@ -23,8 +23,5 @@ pub(crate) fn asked(alloc: Global, words: &[String]) -> Result<Command, WordsFau
 fn is_built(command: &Command) -> bool
     ensures { IsTrue result ↔ IsBuilt command.now }
 {
-    match command {
-        Command::Search { .. } | Command::Check { .. } | Command::Make { .. } => true,
-        _ => false,
-    }
+    !matches!(command, Command::Serve { .. })
 }
