@@ -173,7 +173,7 @@ def make_words(draw):
 
 
 def bad_words(draw):
-    words = ["search", "check", "make", "serve", "calendar", "verdict", "--best", "--best=3", "--budget", "0", "1", "7", "1000", "1001", "--at", "--", "--outs", "--backs", "31", "32", "--seed", "--size", "--summary", "--help", "-v", ""]
+    words = ["search", "check", "make", "calendar", "verdict", "--best", "--best=3", "--budget", "0", "1", "7", "1000", "1001", "--at", "--", "--outs", "--backs", "31", "32", "--seed", "--size", "--summary", "--help", "-v", ""]
     return [draw.choice(words) for _ in range(draw.randint(0, 5))]
 
 

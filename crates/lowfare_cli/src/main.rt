@@ -4,6 +4,7 @@
 use fare_io::{StdSink, StdSource};
 use lowfare::run;
 use std::env;
+use std::io::ErrorKind;
 use std::process::ExitCode;
 
 /// Memory for the words is wanting.
@@ -13,8 +14,9 @@ const OUT_OF_MEMORY: u8 = 5;
 const NO_WORDS: u8 = 9;
 
 fn main(rt: HostRuntime) -> ExitCode {
-    let Ok(all) = env::args(&rt) else {
-        return ExitCode::from(NO_WORDS);
+    let all = match env::args(&rt) {
+        Ok(all) => all,
+        Err(error) => return ExitCode::from(status_without_words(error.kind())),
     };
     let Ok(words) = all.skip(1).collect::<Vec<String>>(rt.alloc()) else {
         return ExitCode::from(OUT_OF_MEMORY);
@@ -23,4 +25,12 @@ fn main(rt: HostRuntime) -> ExitCode {
     let mut sink = StdSink::new(rt.stdout());
     let status = run(rt.alloc(), words.as_slice(), &mut source, &mut sink);
     ExitCode::from(status.number())
+}
+
+/// The status where the system doesn't give the words.
+fn status_without_words(kind: ErrorKind) -> u8 {
+    match kind {
+        ErrorKind::OutOfMemory => OUT_OF_MEMORY,
+        _ => NO_WORDS,
+    }
 }
