@@ -20,5 +20,6 @@ pub mod Making
 pub mod TakingLemmas
 pub mod Placing
 pub mod Versions
+pub mod OpenBooks
 pub mod Causes
 pub mod OneFault

@@ -1,5 +1,5 @@
 -- A filing has one fault at most in a book, and so have seat rows.
-use Rattle.std.proofs.Common.{◌≡◌, ◌≢◌, ◌≤◌, ◌<◌, ◌⊎◌, ℕ, suc, eqb, cond, List, [], ◌∷◌, ◌++◌, length, map, refl, sym, ap, subst, ◌∙◌, inl, inr, arith}
+use Rattle.std.proofs.Common.{◌≡◌, ◌≢◌, ◌≤◌, ℕ, suc, eqb, cond, List, [], ◌∷◌, ◌++◌, length, map, refl, sym, ap, subst, ◌∙◌, inl, inr, arith}
 use Rattle.fare_law.specs.declared.filings.Action.{Action}
 use Rattle.fare_law.specs.declared.filings.BookWhy.{BookWhy}
 use Rattle.fare_law.specs.declared.filings.BookWhy.TheVariants.{SamePlace, OddRound, NoRule, RuleInUse, NoFare, Limit, NoSeats}
@@ -7,7 +7,7 @@ use Rattle.fare_law.specs.declared.filings.Filing.{Filing}
 use Rattle.fare_law.specs.declared.filings.SeatKey.{SeatKey}
 use Rattle.fare_law.specs.declared.rows.SeatRow.{SeatRow}
 use Rattle.fare_law.specs.Book.{Book, row_key}
-use Rattle.fare_law.specs.Faults.{Fault, FaultOf, Why, filed, reason_number}
+use Rattle.fare_law.specs.Faults.{Fault, FaultOf, filed, reason_number}
 use Rattle.fare_law.specs.Lists.{AllDifferent, Each, IsIn}
 use Rattle.schedule_book.proofs.Rows.{splits}
 use Rattle.seat_classes.specs.Given.{FirstRepeat}

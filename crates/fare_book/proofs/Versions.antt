@@ -121,15 +121,19 @@ draft_ready b d tables k holds = record {
   ruled = record { rules_are = k.rules_kept.rules_are; stand = k.stand; few = λ n many. omega (arith, k.fares_kept.few, k.fares_kept.counted.most n many) };
 }
 
-pub next_keeps : (b : Book) (filing : Filing) (d : Draft) (sheets : List (Market × Arc Sheet Global)) (held : List (SeatKey × List ℕ)) → History b → length b.entries < 1000000 → IsFiling filing → NoneStops b filing.actions
-    → Drafts (filed b filing.actions) d → Sheets (filed b filing.actions) sheets → held ≡ drafted_seats d
-    → Keeps (filed b filing.actions) sheets d.rules.entries d.uses.entries d.fare_count d.rule_count held
-next_keeps b filing d sheets held h few limits none k right is = record {
-  history = record {
-    filings = each_push IsFiling b.entries filing h.filings limits;
-    legal = legal_more b.timetable b.entries filing h.legal (no_fault b filing few none);
-    few = omega (arith, few, length_push b.entries filing);
-  };
+-- a history with one filing more, which has no fault
+pub history_more : (b : Book) (filing : Filing) → History b → length b.entries < 1000000 → IsFiling filing → NoneStops b filing.actions → History (filed b filing.actions)
+history_more b filing h few limits none = record {
+  filings = each_push IsFiling b.entries filing h.filings limits;
+  legal = legal_more b.timetable b.entries filing h.legal (no_fault b filing few none);
+  few = omega (arith, few, length_push b.entries filing);
+}
+
+-- what a draft keeps, with the sheets that it makes
+pub draft_closes : (b : Book) (d : Draft) (sheets : List (Market × Arc Sheet Global)) (held : List (SeatKey × List ℕ)) → History b → Drafts b d → Sheets b sheets → held ≡ drafted_seats d
+    → Keeps b sheets d.rules.entries d.uses.entries d.fare_count d.rule_count held
+draft_closes b d sheets held h k right is = record {
+  history = h;
   sheets_are = right;
   rules_are = k.rules_kept.rules_are;
   counted = record {
@@ -143,6 +147,11 @@ next_keeps b filing d sheets held h few limits none k right is = record {
   };
   seats_are = λ q. ap (λ hs. seats_at hs q) is ∙ k.seats_kept.seats_are q;
 }
+
+pub next_keeps : (b : Book) (filing : Filing) (d : Draft) (sheets : List (Market × Arc Sheet Global)) (held : List (SeatKey × List ℕ)) → History b → length b.entries < 1000000 → IsFiling filing → NoneStops b filing.actions
+    → Drafts (filed b filing.actions) d → Sheets (filed b filing.actions) sheets → held ≡ drafted_seats d
+    → Keeps (filed b filing.actions) sheets d.rules.entries d.uses.entries d.fare_count d.rule_count held
+next_keeps b filing d sheets held h few limits none k right is = draft_closes (filed b filing.actions) d sheets held (history_more b filing h few limits none) k right is
 
 pub draft_keeps : (b : Book) (d : Draft) (sheets : List (Market × Arc Sheet Global)) (rules : List (RuleKey × Rule)) (uses : List (RuleKey × ℕ)) (held : List (SeatKey × List ℕ)) → Keeps b sheets rules uses d.fare_count d.rule_count held
     → AllZip (λ p q. (q.0 ≡ p.0) × (arc_value q.1 ≡ arc_value p.1)) sheets d.sheets.entries → AllZip (λ p q. (q.0 ≡ p.0) × (q.1 ≡ p.1)) rules d.rules.entries → d.uses.entries ≡ uses → drafted_seats d ≡ held → d.tables.entries ≡ [] → d.changed.keys ≡ []

@@ -7,3 +7,4 @@ pub mod Tables
 pub mod Drafts
 pub mod Ready
 pub mod Taking
+pub mod Opened

@@ -9,11 +9,13 @@ ghost use Rattle.fare_book.specs.Seating.{SeatsBook};
 ghost use Rattle.seat_classes.specs.Held.{seats_in};
 
 mod next;
+mod open_book;
 
 use crate::Timetable;
 use crate::keys::{Market, RuleKey};
 use crate::rows::row_of;
 use fare_law::{FareKey, Filing, List, MarketSheet, Mem, Place, Rule, Shared, SheetRow};
+pub use open_book::OpenBook;
 use seat_classes::{Seats, live_rows_seat_flights};
 use std::alloc::Global;
 use std::collections::HashMap;

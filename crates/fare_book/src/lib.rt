@@ -1,6 +1,7 @@
 //! Books: a timetable with the filings so far, and the fares, rules and seats that they leave. Books are
 //! made by `Book::empty` and `Book::with`, which takes a filing whole or refuses it with its first
-//! fault; sheets, fares and seats are found as the law defines them.
+//! fault; sheets, fares and seats are found as the law defines them. An `OpenBook` takes many filings
+//! without the versions between.
 #![tactic(auto)]
 
 mod book;
@@ -19,7 +20,7 @@ mod taking;
 mod timetable;
 mod uses;
 
-pub use book::Book;
+pub use book::{Book, OpenBook};
 pub use faults::BookFault;
 pub use laws::{one_fault_of_filings, one_fault_of_seats};
 pub use rules::copied_rule;

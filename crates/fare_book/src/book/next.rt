@@ -42,7 +42,7 @@ impl Book {
     }
 
     /// What the book has, before any action of a filing.
-    fn draft(&self, alloc: Global) -> Result<Draft, Mem>
+    pub(super) fn draft(&self, alloc: Global) -> Result<Draft, Mem>
         ensures { IfOk result (λ d. Drafts (filed self.now []) d) }
     {
         let sheets = self.sheets.clone()?;
@@ -113,7 +113,7 @@ fn with_entry(
 }
 
 /// The same entries.
-fn shared(alloc: Global, entries: &[Arc<Filing>]) -> Result<List<Arc<Filing>>, Mem>
+pub fn shared(alloc: Global, entries: &[Arc<Filing>]) -> Result<List<Arc<Filing>>, Mem>
     ensures { IfOk result (λ l. map arc_value l ≡ map arc_value entries.now) }
 {
     let mut all = List::new(alloc);
@@ -125,7 +125,11 @@ fn shared(alloc: Global, entries: &[Arc<Filing>]) -> Result<List<Arc<Filing>>, M
 }
 
 /// Seats that were changed, or else those that are shared.
-fn own_seats_or(alloc: Global, own: Option<Seats>, shared: Arc<Seats>) -> Result<Arc<Seats>, Mem>
+pub fn own_seats_or(
+    alloc: Global,
+    own: Option<Seats>,
+    shared: Arc<Seats>,
+) -> Result<Arc<Seats>, Mem>
     ensures { IfOk result (λ seats. arc_value seats ≡ own_or own (arc_value shared)) }
 {
     match own {
