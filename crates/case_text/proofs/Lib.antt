@@ -3,7 +3,6 @@ pub mod Digits
 pub mod Machine
 pub mod WeekdayBits
 pub mod Columns
-pub mod Counting
 pub mod Growing
 pub mod SectionCounts
 pub mod Feed

@@ -1,5 +1,4 @@
 pub mod Lines
-pub mod Parts
 pub mod Numbers
 pub mod Cut
 pub mod Marks

@@ -1,12 +1,11 @@
 //! Cutting a text into lines.
-ghost use Rattle.std.specs.Prelude.{◌≡◌, ◌==◌, ◌<◌, ◌+◌, ◌^◌, map, length, IfOk};
-ghost use Rattle.std.specs.List.{slice_split};
-ghost use Rattle.std.specs.Str.Lines.{strip_carriage_return};
+ghost use Rattle.std.specs.Prelude.{◌≡◌, ◌≢◌, ◌<◌, ◌≤◌, ◌+◌, ◌∷◌, ◌^◌, ℕ, map, length, slice_index, IfOk};
+ghost use Rattle.std.specs.Str.Lines.{lines as lines_of, strip_carriage_return};
 ghost use Rattle.case_text.specs.Lines.{text_lines, shown};
-ghost use Rattle.case_text.specs.Parts.{line_at, told};
 
 use fare_law::Mem;
-use std::alloc::{AllocError, Global};
+use memchr::memchr;
+use std::alloc::Global;
 
 /// A line of a text with its number, counted from 1.
 #[derive(Clone, Copy, Debug)]
@@ -15,50 +14,70 @@ pub struct Line<'a> {
     pub bytes: &'a [u8],
 }
 
+/// The lines of a text that aren't empty, and the number that a line after the last would have.
+#[derive(Drop)]
+pub struct NumberedLines<'a> {
+    pub lines: Vec<Line<'a>>,
+    pub next: u32,
+}
+
 /// The lines of a text that aren't empty, with their numbers. A line ends with LF, and one CR
 /// directly before it is dropped; bytes after the last LF are a line.
 pub fn case_lines(alloc: Global, bytes: &[u8]) -> Result<Vec<Line<'_>>, Mem>
     requires { length bytes.now + 1 < 2 ^ 32 }
     ensures { IfOk result (λ v. map shown v.items ≡ text_lines bytes.now) }
 {
-    let parts = parts(alloc, bytes)?;
-    number_lines(alloc, parts.as_slice())
-}
-
-#[tactic(auto, using(crate::proofs::Cutting::line_steps))]
-fn number_lines<'a>(alloc: Global, parts: &[&'a [u8]]) -> Result<Vec<Line<'a>>, Mem>
-    requires { length parts.now < 2 ^ 32 }
-    ensures { IfOk result (λ v. map shown v.items ≡ told 1 parts.now) }
-{
-    let mut lines = Vec::new(alloc);
-    for i in 0..parts.len() {
-        let bytes = nth_line(parts, i);
-        if !bytes.is_empty() {
-            let line = (i + 1) as u32;
-            lines.push(Line { line, bytes })?;
-        }
-    }
+    let NumberedLines { lines, .. } = numbered_lines(alloc, bytes)?;
     Ok(lines)
 }
 
-/// The line that a part is: where another follows, its CR is dropped.
-#[tactic(auto, using(crate::proofs::Cutting::line_places))]
-fn nth_line<'a>(parts: &[&'a [u8]], i: usize) -> &'a [u8]
-    requires { i < length parts.now }
-    ensures { result.now ≡ line_at parts.now i }
+/// The same, with the number after the last line.
+#[tactic(auto, using(crate::proofs::Cutting::line_steps))]
+pub fn numbered_lines(alloc: Global, bytes: &[u8]) -> Result<NumberedLines<'_>, Mem>
+    requires { length bytes.now + 1 < 2 ^ 32 }
+    ensures lines { IfOk result (λ found. map shown found.lines.items ≡ text_lines bytes.now) }
+    ensures next { IfOk result (λ found. found.next ≡ length (lines_of bytes.now) + 1) }
 {
-    if i + 1 < parts.len() {
-        stripped(parts[i])
+    let mut lines = Vec::new(alloc);
+    let mut next = 1;
+    let mut rest = bytes;
+    while !rest.is_empty() {
+        let (line, more) = first_line(rest);
+        if !line.is_empty() {
+            lines.push(Line {
+                line: next,
+                bytes: line,
+            })?;
+        }
+        next += 1;
+        rest = more;
+    }
+    Ok(NumberedLines { lines, next })
+}
+
+/// The first line of a text, and what follows it.
+fn first_line<'a>(text: &'a [u8]) -> (&'a [u8], &'a [u8])
+    requires { 0 < length text.now }
+    ensures lines { lines_of text.now ≡ result.0.now ∷ lines_of result.1.now }
+    ensures shorter { length result.1.now < length text.now }
+{
+    let end = line_end(text);
+    if end < text.len() {
+        let (line, _) = text.split_at(end);
+        let (_, rest) = text.split_at(end + 1);
+        (stripped(line), rest)
     } else {
-        parts[i]
+        (text, &[])
     }
 }
 
-/// The parts between the newlines.
-fn parts(alloc: Global, bytes: &[u8]) -> Result<Vec<&[u8]>, AllocError>
-    ensures { IfOk result (λ v. map (λ x. x.now) v.items ≡ slice_split (λ b. b == 10) bytes.now) }
+/// Where the first newline stands, or else the text ends.
+fn line_end(text: &[u8]) -> usize
+    ensures bound { result ≤ length text.now }
+    ensures clean { (k : ℕ) → k < result → slice_index text.now k ≢ 10 }
+    ensures stops { result < length text.now → slice_index text.now result ≡ 10 }
 {
-    bytes.split(|b| *b == 10).collect(alloc)
+    memchr(b'\n', text).unwrap_or(text.len())
 }
 
 /// Without the carriage return at its end.

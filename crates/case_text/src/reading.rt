@@ -1,17 +1,16 @@
 //! Reading a case.
-ghost use Rattle.std.specs.Prelude.{◌≡◌, ◌+◌, ◌<◌, ◌≤◌, ◌^◌, length, map, IfOk};
-ghost use Rattle.std.specs.Str.Lines.{lines as lines_of};
+ghost use Rattle.std.specs.Prelude.{◌+◌, ◌<◌, ◌^◌, length, map, IfOk};
 ghost use Rattle.case_text.specs.Entries as Entries;
 ghost use Rattle.case_text.specs.Gives.{Told};
 ghost use Rattle.case_text.specs.Limits.{HasRows, IsCase};
 ghost use Rattle.case_text.specs.Lines.{shown};
-ghost use Rattle.case_text.specs.Parts.{ends_at};
 ghost use Rattle.case_text.specs.Readers.{Awaits, row_text as row_text_of};
 
 use crate::feeding::{fields_ahead, row_text};
 use crate::judging::judged;
+use crate::lines::numbered_lines;
 use crate::standing::Standing;
-use crate::{Case, CaseFault, CaseKind, Line, case_lines};
+use crate::{Case, CaseFault, CaseKind, Line};
 use csv::{ByteRecord, Reader, ReaderBuilder};
 use std::alloc::Global;
 use std::io::Read;
@@ -24,32 +23,8 @@ pub fn sections(alloc: Global, bytes: &[u8], kind: CaseKind) -> Result<Case, Cas
     ensures told { Told result (Entries.case_of kind bytes.now) }
     ensures limits { IfOk result (IsCase kind) }
 {
-    let lines = case_lines(alloc, bytes)?;
-    let next = (line_count(bytes) + 1) as u32;
-    read_lines(alloc, kind, lines.as_slice(), next)
-}
-
-/// The number of lines, empty ones too.
-#[tactic(auto, using(crate::proofs::Counting::count_steps))]
-fn line_count(bytes: &[u8]) -> usize
-    ensures count { result ≡ length (lines_of bytes.now) }
-    ensures bound { result ≤ length bytes.now }
-{
-    let mut count = 0;
-    for i in 0..bytes.len() {
-        if ends_line(bytes, i) {
-            count += 1;
-        }
-    }
-    count
-}
-
-/// Whether the byte at this place ends a line: a newline does, and the last byte.
-fn ends_line(bytes: &[u8], i: usize) -> bool
-    requires { i < length bytes.now }
-    ensures { result ≡ ends_at bytes.now i }
-{
-    bytes[i] == b'\n' || i + 1 == bytes.len()
+    let found = numbered_lines(alloc, bytes)?;
+    read_lines(alloc, kind, found.lines.as_slice(), found.next)
 }
 
 /// The case that these lines spell, where `next` is the number of the line after the last.
