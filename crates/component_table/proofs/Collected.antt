@@ -1,19 +1,17 @@
 -- The flights of a path by their numbers, and their classes.
-use Rattle.std.proofs.Common.{◌≡◌, ◌↔◌, ℕ, zero, suc, ◌+◌, ◌-◌, ◌<◌, ◌≤◌, List, [], ◌∷◌, ◌++◌, length, take, get_or, slice_get, All, Option, Some, None, IsBitSet, bit_and, ◌^◌, refl, sym, ap, subst, ◌∙◌, arith}
+use Rattle.std.proofs.Common.{◌≡◌, ◌↔◌, ℕ, zero, suc, ◌+◌, ◌-◌, ◌<◌, ◌≤◌, List, [], ◌∷◌, ◌++◌, length, take, get_or, Option, Some, None, IsBitSet, bit_and, ◌^◌, refl, sym, ap, subst, ◌∙◌, arith}
 use Rattle.std.proofs.lemmas.List.Elements.{All-append, All-cons, All-nil, All-head, All-tail}
 use Rattle.std.proofs.Math.Seq.{take-suc}
-use Rattle.component_table.specs.Tables.{EndsAt, HasLegs}
+use Rattle.component_table.specs.Tables.{BeginsWith, EndsAt, HasLegs}
 use Rattle.fare_groups.specs.Groups.{HasClass}
 use Rattle.fare_groups.proofs.Bits.{both_set, classes_none}
 use Rattle.fare_law.specs.declared.flights.Flight.{Flight}
 use Rattle.fare_law.specs.declared.requests.Request.{Request}
 use Rattle.fare_law.specs.declared.sheets.Leg.{Leg}
 use Rattle.fare_law.specs.Book.{Book, flight_at, seats}
-use Rattle.fare_law.specs.Lists.{Matched, OnLast}
-use Rattle.fare_law.specs.Offers.{flights_of}
+use Rattle.fare_law.specs.Lists.{OnLast}
 use Rattle.fare_law.specs.Parts.{Numbers}
 use Rattle.residual_keys.specs.AskedKeys.{IsLeg}
-use Rattle.residual_keys.specs.Gathered.{AreLegs}
 use Rattle.residual_keys.proofs.Components.{legs_more, matched_more}
 
 class_last : (class : ℕ) (legs : List Leg) (leg : Leg) → HasClass class (legs ++ leg ∷ []) ↔ (HasClass class legs × IsBitSet leg.classes class)
@@ -104,3 +102,16 @@ last_number_ends b ns g h k = last_ends b ns (get_or ns (length ns - 1) 0) g (la
 -- a last number that is that of no flight
 pub last_unknown : (b : Book) (ns : List ℕ) (fs : List Flight) → 1 ≤ length ns → Numbers b ns fs → flight_at b (get_or ns (length ns - 1) 0) ≡ None → ⊥
 last_unknown b ns fs h m none = let k = number_known b ns fs (length ns - 1) m (omega (arith, h)) in not_both (flight_at b (get_or ns (length ns - 1) 0)) k.0 k.1 none
+
+-- the first number's flight has the carrier with which they begin
+pub first_begins : (b : Book) (ns : List ℕ) (g : Flight) → 1 ≤ length ns → flight_at b (get_or ns 0 0) ≡ Some g → BeginsWith b ns g.carrier
+first_begins b [] g h k fs m = absurd (omega (arith, h))
+first_begins b (n ∷ ns) g h k [] m = absurd m
+first_begins b (n ∷ ns) g h k (f ∷ fs) m = ap (λ (x : Flight). x.carrier) (some_is f g (sym m.0 ∙ k))
+  where
+    some_is : (x y : Flight) → Some x ≡ Some y → x ≡ y
+    some_is x y e = cc
+
+-- a first number that is that of no flight
+pub first_unknown : (b : Book) (ns : List ℕ) (fs : List Flight) → 1 ≤ length ns → Numbers b ns fs → flight_at b (get_or ns 0 0) ≡ None → ⊥
+first_unknown b ns fs h m none = let k = number_known b ns fs 0 m (omega (arith, h)) in not_both (flight_at b (get_or ns 0 0)) k.0 k.1 none

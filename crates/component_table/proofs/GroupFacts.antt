@@ -1,10 +1,10 @@
 -- A group that is put in on the flights of a path.
-use Rattle.std.proofs.Common.{◌≡◌, ◌≢◌, ℕ, ℤ, pos, ◌+◌, ◌≤◌, Bool, List, [], ◌∷◌, length, All, Option, Some, None, IsBitSet, refl, sym, ap, subst, ◌∙◌, arith}
+use Rattle.std.proofs.Common.{◌≡◌, ◌≢◌, ℕ, ℤ, pos, ◌+◌, ◌≤◌, Bool, List, [], ◌∷◌, length, All, Option, Some, None, IfSome, IsBitSet, slice_get, refl, sym, ap, subst, ◌∙◌, arith}
 use Rattle.std.proofs.lemmas.Int.{ints}
 use Rattle.std.proofs.lemmas.List.Elements.{All-head, All-tail}
 use Rattle.component_table.specs.declared.markets.Market.{Market}
 use Rattle.component_table.specs.declared.ways.Flown.{Flown}
-use Rattle.component_table.specs.Tables.{GroupDone, HasRow, IsEntry, IsOver, IsPathOver, IsRowOf, Lowered}
+use Rattle.component_table.specs.Tables.{GroupDone, HasAt, HasRow, IsBelow, IsEntry, IsOver, IsPathOver, IsRowOf, Lowered}
 use Rattle.component_table.proofs.Lower.{goes_lowered, goes_self}
 use Rattle.fare_groups.specs.declared.group.FareGroup.{FareGroup}
 use Rattle.fare_groups.specs.declared.group.GroupKey.{GroupKey}
@@ -118,6 +118,25 @@ module _ (b : Book) (q : Request) (at : Position) (flown : Flown) (reverse : Boo
     goes = goes_self b q at old;
     has = λ rule live permits least c. absurd (none (subst (λ x. Permits x g.key.carrier flown.flights) (some_one (live_rule b g.key.carrier g.key.number) rule row.rule live (rule_live row r)) permits));
   }
+
+  -- where the outline stands at no more than the least share, nothing is to be put in
+  pub group_below : (table : List Entry) (mine : ℕ) (o : Outline) (found : Option ℕ) → Cheapest flown.classes g.fares (Some mine) → OutlineOver o flown.path.now.after flown.flights g.key reverse → IfSome found (HasAt table o) → IsBelow table mine found → GroupDone b q at flown reverse g table table
+  group_below table mine o found cheap oo has low = record {
+    goes = goes_self b q at table;
+    has = λ rule live permits least c. (low.entry, got_in table low.at low.entry low.stands, subst (λ (z : Outline). OutlineOver z flown.path.now.after flown.flights g.key reverse) (sym outline) oo, sums least (extra_of rule flown.flights) (cheap_le least c));
+  }
+    where
+      there : HasAt table o low.at
+      there = subst (λ x. IfSome x (HasAt table o)) low.found_is has
+
+      outline : low.entry.outline ≡ o
+      outline = ap (λ (e : Entry). e.outline) (some_one (slice_get table low.at) low.entry there.entry low.stands there.stands) ∙ there.outline
+
+      cheap_le : (least : ℕ) → Cheapest flown.classes g.fares (Some least) → mine ≤ least
+      cheap_le least c = subst (λ n. mine ≤ n) c.costs (each_in (λ (f : GroupedFare). IsBitSet flown.classes f.class → mine ≤ f.share) g.fares c.fare cheap.below c.within c.open_class)
+
+      sums : (least extra : ℕ) → mine ≤ least → low.entry.price ≤ least + extra
+      sums least extra h = let k = low.below in omega (arith, h, k)
 
   pub group_had : IsPathOver b q at flown reverse m → (old new : List Entry) (row : SheetRow) (least charges : ℕ) (o : Outline) → IsRowOf m.sheet.value.rows g row → Cheapest flown.classes g.fares (Some least) → Permits row.rule g.key.carrier flown.flights → charges ≡ extra_of row.rule flown.flights
       → OutlineOver o flown.path.now.after flown.flights g.key reverse → Lowered (record { outline = o; rule = row.rule; price = least + charges }) old new → GroupDone b q at flown reverse g old new

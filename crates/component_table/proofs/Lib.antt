@@ -1,5 +1,9 @@
 pub mod Lower
+pub mod FareEnds
 pub mod GroupFacts
 pub mod PathFacts
+pub mod FiledFacts
 pub mod ReachFacts
+pub mod Served
 pub mod Collected
+pub mod MaskFacts

@@ -5,6 +5,7 @@ use Rattle.component_table.specs.declared.markets.Market.{Market}
 use Rattle.component_table.specs.declared.markets.MarketKey.{MarketKey}
 use Rattle.component_table.specs.declared.ways.Flown.{Flown}
 use Rattle.component_table.specs.Markets.{StandsAt}
+use Rattle.component_table.specs.Tails.{HasNoFares}
 use Rattle.component_table.specs.Tables.{EndsAt, GoesOn, GroupDone, HasGroup, HasPut, IsDone, IsEntry, IsOfPath, IsOver, IsPathFrom, IsPathOver, IsTable, MarketDone, PathAdded, PutsIn, WayDone}
 use Rattle.component_table.proofs.GroupFacts.{path_some}
 use Rattle.component_table.proofs.Lower.{goes_on, goes_self, has_group_on, path_done_on}
@@ -15,12 +16,12 @@ use Rattle.fare_law.specs.declared.flights.Flight.{Flight}
 use Rattle.fare_law.specs.declared.requests.Request.{Request}
 use Rattle.fare_law.specs.declared.names.Place.{Place}
 use Rattle.fare_law.specs.Book.{Book}
-use Rattle.fare_law.specs.Lists.{Each, IsIn, OnFirst, OnLast}
+use Rattle.fare_law.specs.Lists.{IsIn, OnFirst, OnLast}
 use Rattle.fare_law.specs.Parts.{Numbers}
 use Rattle.fare_law.specs.Sheets.{Sheet, SheetOf}
 use Rattle.flight_paths.specs.declared.positions.Path.{Path}
 use Rattle.flight_paths.specs.declared.positions.Position.{Position}
-use Rattle.flight_paths.specs.Heads.{AreReached, EndWanted, Saw}
+use Rattle.flight_paths.specs.Heads.{AreReached, Saw}
 use Rattle.flight_paths.specs.Positions.{Flies, IsPath}
 use Rattle.outlines.specs.declared.outline.Entry.{Entry}
 use Rattle.outlines.specs.ByGroups.{PathDone}
@@ -68,10 +69,11 @@ on_last_to P Q [] to h = absurd h
 on_last_to P Q (f ∷ []) to h = to f h
 on_last_to P Q (f ∷ g ∷ fs) to h = on_last_to P Q (g ∷ fs) to h
 
-ends_somewhere : (fs : List Flight) → (fs ≡ [] → ⊥) → EndWanted (λ p. true) fs
-ends_somewhere [] some = absurd (some refl)
-ends_somewhere (f ∷ []) some = refl
-ends_somewhere (f ∷ g ∷ fs) some = ends_somewhere (g ∷ fs) (λ e. absurd (cc))
+-- where some flights end
+ends_at : (fs : List Flight) → (fs ≡ [] → ⊥) → (place : Place) × OnLast (λ f. f.to ≡ place) fs
+ends_at [] some = absurd (some refl)
+ends_at (f ∷ []) some = (f.to, refl)
+ends_at (f ∷ g ∷ fs) some = ends_at (g ∷ fs) (λ e. absurd (cc))
 
 -- the numbers and the flights of a path
 module _ (b : Book) (q : Request) (at : Position) (ns : List ℕ) (fs : List Flight) (next : Option Position) where
@@ -150,12 +152,12 @@ module _ (b : Book) (q : Request) (at : Position) where
       both false = path_done_on b q at flown.path.now flown.flights false mid new back.goes.covers there.done
 
   -- a path to a place that no fare is filed to or from is done of itself
+  apart_done : (path : Path) (fs : List Flight) (place : Place) (table : List Entry) → HasNoFares b at.place place → IsPath b q.slices at path.flights fs path.after → OnLast (λ f. f.to ≡ place) fs → (reverse : Bool) → PathDone b q at path fs reverse table
+  apart_done path fs place table none is ends true = record { from = place; to = at.place; market = path_over b q at path.flights fs path.after place is ends true; done = inl none.1 }
+  apart_done path fs place table none is ends false = record { from = at.place; to = place; market = path_over b q at path.flights fs path.after place is ends false; done = inl none.0 }
+
   pub apart_added : (path : Path) (place : Place) (old : List Entry) → NoFare b at.place place → NoFare b place at.place → EndsAt b path.flights place → PathAdded b q at path old old
-  apart_added path place old there back ends = record { goes = goes_self b q at old; done = done }
-    where
-      done : IsDone b q at path old
-      done fs is true = record { from = place; to = at.place; market = path_over b q at path.flights fs path.after place is (ends fs (path_numbers b q at path.flights fs path.after is)) true; done = inl back }
-      done fs is false = record { from = at.place; to = place; market = path_over b q at path.flights fs path.after place is (ends fs (path_numbers b q at path.flights fs path.after is)) false; done = inl there }
+  apart_added path place old there back ends = record { goes = goes_self b q at old; done = λ fs is reverse. apart_done path fs place old (there, back) is (ends fs (path_numbers b q at path.flights fs path.after is)) reverse }
 
   -- a path of the position more
   pub put_more : (path : Path) (before : List Path) (old new : List Entry) → (IsPathFrom b q at path → PathAdded b q at path old new) → PutsIn (record { book = b; request = q; at = at; entries = old }) before → PutsIn (record { book = b; request = q; at = at; entries = new }) (before ++ path ∷ [])
@@ -173,17 +175,23 @@ module _ (b : Book) (q : Request) (at : Position) where
   pub put_none : PutsIn (record { book = b; request = q; at = at; entries = [] }) []
   put_none all = record { right = tt; done = λ x i. absurd i }
 
-  -- once all paths are put in, it is the position's table
-  pub table_put : (new : List Entry) (s : Saw (PutsIn (record { book = b; request = q; at = at; entries = [] })) (PutsIn (record { book = b; request = q; at = at; entries = new })) (AreReached b q.slices at (λ p. true))) → IsTable b q at new
-  table_put new s = record {
-    tabled = paths_tabled b q at new (in_each (λ (e : Entry). Outlined b q at e.outline e.price) new (λ e i. (each_in (IsEntry b q at) new e put.right i).outlined))
-        (λ path fs is reverse. put.done path (s.are.all path fs is (ends_somewhere fs (path_flights b q at path.flights fs path.after is))) fs is reverse);
+  -- once all paths that end at a wanted place are put in, it is the position's table, where no fare is filed to another place or from it
+  pub table_put : (new : List Entry) (wanted : Place → Bool) → ((place : Place) → wanted place ≡ false → HasNoFares b at.place place) → (s : Saw (PutsIn (record { book = b; request = q; at = at; entries = [] })) (PutsIn (record { book = b; request = q; at = at; entries = new })) (AreReached b q.slices at wanted)) → IsTable b q at new
+  table_put new wanted others s = record {
+    tabled = paths_tabled b q at new (in_each (λ (e : Entry). Outlined b q at e.outline e.price) new (λ e i. (each_in (IsEntry b q at) new e put.right i).outlined)) (λ path fs is reverse. done path fs is reverse (ends_at fs (path_flights b q at path.flights fs path.after is)));
     rules = in_each (HasRule b) new (λ e i. (each_in (IsEntry b q at) new e put.right i).rule);
     within = in_each EntryWithin new (λ e i. (each_in (IsEntry b q at) new e put.right i).within);
   }
     where
       put : HasPut (record { book = b; request = q; at = at; entries = new }) s.seen
       put = s.told [] put_none s.are.each
+
+      to_place : (path : Path) (fs : List Flight) → IsPath b q.slices at path.flights fs path.after → (reverse : Bool) (place : Place) → OnLast (λ f. f.to ≡ place) fs → (w : Bool) → wanted place ≡ w → PathDone b q at path fs reverse new
+      to_place path fs is reverse place ends true e = put.done path (s.are.all path fs is (on_last_to (λ f. f.to ≡ place) (λ f. wanted f.to ≡ true) fs (λ f k. ap wanted k ∙ e) ends)) fs is reverse
+      to_place path fs is reverse place ends false e = apart_done path fs place new (others place e) is ends reverse
+
+      done : (path : Path) (fs : List Flight) → IsPath b q.slices at path.flights fs path.after → (reverse : Bool) → (place : Place) × OnLast (λ f. f.to ≡ place) fs → PathDone b q at path fs reverse new
+      done path fs is reverse end = to_place path fs is reverse end.0 end.1 (wanted end.0) refl
 
   -- a position behind the request's slices has no path
   pub no_table : (length q.slices < suc at.slice) → IsTable b q at []
@@ -200,10 +208,12 @@ module _ (b : Book) (q : Request) (at : Position) (book : Book) (request : Reque
       subst (λ x. IsPathFrom x q at path → PathAdded x q at path old new) book_is
       (subst (λ x. IsPathFrom book x at path → PathAdded book x at path old new) request_is (subst (λ x. IsPathFrom book request x path → PathAdded book request x path old new) at_is h))
 
-  pub table_for : (new : List Entry) → Saw (PutsIn (record { book = b; request = q; at = at; entries = [] })) (PutsIn (record { book = b; request = q; at = at; entries = new })) (AreReached book request.slices position (λ p. true)) → IsTable book request position new
-  table_for new =
-      subst (λ x. Saw (PutsIn (record { book = b; request = q; at = at; entries = [] })) (PutsIn (record { book = b; request = q; at = at; entries = new })) (AreReached x request.slices position (λ p. true)) → IsTable x request position new) (sym book_is)
-      (subst (λ (y : Request). Saw (PutsIn (record { book = b; request = q; at = at; entries = [] })) (PutsIn (record { book = b; request = q; at = at; entries = new })) (AreReached b y.slices position (λ p. true)) → IsTable b y position new) (sym request_is) (subst (λ z. Saw (PutsIn (record { book = b; request = q; at = at; entries = [] })) (PutsIn (record { book = b; request = q; at = at; entries = new })) (AreReached b q.slices z (λ p. true)) → IsTable b q z new) (sym at_is) (table_put b q at new)))
+  pub table_for : (new : List Entry) (wanted : Place → Bool) → ((place : Place) → wanted place ≡ false → HasNoFares book position.place place)
+      → Saw (PutsIn (record { book = b; request = q; at = at; entries = [] })) (PutsIn (record { book = b; request = q; at = at; entries = new })) (AreReached book request.slices position wanted) → IsTable book request position new
+  table_for new wanted =
+      subst (λ x. ((place : Place) → wanted place ≡ false → HasNoFares x position.place place) → Saw (PutsIn (record { book = b; request = q; at = at; entries = [] })) (PutsIn (record { book = b; request = q; at = at; entries = new })) (AreReached x request.slices position wanted) → IsTable x request position new) (sym book_is)
+      (subst (λ (y : Request). ((place : Place) → wanted place ≡ false → HasNoFares b position.place place) → Saw (PutsIn (record { book = b; request = q; at = at; entries = [] })) (PutsIn (record { book = b; request = q; at = at; entries = new })) (AreReached b y.slices position wanted) → IsTable b y position new) (sym request_is)
+      (subst (λ (z : Position). ((place : Place) → wanted place ≡ false → HasNoFares b z.place place) → Saw (PutsIn (record { book = b; request = q; at = at; entries = [] })) (PutsIn (record { book = b; request = q; at = at; entries = new })) (AreReached b q.slices z wanted) → IsTable b q z new) (sym at_is) (table_put b q at new wanted)))
 
 pub got_lt : {X : Type 0} (xs : List X) (n : ℕ) (x : X) → slice_get xs n ≡ Some x → n < length xs
 got_lt [] n x e = absurd (cc)

@@ -1,17 +1,21 @@
 -- A table as it grows: what it has stands there at no more, and each group of a path's market is put in.
-use Rattle.std.specs.Prelude.{◌≡◌, ◌≢◌, ◌⊎◌, ◌↔◌, ℕ, ◌+◌, ◌≤◌, ◌<◌, Bool, List, [], length, slice_get, Some, All, IsBitSet}
+use Rattle.std.specs.Prelude.{◌≡◌, ◌≢◌, ◌⊎◌, ◌↔◌, ℕ, ◌+◌, ◌≤◌, ◌<◌, Bool, List, [], length, slice_get, Option, Some, All, IsBitSet}
 use Rattle.std.specs.Int.{IsInRange}
 use Rattle.component_table.specs.declared.ends.Reach.{Reach}
 use Rattle.component_table.specs.declared.markets.Market.{Market}
+use Rattle.component_table.specs.declared.masks.Masks.{Masks}
 use Rattle.component_table.specs.declared.ways.Flown.{Flown}
+use Rattle.component_table.specs.declared.ways.Serving.{Serving}
 use Rattle.component_table.specs.Markets.{IsMarket}
-use Rattle.component_table.specs.Reaches.{IsReach}
+use Rattle.component_table.specs.Masks.{AreMasks}
+use Rattle.component_table.specs.Reaches.{IsReach, StandBetween}
 use Rattle.fare_book.specs.Keeping.{Limited}
 use Rattle.fare_groups.specs.declared.group.FareGroup.{FareGroup}
 use Rattle.fare_groups.specs.declared.group.GroupedFare.{GroupedFare}
 use Rattle.fare_groups.specs.Grouping.{Cheapest}
 use Rattle.fare_groups.specs.Groups.{HasClass, Permits, extra_of, group_of}
 use Rattle.fare_law.specs.declared.flights.Flight.{Flight}
+use Rattle.fare_law.specs.declared.names.Carrier.{Carrier}
 use Rattle.fare_law.specs.declared.names.Place.{Place}
 use Rattle.fare_law.specs.declared.requests.Request.{Request}
 use Rattle.fare_law.specs.declared.rules.Rule.{Rule}
@@ -19,7 +23,7 @@ use Rattle.fare_law.specs.declared.sheets.Leg.{Leg}
 use Rattle.fare_law.specs.declared.sheets.SheetRow.{SheetRow}
 use Rattle.fare_law.specs.Book.{Book, live_rule}
 use Rattle.fare_law.specs.Limits.{IsFlight}
-use Rattle.fare_law.specs.Lists.{Each, IsIn, OnLast}
+use Rattle.fare_law.specs.Lists.{Each, IsIn, OnFirst, OnLast}
 use Rattle.fare_law.specs.Parts.{Numbers}
 use Rattle.flight_paths.specs.declared.positions.Path.{Path}
 use Rattle.flight_paths.specs.declared.positions.Position.{Position}
@@ -43,6 +47,14 @@ pub record HasBelow (entries : List Entry) (o : Outline) (price : ℕ) : Type 0 
   pub entry : Entry
   pub within : IsIn entry entries
   pub outline : entry.outline ≡ o
+  pub below : entry.price ≤ price
+
+-- an entry was found that costs no more than this
+pub record IsBelow (entries : List Entry) (price : ℕ) (found : Option ℕ) : Type 0 where
+  pub at : ℕ
+  pub found_is : found ≡ Some at
+  pub entry : Entry
+  pub stands : slice_get entries at ≡ Some entry
   pub below : entry.price ≤ price
 
 -- each outline that stood there stands there still, at no more
@@ -89,9 +101,19 @@ pub record IsOver (b : Book) (q : Request) (flown : Flown) (m : Market) : Type 0
   pub market_is : IsMarket b m
   pub limited : Limited b
 
+-- the first of the flights of these numbers is of this carrier
+abbrev pub BeginsWith : Book → List ℕ → Carrier → Type 0
+BeginsWith b ns carrier = (fs : List Flight) → Numbers b ns fs → OnFirst (λ f. f.carrier ≡ carrier) fs
+
 -- the last of the flights of these numbers arrives at this place
 abbrev pub EndsAt : Book → List ℕ → Place → Type 0
 EndsAt b ns place = (fs : List Flight) → Numbers b ns fs → OnLast (λ f. f.to ≡ place) fs
+
+-- All groups of the first flight's carrier stand where it is served.
+pub record IsServed (fs : List Flight) (s : Serving) : Type 0 where
+  pub carrier : Carrier
+  pub first : OnFirst (λ f. f.carrier ≡ carrier) fs
+  pub groups : StandBetween s.market.now.groups carrier s.filed
 
 -- the flights are those of their path, which is one of the position
 abbrev pub IsOfPath : Book → Request → Position → Flown → Type 0
@@ -140,12 +162,13 @@ pub record PathAdded (b : Book) (q : Request) (at : Position) (path : Path) (old
   pub goes : GoesOn b q at old new
   pub done : IsDone b q at path new
 
--- What puts paths of a position into its table has this book, request and position, and the markets between its place and others.
-pub record IsPutting (b : Book) (q : Request) (at : Position) (book : Book) (request : Request) (position : Position) (r : Reach) : Type 0 where
+-- What puts paths of a position into its table has this book, request and position, the markets between its place and others, and masks of flights.
+pub record IsPutting (b : Book) (q : Request) (at : Position) (book : Book) (request : Request) (position : Position) (r : Reach) (ms : Masks) : Type 0 where
   pub book_is : book ≡ b
   pub request_is : request ≡ q
   pub at_is : position ≡ at
   pub reach : IsReach book position.place r
+  pub masks : AreMasks book request ms
 
 -- A table of a position as it is made.
 pub record Put : Type 0 where

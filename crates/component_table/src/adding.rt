@@ -1,16 +1,21 @@
 //! The paths of a position and the groups of fares over them, put into its table.
-ghost use Rattle.std.specs.Prelude.{◌≡◌, ◌≢◌, ◌≤◌, ◌+◌, [], length, IsTrue, None, OnOk};
+ghost use Rattle.std.specs.Prelude.{◌≡◌, ◌≢◌, ◌<◌, ◌≤◌, ◌+◌, [], List as Items, length, slice_get, IsTrue, OnOk, Some};
 ghost use Rattle.component_table.specs.Markets.{AreMarkets};
-ghost use Rattle.component_table.specs.Reaches.{IsEnd, IsReach, market_of};
-ghost use Rattle.component_table.specs.Tables.{EndsAt, GroupDone, HasRow, IsFlown, IsOfPath, IsOver, IsPathFrom, IsPathOver, IsRowOf, MarketDone, PathAdded, WayDone};
-ghost use Rattle.fare_law.specs.Lists.{IsIn, OnLast};
+ghost use Rattle.component_table.specs.Masks.{AreMasks};
+ghost use Rattle.component_table.specs.Reaches.{IsEnd, IsReach, IsUnserved, filed_of};
+ghost use Rattle.component_table.specs.Tables.{BeginsWith, EndsAt, GroupDone, HasLegs, HasRow, IsFlown, IsOfPath, IsOver, IsPathFrom, IsPathOver, IsRowOf, IsServed, MarketDone, PathAdded, WayDone};
+ghost use Rattle.fare_law.specs.declared.flights.Flight.{Flight as DatedFlight};
+ghost use Rattle.fare_law.specs.Lists.{IsIn, OnFirst, OnLast};
+ghost use Rattle.fare_law.specs.Parts.{Numbers};
 ghost use Rattle.outlines.specs.ByGroups.{OutlineOver};
 
-use crate::ends::{End, Reach};
-use crate::gathering::{classes_of, end_of, flights_of};
-use crate::growing::Growing;
+use crate::ends::{End, EndKey, Reach};
+use crate::filed::Filed;
+use crate::gathering::{carrier_of, end_of, flights_of};
+use crate::growing::{ClassKey, Growing};
 use crate::markets::Market;
-use crate::ways::{Flown, Origin};
+use crate::masks::Masks;
+use crate::ways::{Flown, Origin, Serving};
 use fare_groups::{FareGroup, GroupKey, extra};
 use fare_law::{Flight, MarketSheet, Mem, SheetRow};
 use flight_paths::{Path, Position};
@@ -21,53 +26,76 @@ use rule_unit::rules_stay_in_range;
 use std::alloc::Global;
 
 /// Puts a path into the table, with the fares that are filed from its beginning to its end, and those in
-/// reverse. A path whose end has no market is looked at no further.
+/// reverse. A path whose first carrier has no fare there is looked at no further.
 pub fn add_path(
     alloc: Global,
     table: &mut Growing,
     reach: &mut Reach,
+    masks: &mut Masks,
     origin: &Origin,
     path: &Path,
 ) -> Result<(), Mem>
     requires reach { IsReach origin.now.book.now origin.now.at.now.place reach.old }
+    requires masks { AreMasks origin.now.book.now origin.now.request.now masks.old }
     ensures reach { IsReach origin.now.book.now origin.now.at.now.place reach.new }
+    ensures masks { AreMasks origin.now.book.now origin.now.request.now masks.new }
     ensures done { OnOk result (IsPathFrom origin.now.book.now origin.now.request.now origin.now.at.now path.now → PathAdded origin.now.book.now origin.now.request.now origin.now.at.now path.now table.old.entries.items table.new.entries.items) }
 {
-    let Some(place) = end_of(origin.book, path.flights.as_slice()) else {
+    let numbers = path.flights.as_slice();
+    let Some(place) = end_of(origin.book, numbers) else {
         return Ok(());
     };
-    let end = reach.find(alloc, origin.book, origin.at.place, place)?;
-    if is_apart(&end) {
+    let Some(carrier) = carrier_of(origin.book, numbers) else {
+        return Ok(());
+    };
+    origin.book.limits();
+    let key = EndKey { place, carrier };
+    let end = reach.find(alloc, origin.book, origin.at.place, key)?;
+    let classes = masks.classes_of(origin.book, origin.request, numbers)?;
+    if is_unserved(&end) {
         return Ok(());
     }
-    add_both(table, origin, reach.markets.kept.as_slice(), path, &end)
+    let markets = reach.markets.kept.as_slice();
+    add_both(table, origin, markets, path, classes, &end)
 }
 
-/// Whether no fare is filed to this end or from it.
-fn is_apart(end: &End) -> bool
-    ensures { IsTrue result → (end.now.there ≡ None) × (end.now.back ≡ None) }
+/// Whether the carrier has no fare to this end or from it.
+fn is_unserved(end: &End) -> bool
+    ensures { IsTrue result → IsUnserved end.now.there × IsUnserved end.now.back }
 {
-    matches!((end.there, end.back), (None, None))
+    has_none(end.there) && has_none(end.back)
 }
 
-/// Puts in a path whose end has a market.
+/// Whether the carrier has no group there.
+fn has_none(filed: Option<Filed>) -> bool
+    ensures { IsTrue result → IsUnserved filed }
+{
+    match filed {
+        Some(filed) => filed.to <= filed.from,
+        None => true,
+    }
+}
+
+/// Puts in a path of a carrier that has fares to its end or from it. These classes are open in each of its flights.
 fn add_both(
     table: &mut Growing,
     origin: &Origin,
     markets: &[Market],
     path: &Path,
+    classes: u32,
     end: &End,
 ) -> Result<(), Mem>
     requires markets { AreMarkets origin.now.book.now markets.now }
     requires end { IsEnd origin.now.book.now origin.now.at.now.place markets.now end.now }
     requires some { 1 ≤ length path.now.flights }
-    requires ends { EndsAt origin.now.book.now path.now.flights end.now.place }
+    requires classes { (fs : Items DatedFlight) → Numbers origin.now.book.now path.now.flights fs → HasLegs origin.now.book.now origin.now.request.now fs classes }
+    requires begins { BeginsWith origin.now.book.now path.now.flights end.now.key.carrier }
+    requires ends { EndsAt origin.now.book.now path.now.flights end.now.key.place }
     ensures { OnOk result (IsPathFrom origin.now.book.now origin.now.request.now origin.now.at.now path.now → PathAdded origin.now.book.now origin.now.request.now origin.now.at.now path.now table.old.entries.items table.new.entries.items) }
 {
     let Some(flights) = flights_of(origin.book, path.flights.as_slice()) else {
         return Ok(());
     };
-    let classes = classes_of(origin.book, origin.request, flights.as_slice());
     let flown = Flown {
         path,
         flights,
@@ -89,18 +117,34 @@ fn add_way(
     requires markets { AreMarkets origin.now.book.now markets.now }
     requires end { IsEnd origin.now.book.now origin.now.at.now.place markets.now end.now }
     requires flown { IsFlown origin.now.book.now origin.now.request.now flown.now }
-    ensures { OnOk result (IsOfPath origin.now.book.now origin.now.request.now origin.now.at.now flown.now → OnLast (λ f. f.to ≡ end.now.place) flown.now.flights → WayDone origin.now.book.now origin.now.request.now origin.now.at.now flown.now.path.now flown.now.flights reverse table.old.entries.items table.new.entries.items) }
+    ensures { OnOk result (IsOfPath origin.now.book.now origin.now.request.now origin.now.at.now flown.now → OnFirst (λ f. f.carrier ≡ end.now.key.carrier) flown.now.flights → OnLast (λ f. f.to ≡ end.now.key.place) flown.now.flights → WayDone origin.now.book.now origin.now.request.now origin.now.at.now flown.now.path.now flown.now.flights reverse table.old.entries.items table.new.entries.items) }
 {
     origin.book.limits();
-    match market_of(end, reverse) {
-        Some(at) => add_market(table, origin, flown, reverse, &markets[at]),
+    match filed_of(end, reverse) {
+        Some(filed) => {
+            let market = market_at(markets, filed.market);
+            let serving = Serving {
+                market,
+                filed,
+                reverse,
+            };
+            add_market(table, origin, flown, &serving)
+        }
         None => Ok(()),
     }
 }
 
-/// Where the market stands of the fares that are filed this way.
-fn market_of(end: &End, reverse: bool) -> Option<usize>
-    ensures { result ≡ market_of end.now reverse }
+/// The market at a place.
+fn market_at(markets: &[Market], at: usize) -> &Market
+    requires { at < length markets.now }
+    ensures { slice_get markets.now at ≡ Some result.now }
+{
+    &markets[at]
+}
+
+/// Where the carrier's groups stand that are filed this way.
+fn filed_of(end: &End, reverse: bool) -> Option<Filed>
+    ensures { result ≡ filed_of end.now reverse }
 {
     if reverse { end.back } else { end.there }
 }
@@ -110,30 +154,53 @@ fn add_market(
     table: &mut Growing,
     origin: &Origin,
     flown: &Flown,
-    reverse: bool,
-    market: &Market,
+    serving: &Serving,
 ) -> Result<(), Mem>
-    requires { IsOver origin.now.book.now origin.now.request.now flown.now market.now }
-    ensures { OnOk result (IsPathOver origin.now.book.now origin.now.request.now origin.now.at.now flown.now reverse market.now → MarketDone origin.now.book.now origin.now.request.now origin.now.at.now flown.now reverse market.now table.old.entries.items table.new.entries.items) }
+    requires over { IsOver origin.now.book.now origin.now.request.now flown.now serving.now.market.now }
+    requires within { serving.now.filed.to ≤ length serving.now.market.now.groups }
+    ensures { OnOk result (IsPathOver origin.now.book.now origin.now.request.now origin.now.at.now flown.now serving.now.reverse serving.now.market.now → IsServed flown.now.flights serving.now → MarketDone origin.now.book.now origin.now.request.now origin.now.at.now flown.now serving.now.reverse serving.now.market.now table.old.entries.items table.new.entries.items) }
 {
-    for group in market.groups.as_slice() {
-        add_group(table, origin, flown, reverse, market, group)?;
+    let from = serving.filed.from;
+    let to = serving.filed.to;
+    if to <= from {
+        return Ok(());
+    }
+    let key = class_of(flown, serving.reverse);
+    let begin = table.class(key, to - from)?;
+    let groups = serving.market.groups.as_slice();
+    for at in from..to {
+        let slot = begin.saturating_add(at - from);
+        add_group(table, origin, flown, serving, &groups[at], slot)?;
     }
     Ok(())
 }
 
-/// Puts in a group of a market, where its rule permits the flights and it has a fare in an open class.
+/// The class of a path, one way.
+fn class_of(flown: &Flown, reverse: bool) -> ClassKey
+    requires { flown.now.flights ≢ [] }
+{
+    let flights = flown.flights.as_slice();
+    ClassKey::of(
+        &flown.path.after,
+        first_of(flights),
+        last_of(flights),
+        reverse,
+    )
+}
+
+/// Puts in a group of a market, where its rule permits the flights and it has a fare in an open class. The rule need
+/// not be asked where the outline stands already at no more than the share, since it only adds charges.
 fn add_group(
     table: &mut Growing,
     origin: &Origin,
     flown: &Flown,
-    reverse: bool,
-    market: &Market,
+    serving: &Serving,
     group: &FareGroup,
+    slot: usize,
 ) -> Result<(), Mem>
-    requires over { IsOver origin.now.book.now origin.now.request.now flown.now market.now }
-    requires group { IsIn group.now market.now.groups }
-    ensures { OnOk result (IsPathOver origin.now.book.now origin.now.request.now origin.now.at.now flown.now reverse market.now → GroupDone origin.now.book.now origin.now.request.now origin.now.at.now flown.now reverse group.now table.old.entries.items table.new.entries.items) }
+    requires over { IsOver origin.now.book.now origin.now.request.now flown.now serving.now.market.now }
+    requires group { IsIn group.now serving.now.market.now.groups }
+    ensures { OnOk result (IsPathOver origin.now.book.now origin.now.request.now origin.now.at.now flown.now serving.now.reverse serving.now.market.now → GroupDone origin.now.book.now origin.now.request.now origin.now.at.now flown.now serving.now.reverse group.now table.old.entries.items table.new.entries.items) }
 {
     origin.book.limits();
     limits_are_met();
@@ -141,15 +208,19 @@ fn add_group(
     let Some(share) = group.cheapest(flown.classes) else {
         return Ok(());
     };
-    let sheet: &MarketSheet = &market.sheet;
-    let row = first_row(sheet, group);
     let flights = flown.flights.as_slice();
+    let outline = outline_over(&flown.path.after, flights, group.key, serving.reverse);
+    let found = table.find(slot, &outline);
+    if table.is_below(found, share) {
+        return Ok(());
+    }
+    let sheet: &MarketSheet = &serving.market.sheet;
+    let row = first_row(sheet, group);
     let Some(charges) = extra(&row.rule, group.key.carrier, flights) else {
         return Ok(());
     };
-    let outline = outline_over(&flown.path.after, flights, group.key, reverse);
     let price = sum(share, charges);
-    table.lower(&outline, &row.rule, price)
+    table.put(found, slot, &outline, &row.rule, price)
 }
 
 /// A share with the charges of a rule.

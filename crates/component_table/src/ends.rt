@@ -1,20 +1,29 @@
 //! The markets between the place of a position and the ends of its paths, found as they are asked for.
-ghost use Rattle.std.specs.Prelude.{IfOk, IfSome};
+ghost use Rattle.std.specs.Prelude.{◌≡◌, ◌↔◌, IfOk, IfSome, IsTrue};
 ghost use Rattle.component_table.specs.Markets.{AreMarkets};
 ghost use Rattle.component_table.specs.Reaches.{IsEndAt, IsKnown, IsReach};
 
+use crate::filed::{Filed, filed_at};
 use crate::markets::{MarketKey, Markets};
 use fare_book::Book;
-use fare_law::{Mem, Place};
+use fare_law::{Carrier, Mem, Place};
 use indexmap::IndexMap;
 use std::alloc::Global;
 
-/// An end of paths: where the markets stand of the fares that are filed to it, and from it.
+/// What an end of paths is asked for by: its place, and the carrier of the first flight.
+#[derive(Clone, Copy, PartialEq, Eq, Debug)]
+pub struct EndKey {
+    pub place: Place,
+    pub carrier: Carrier,
+}
+
+/// An end of paths that begin with a carrier: where the carrier's groups stand of the fares that are filed to it, and
+/// from it. None where no carrier has any.
 #[derive(Clone, Copy, PartialEq, Eq, Debug)]
 pub struct End {
-    pub place: Place,
-    pub there: Option<usize>,
-    pub back: Option<usize>,
+    pub key: EndKey,
+    pub there: Option<Filed>,
+    pub back: Option<Filed>,
 }
 
 /// Markets, and the ends that were asked for of one place.
@@ -22,8 +31,24 @@ pub struct End {
 pub struct Reach {
     pub markets: Markets,
     pub ends: Vec<End>,
-    /// Where an end may stand.
-    pub places: IndexMap<Place, usize>,
+    /// Where an end may stand, by the letters of its place and carrier.
+    pub places: IndexMap<u64, usize>,
+}
+
+impl EndKey {
+    /// Whether it is the same key.
+    fn is(self, other: EndKey) -> bool
+        ensures { IsTrue result ↔ (self ≡ other) }
+    {
+        self.place.is(other.place) && self.carrier.is(other.carrier)
+    }
+
+    /// The letters, as one number.
+    fn letters(self) -> u64 {
+        let [a, b, c] = self.place.0;
+        let [d, e] = self.carrier.0;
+        u64::from_le_bytes([a, b, c, d, e, 0, 0, 0])
+    }
 }
 
 impl Reach {
@@ -40,43 +65,44 @@ impl Reach {
         }
     }
 
-    /// The end at a place, seen from another.
-    pub fn find(&mut self, alloc: Global, book: &Book, from: Place, to: Place) -> Result<End, Mem>
+    /// An end, seen from a place.
+    pub fn find(&mut self, alloc: Global, book: &Book, from: Place, key: EndKey) -> Result<End, Mem>
         requires { IsReach book.now from self.old }
         ensures reach { IsReach book.now from self.new }
-        ensures end { IfOk result (IsEndAt book.now from to self.new.markets.kept.items) }
+        ensures end { IfOk result (IsEndAt book.now from key self.new.markets.kept.items) }
     {
-        if let Some(end) = known(self.ends.as_slice(), &self.places, to) {
+        if let Some(end) = known(self.ends.as_slice(), &self.places, key) {
             return Ok(end);
         }
-        self.add(alloc, book, from, to)
+        self.add(alloc, book, from, key)
     }
 
     /// Adds an end.
-    fn add(&mut self, alloc: Global, book: &Book, from: Place, to: Place) -> Result<End, Mem>
+    fn add(&mut self, alloc: Global, book: &Book, from: Place, key: EndKey) -> Result<End, Mem>
         requires { IsReach book.now from self.old }
         ensures reach { IsReach book.now from self.new }
-        ensures end { IfOk result (IsEndAt book.now from to self.new.markets.kept.items) }
+        ensures end { IfOk result (IsEndAt book.now from key self.new.markets.kept.items) }
     {
+        let to = key.place;
         let there = self.markets.find(alloc, book, MarketKey { from, to })?;
-        let key = MarketKey { from: to, to: from };
-        let back = self.markets.find(alloc, book, key)?;
-        let end = End {
-            place: to,
-            there,
-            back,
-        };
-        self.places.insert(to, self.ends.len())?;
+        let back = self
+            .markets
+            .find(alloc, book, MarketKey { from: to, to: from })?;
+        let kept = self.markets.kept.as_slice();
+        let there = filed_at(kept, there, key.carrier);
+        let back = filed_at(kept, back, key.carrier);
+        let end = End { key, there, back };
+        self.places.insert(key.letters(), self.ends.len())?;
         self.ends.push(end)?;
         Ok(end)
     }
 }
 
-/// The end of a place, if it is known.
-fn known(ends: &[End], places: &IndexMap<Place, usize>, place: Place) -> Option<End>
-    ensures { IfSome result (IsKnown ends.now place) }
+/// An end, if it is known.
+fn known(ends: &[End], places: &IndexMap<u64, usize>, key: EndKey) -> Option<End>
+    ensures { IfSome result (IsKnown ends.now key) }
 {
-    let at = places.get(&place).copied()?;
+    let at = places.get(&key.letters()).copied()?;
     let end = *ends.get(at)?;
-    if end.place.is(place) { Some(end) } else { None }
+    if end.key.is(key) { Some(end) } else { None }
 }

@@ -1,13 +1,13 @@
 //! What is known of the flights of a path.
 ghost use Rattle.std.specs.Prelude.{◌≡◌, ◌≢◌, ◌≤◌, [], All, IfNone, IfSome, List as Items, length, slice_get};
-ghost use Rattle.component_table.specs.Tables.{EndsAt, HasLegs};
+ghost use Rattle.component_table.specs.Tables.{BeginsWith, EndsAt};
 ghost use Rattle.fare_law.specs.declared.flights.Flight.{Flight as DatedFlight};
 ghost use Rattle.fare_law.specs.Limits.{IsFlight};
 ghost use Rattle.fare_law.specs.Parts.{Numbers};
 ghost use Rattle.flight_paths.specs.Plans.{HasPlan};
 
 use fare_book::Book;
-use fare_law::{ArrayVec, Flight, Place, Request};
+use fare_law::{ArrayVec, Carrier, Flight, Place};
 use schedule_book::Schedule;
 
 /// The places and the flights of a book.
@@ -18,7 +18,7 @@ pub fn schedule_of(book: &Book) -> &Schedule
 }
 
 /// The flight of this number, if there is one.
-fn flight_of(all: &[Flight], number: u32) -> Option<Flight>
+pub fn flight_of(all: &[Flight], number: u32) -> Option<Flight>
     ensures { result ≡ slice_get all.now number }
 {
     all.get(number as usize).copied()
@@ -40,6 +40,22 @@ pub fn end_of(book: &Book, numbers: &[u32]) -> Option<Place>
     }
 }
 
+/// The carrier of the first of the flights of these numbers. None where there is no number, or the first is that of
+/// no flight.
+pub fn carrier_of(book: &Book, numbers: &[u32]) -> Option<Carrier>
+    ensures some { IfSome result (BeginsWith book.now numbers.now) }
+    ensures none { IfNone result ((fs : Items DatedFlight) → Numbers book.now numbers.now fs → numbers.now ≢ [] → ⊥) }
+{
+    let all = schedule_of(book).flights();
+    match numbers {
+        [first, ..] => match flight_of(all, *first) {
+            Some(flight) => Some(flight.carrier),
+            None => None,
+        },
+        [] => None,
+    }
+}
+
 /// The flights of these numbers. None where a number is that of no flight.
 pub fn flights_of(book: &Book, numbers: &[u32]) -> Option<ArrayVec<Flight, 4>>
     requires { length numbers.now ≤ 4 }
@@ -55,16 +71,4 @@ pub fn flights_of(book: &Book, numbers: &[u32]) -> Option<ArrayVec<Flight, 4>>
         }
     }
     Some(flights)
-}
-
-/// The classes that are open for the party in each of these flights.
-pub fn classes_of(book: &Book, request: &Request, flights: &[Flight]) -> u32
-    ensures { HasLegs book.now request.now flights.now result }
-{
-    let seats = book.seats();
-    let mut classes = u32::MAX;
-    for flight in flights {
-        classes &= seats.mask(flight, request.party);
-    }
-    classes
 }

@@ -1,51 +1,68 @@
 //! A table as it grows, entry by entry.
 ghost use Rattle.std.specs.Prelude.{◌≡◌, ◌↔◌, ◌≤◌, [], IfSome, IsTrue, OnOk, Some, slice_get};
-ghost use Rattle.component_table.specs.Tables.{HasAt, Lowered};
+ghost use Rattle.component_table.specs.Tables.{HasAt, IsBelow, Lowered};
 
-use fare_law::{Carrier, FareKind, Mem, Place, Rule, Shared};
+use fare_law::{FareKind, Flight, Mem, Place, Rule, Shared};
 use flight_paths::Position;
 use indexmap::IndexMap;
 use outlines::{Entry, Outline};
 use std::alloc::Global;
 
-/// What an outline is looked up by.
+/// What the paths of a class have in common: where they lead, where and when they begin and end, the carrier of their
+/// first flight, and which way the fares are filed. It is packed into numbers, by which places are looked up.
 #[derive(Clone, Copy, PartialEq, Eq, Hash, Debug)]
-pub struct OutlineKey {
-    pub after: Option<Position>,
-    pub end: Place,
-    pub first: i32,
-    pub last: i32,
-    pub carrier: Carrier,
-    pub number: u16,
-    pub kind: u8,
-    pub reverse: bool,
+pub struct ClassKey {
+    range: u64,
+    places: u64,
+    ends: u64,
+    first: i32,
+    last: i32,
 }
 
-impl OutlineKey {
-    fn of(outline: &Outline) -> OutlineKey {
-        OutlineKey {
-            after: outline.after,
-            end: outline.end,
-            first: outline.first,
-            last: outline.last,
-            carrier: outline.carrier,
-            number: outline.number,
-            kind: match outline.kind {
-                FareKind::O => 0,
-                FareKind::R => 1,
-                FareKind::S => 2,
-            },
-            reverse: outline.reverse,
+impl ClassKey {
+    /// The class of the paths over these flights, one way.
+    pub fn of(after: &Option<Position>, first: &Flight, last: &Flight, reverse: bool) -> ClassKey {
+        let [a, b, c] = last.to.0;
+        let [d, e] = first.carrier.0;
+        ClassKey {
+            range: range_of(after),
+            places: places_of(after),
+            ends: u64::from_le_bytes([a, b, c, d, e, u8::from(reverse), 0, 0]),
+            first: first.day,
+            last: last.day,
         }
     }
+}
+
+/// The range of a position, as one number.
+fn range_of(after: &Option<Position>) -> u64 {
+    match after {
+        Some(position) => u64::from(position.lo) << 32 | u64::from(position.hi),
+        None => u64::MAX,
+    }
+}
+
+/// What else a position has, as one number.
+fn places_of(after: &Option<Position>) -> u64 {
+    let Some(position) = after else {
+        return u64::MAX;
+    };
+    let [a, b, c] = position.place.0;
+    let [d, e, f] = match position.via {
+        Some(via) => via.0,
+        None => [0; 3],
+    };
+    u64::from_le_bytes([a, b, c, d, e, f, position.slice, position.leg])
 }
 
 /// The entries so far.
 #[derive(Drop)]
 pub struct Growing {
     pub entries: Vec<Entry>,
-    /// Where an outline may stand.
-    pub places: IndexMap<OutlineKey, usize>,
+    /// Where the slots of a class may begin.
+    pub classes: IndexMap<ClassKey, usize>,
+    /// Where an entry may stand.
+    pub slots: Vec<usize>,
 }
 
 impl Growing {
@@ -55,26 +72,79 @@ impl Growing {
     {
         Growing {
             entries: Vec::new(alloc),
-            places: IndexMap::new(alloc),
+            classes: IndexMap::new(alloc),
+            slots: Vec::new(alloc),
         }
     }
 
-    /// Puts an outline in at a price. Where it stands, the lesser price stays.
-    pub fn lower(&mut self, outline: &Outline, rule: &Shared<Rule>, price: u64) -> Result<(), Mem>
+    /// Where the slots of a class begin: so many, if it is a new one.
+    pub fn class(&mut self, key: ClassKey, count: usize) -> Result<usize, Mem>
+        ensures { self.new.entries.items ≡ self.old.entries.items }
+    {
+        if let Some(begin) = self.classes.get(&key) {
+            return Ok(*begin);
+        }
+        let begin = self.slots.len();
+        self.classes.insert(key, begin)?;
+        add_slots(&mut self.slots, count)?;
+        Ok(begin)
+    }
+
+    /// Where an outline stands, if its slot tells it.
+    pub fn find(&self, slot: usize, outline: &Outline) -> Option<usize>
+        ensures { IfSome result (HasAt self.now.entries.items outline.now) }
+    {
+        let at = *self.slots.get(slot)?;
+        let entry = self.entries.get(at)?;
+        if same_outline(&entry.outline, outline) {
+            Some(at)
+        } else {
+            None
+        }
+    }
+
+    /// Whether the entry at a place, if there is one, costs no more than a price.
+    pub fn is_below(&self, found: Option<usize>, price: u64) -> bool
+        ensures { IsTrue result → IsBelow self.now.entries.items price found }
+    {
+        match found {
+            Some(at) => match self.entries.get(at) {
+                Some(entry) => entry.price <= price,
+                None => false,
+            },
+            None => false,
+        }
+    }
+
+    /// Puts an outline in at a price, where it was found or at the end. Where it stands, the lesser price stays.
+    pub fn put(
+        &mut self,
+        found: Option<usize>,
+        slot: usize,
+        outline: &Outline,
+        rule: &Shared<Rule>,
+        price: u64,
+    ) -> Result<(), Mem>
+        requires { IfSome found (HasAt self.old.entries.items outline.now) }
         ensures { OnOk result (Lowered (record { outline = outline.now; rule = rule.now; price = price }) self.old.entries.items self.new.entries.items) }
     {
-        match known(self.entries.as_slice(), &self.places, outline) {
+        match found {
             Some(at) => lower_at(&mut self.entries, at, outline, rule, price),
-            None => self.add(outline, rule, price),
+            None => self.add(slot, outline, rule, price),
         }
     }
 
-    /// Adds an entry at the end.
-    fn add(&mut self, outline: &Outline, rule: &Shared<Rule>, price: u64) -> Result<(), Mem>
+    /// Adds an entry at the end, and tells its slot.
+    fn add(
+        &mut self,
+        slot: usize,
+        outline: &Outline,
+        rule: &Shared<Rule>,
+        price: u64,
+    ) -> Result<(), Mem>
         ensures { OnOk result (Lowered (record { outline = outline.now; rule = rule.now; price = price }) self.old.entries.items self.new.entries.items) }
     {
-        let at = self.entries.len();
-        self.places.insert(OutlineKey::of(outline), at)?;
+        tell(self.slots.as_mut_slice(), slot, self.entries.len());
         let rule = rule.share()?;
         self.entries.push(Entry {
             outline: *outline,
@@ -85,20 +155,18 @@ impl Growing {
     }
 }
 
-/// Where an outline stands, if it is known.
-fn known(
-    entries: &[Entry],
-    places: &IndexMap<OutlineKey, usize>,
-    outline: &Outline,
-) -> Option<usize>
-    ensures { IfSome result (HasAt entries.now outline.now) }
-{
-    let at = places.get(&OutlineKey::of(outline)).copied()?;
-    let entry = entries.get(at)?;
-    if same_outline(&entry.outline, outline) {
-        Some(at)
-    } else {
-        None
+/// Adds slots that tell no place.
+fn add_slots(slots: &mut Vec<usize>, count: usize) -> Result<(), Mem> {
+    for _ in 0..count {
+        slots.push(usize::MAX)?;
+    }
+    Ok(())
+}
+
+/// Makes a slot tell a place.
+fn tell(slots: &mut [usize], slot: usize, at: usize) {
+    if let Some(known) = slots.get_mut(slot) {
+        *known = at;
     }
 }
 

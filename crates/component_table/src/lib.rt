@@ -1,12 +1,16 @@
 //! The table of a position: each outline that some component from there has, with its least price. The fares of a
-//! market stand in groups, which are found once for a search, as are the tails of a slice.
+//! market stand in groups. These are found once for a search, as are the classes with seats on a flight, the tails of
+//! a slice, and those of the tails that a place needs.
 #![tactic(auto)]
 
 mod adding;
 mod ends;
+mod filed;
 mod gathering;
 mod growing;
 mod markets;
+mod masks;
+mod narrowing;
 mod networks;
 mod scenes;
 mod tables;
@@ -15,5 +19,6 @@ mod ways;
 
 pub use growing::same_position;
 pub use markets::{Market, MarketKey, Markets};
-pub use networks::Network;
+pub use masks::Masks;
+pub use networks::{FareTails, Network};
 pub use tables::outlines_of;

@@ -1,15 +1,18 @@
 //! The table of a position, path by path.
-ghost use Rattle.std.specs.Prelude.{◌≡◌, ◌+◌, ◌<◌, IfOk, length};
+ghost use Rattle.std.specs.Prelude.{◌≡◌, ◌<◌, IfOk, length};
 ghost use Rattle.component_table.specs.Markets.{AreMarkets};
-ghost use Rattle.component_table.specs.Networks.{AreTailsOver, IsNetwork};
+ghost use Rattle.component_table.specs.Masks.{AreMasks};
+ghost use Rattle.component_table.specs.Networks.{IsNetwork};
 ghost use Rattle.component_table.specs.Tables.{IsTable};
+ghost use Rattle.component_table.specs.Tails.{AreFareTails};
 ghost use Rattle.fare_law.specs.Limits.{IsRequest};
 
 use crate::gathering::schedule_of;
 use crate::markets::Markets;
+use crate::masks::Masks;
 use crate::networks::Network;
 use crate::scenes::Scene;
-use crate::visiting::Putting;
+use crate::visiting::{Made, Putting};
 use crate::ways::Origin;
 use fare_book::Book;
 use fare_law::{List, Mem, Request};
@@ -35,40 +38,42 @@ pub fn outlines_of(
     if usize::from(position.slice) >= request.slices.len() {
         return Ok(List::new(alloc));
     }
-    let at = network.find_tails(alloc, book, request, position.slice + 1)?;
+    let at = network.find_fare_tails(alloc, book, request, position.place, position.slice + 1)?;
     let origin = Origin {
         book,
         request,
         at: position,
     };
     let markets = mem::replace(&mut network.markets, Markets::new(alloc));
-    let (entries, markets) = made::<Brand>(
-        alloc,
-        &origin,
-        network.tails[at].paths.as_slice(),
-        markets,
-    )?;
-    network.markets = markets;
-    Ok(List::from_vec(entries))
+    let masks = mem::replace(&mut network.masks, Masks::new(alloc));
+    let tails = network.fare_tails[at].paths.as_slice();
+    let made = made::<Brand>(alloc, &origin, tails, markets, masks)?;
+    network.markets = made.markets;
+    network.masks = made.masks;
+    Ok(List::from_vec(made.entries))
 }
 
-/// The table of a position, by the tails of the next slice, and the markets with those that it needed.
+/// The table of a position, by the tails of the next slice that its place needs. The markets and the masks then have
+/// those that it needed.
 fn made<S: Scene>(
     alloc: Global,
     origin: &Origin<'_>,
     tails: &[Path],
     markets: Markets,
-) -> Result<(Vec<Entry>, Markets), Mem>
+    masks: Masks,
+) -> Result<Made, Mem>
     requires book { origin.now.book.now ≡ S.book }
     requires request { origin.now.request.now ≡ S.request }
     requires at { origin.now.at.now ≡ S.at }
     requires known { origin.now.at.now.slice < length origin.now.request.now.slices }
     requires markets { AreMarkets origin.now.book.now markets.kept.items }
-    requires tails { AreTailsOver origin.now.book.now origin.now.request.now.slices (origin.now.at.now.slice + 1) tails.now }
-    ensures table { IfOk result (λ made. IsTable origin.now.book.now origin.now.request.now origin.now.at.now made.0.items) }
-    ensures markets { IfOk result (λ made. AreMarkets origin.now.book.now made.1.kept.items) }
+    requires masks { AreMasks origin.now.book.now origin.now.request.now masks }
+    requires tails { AreFareTails origin.now.book.now origin.now.request.now origin.now.at.now tails.now }
+    ensures table { IfOk result (λ made. IsTable origin.now.book.now origin.now.request.now origin.now.at.now made.entries.items) }
+    ensures markets { IfOk result (λ made. AreMarkets origin.now.book.now made.markets.kept.items) }
+    ensures masks { IfOk result (λ made. AreMasks origin.now.book.now origin.now.request.now made.masks) }
 {
-    let mut putting: Putting<'_, S> = Putting::new(alloc, origin, markets);
+    let mut putting: Putting<'_, S> = Putting::new(alloc, origin, markets, masks);
     visit_paths(
         alloc,
         schedule_of(origin.book),

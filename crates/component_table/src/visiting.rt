@@ -1,12 +1,14 @@
 //! What puts the paths that it visits into a table.
 ghost use Rattle.std.specs.Prelude.{◌≡◌, []};
 ghost use Rattle.component_table.specs.Markets.{AreMarkets};
+ghost use Rattle.component_table.specs.Masks.{AreMasks};
 ghost use Rattle.component_table.specs.Tables.{PutsIn};
 
 use crate::adding::add_path;
 use crate::ends::Reach;
 use crate::growing::Growing;
 use crate::markets::Markets;
+use crate::masks::Masks;
 use crate::scenes::Scene;
 use crate::ways::Origin;
 use fare_law::Mem;
@@ -21,8 +23,17 @@ pub struct Putting<'a, S: Scene> {
     alloc: Global,
     origin: Origin<'a>,
     reach: Reach,
+    masks: Masks,
     table: Growing,
     of: PhantomData<S>,
+}
+
+/// The entries of a table, with the markets and the masks as far as they are known then.
+#[derive(Drop)]
+pub struct Made {
+    pub entries: Vec<Entry>,
+    pub markets: Markets,
+    pub masks: Masks,
 }
 
 impl<'a, S: Scene> Model for Putting<'a, S> {
@@ -34,7 +45,7 @@ impl<'a, S: Scene> Model for Putting<'a, S> {
 
     ghost view = { λ p. p.table.entries.items };
 
-    ghost invariant = { λ p. IsPutting S.book S.request S.at p.origin.book.now p.origin.request.now p.origin.at.now p.reach };
+    ghost invariant = { λ p. IsPutting S.book S.request S.at p.origin.book.now p.origin.request.now p.origin.at.now p.reach p.masks };
 }
 
 impl<'a, S: Scene> PathVisitor for Putting<'a, S> {
@@ -45,6 +56,7 @@ impl<'a, S: Scene> PathVisitor for Putting<'a, S> {
             self.alloc,
             &mut self.table,
             &mut self.reach,
+            &mut self.masks,
             &self.origin,
             path,
         )
@@ -53,30 +65,42 @@ impl<'a, S: Scene> PathVisitor for Putting<'a, S> {
 
 impl<'a, S: Scene> Putting<'a, S> {
     /// An empty table.
-    pub fn new(alloc: Global, origin: &Origin<'a>, markets: Markets) -> Putting<'a, S>
+    pub fn new(alloc: Global, origin: &Origin<'a>, markets: Markets, masks: Masks) -> Putting<'a, S>
         requires book { origin.now.book.now ≡ S.book }
         requires request { origin.now.request.now ≡ S.request }
         requires at { origin.now.at.now ≡ S.at }
         requires markets { AreMarkets origin.now.book.now markets.kept.items }
+        requires masks { AreMasks origin.now.book.now origin.now.request.now masks }
         ensures { result ≡ [] }
     {
         Putting {
             alloc,
             origin: *origin,
             reach: Reach::new(alloc, origin.book, origin.at.place, markets),
+            masks,
             table: Growing::new(alloc),
             of: PhantomData,
         }
     }
 
-    /// The entries and the markets.
-    pub fn finish(self) -> (Vec<Entry>, Markets)
-        ensures entries { result.0.items ≡ self.entry }
-        ensures markets { AreMarkets S.book result.1.kept.items }
+    /// The entries, with the markets and the masks.
+    pub fn finish(self) -> Made
+        ensures entries { result.entries.items ≡ self.entry }
+        ensures markets { AreMarkets S.book result.markets.kept.items }
+        ensures masks { AreMasks S.book S.request result.masks }
     {
-        let Putting { reach, table, .. } = self;
+        let Putting {
+            reach,
+            masks,
+            table,
+            ..
+        } = self;
         let Reach { markets, .. } = reach;
         let Growing { entries, .. } = table;
-        (entries, markets)
+        Made {
+            entries,
+            markets,
+            masks,
+        }
     }
 }

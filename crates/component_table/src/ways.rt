@@ -1,5 +1,7 @@
 //! Paths of a position as they are put into its table.
 
+use crate::filed::Filed;
+use crate::markets::Market;
 use fare_book::Book;
 use fare_law::{ArrayVec, Flight, Request};
 use flight_paths::{Path, Position};
@@ -18,4 +20,12 @@ pub struct Flown<'a> {
     pub path: &'a Path,
     pub flights: ArrayVec<Flight, 4>,
     pub classes: u32,
+}
+
+/// A market whose fares are filed over a path, one way, and where the groups of the path's first carrier stand in it.
+#[derive(Clone, Copy)]
+pub struct Serving<'a> {
+    pub market: &'a Market,
+    pub filed: Filed,
+    pub reverse: bool,
 }

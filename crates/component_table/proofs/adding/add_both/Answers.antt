@@ -1,5 +1,4 @@
-use Rattle.std.proofs.Common.{◌≤◌, ap, length, subst, sym, ◌∙◌, arith}
-use Rattle.component_table.specs.Tables.{HasLegs, IsOfPath}
+use Rattle.std.proofs.Common.{◌≤◌, length, subst, sym, arith}
 use Rattle.component_table.proofs.Collected.{numbers_long}
 use Rattle.component_table.proofs.PathFacts.{on_ok, path_added, path_numbers}
 use Rattle.fare_law.specs.Parts.{Numbers}
@@ -25,7 +24,7 @@ add_way-requires-clause-flown c =
     record {
       count = (omega (arith, long, c.requires.some), omega (arith, long, most));
       limits = c.in-Some.ensures.some.1;
-      legs = subst (λ gs. HasLegs b c.args.origin.now.request.now gs c.classes_of-classes.result) c.as_slice-2.ensures.items c.classes_of-classes.ensures;
+      legs = c.requires.classes fs numbers;
     }
 
 pub add_way-requires-2-clause-flown : goal.add_way-requires-2-clause-flown
@@ -39,7 +38,7 @@ add_way-requires-2-clause-flown c =
     record {
       count = (omega (arith, long, c.requires.some), omega (arith, long, most));
       limits = c.in-Some.ensures.some.1;
-      legs = subst (λ gs. HasLegs b c.args.origin.now.request.now gs c.classes_of-classes.result) c.as_slice-2.ensures.items c.classes_of-classes.ensures;
+      legs = c.requires.classes fs numbers;
     }
 
 pub returns : goal.returns
@@ -52,8 +51,9 @@ returns c =
     let fs = c.in-Some.flights in
     let numbers = subst (λ l. Numbers b l fs) c.as_slice.ensures.items c.in-Some.ensures.some.0 in
     let ends = c.requires.ends fs numbers in
+    let begins = c.requires.begins fs numbers in
     on_ok c.add_way-2.result _ _
     (λ w p.
     let own = subst (λ gs. IsPath b q.slices at ns gs path.after) (numbers_one b ns p.0 fs (path_numbers b q at ns p.0 path.after p.1) numbers) p.1 in
-    path_added b q at (record { path = c.args.path; flights = fs; classes = c.classes_of-classes.result }) c.args.table.now.entries.items c.add_way.new.table.entries.items c.add_way-2.new.table.entries.items own (c.in_ok-add_way.ensures own ends) (w own ends))
+    path_added b q at (record { path = c.args.path; flights = fs; classes = c.args.classes }) c.args.table.now.entries.items c.add_way.new.table.entries.items c.add_way-2.new.table.entries.items own (c.in_ok-add_way.ensures own begins ends) (w own begins ends))
     c.add_way-2.ensures

@@ -1,15 +1,42 @@
-use Rattle.std.proofs.Common.{subst}
-use Rattle.component_table.proofs.PathFacts.{groups_in_more, groups_in_none, read_in}
+use Rattle.std.proofs.Common.{◌<◌, ap, length, slice_get, subst, ◌∙◌, arith}
+use Rattle.component_table.specs.Tables.{GoesOn}
+use Rattle.component_table.proofs.Lower.{goes_self}
+use Rattle.component_table.proofs.PathFacts.{read_in}
+use Rattle.component_table.proofs.Served.{between_more, groups_apart, groups_between}
 use Rattle.fare_law.specs.Lists.{IsIn}
 use Rattle.component_table.proofs.adding.add_market.Goals as goal
 
-pub loop-group-init : goal.loop-group-init
-loop-group-init c = λ p. groups_in_none c.args.origin.now.book.now c.args.origin.now.request.now c.args.origin.now.at.now c.args.flown.now c.args.reverse c.args.table.now.entries.items
+pub returns-then-to-from : goal.returns-then-to-from
+returns-then-to-from c = λ p s.
+    let b = c.args.origin.now.book.now in
+    let flown = c.args.flown.now in
+    let serving = c.args.serving.now in
+    let old = c.args.table.now.entries.items in
+    record {
+      goes = goes_self b c.args.origin.now.request.now c.args.origin.now.at.now old;
+      has = groups_apart b flown.path.now flown.flights flown.classes serving.reverse old serving.market.now.groups s.carrier serving.filed c.requires.over.flown_is.count.0 s.first s.groups c.if-to-from.true;
+    }
 
 pub add_group-requires-clause-group : goal.add_group-requires-clause-group
-add_group-requires-clause-group c = subst (IsIn c.group-item.result) c.as_slice-group-items.ensures (read_in c.as_slice-group-items.result.now c.loop-group.group-index _ c.group-item.result c.loop-group-test.true c.group-item.is)
+add_group-requires-clause-group c =
+    let lt : c.loop-at.at < length c.as_slice-groups.result.now = omega (arith, c.loop-at-test.true, c.requires.within, ap length c.as_slice-groups.ensures) in
+    subst (IsIn c.index-groups-at.result) c.as_slice-groups.ensures (read_in c.as_slice-groups.result.now c.loop-at.at _ c.index-groups-at.result lt c.index-groups-at.is)
 
-pub loop-group-preserved : goal.loop-group-preserved
-loop-group-preserved c = λ p.
-    groups_in_more c.args.origin.now.book.now c.args.origin.now.request.now c.args.origin.now.at.now c.args.flown.now c.args.reverse c.as_slice-group-items.result.now c.loop-group.group-index _ c.group-item.result
-    c.args.table.now.entries.items c.loop-group.table.entries.items c.add_group.new.table.entries.items c.loop-group-test.true c.group-item.is (c.loop-group.invariant p) (c.in_ok-add_group.ensures p)
+pub loop-at-preserved : goal.loop-at-preserved
+loop-at-preserved c = λ p.
+    let lt : c.loop-at.at < length c.as_slice-groups.result.now = omega (arith, c.loop-at-test.true, c.requires.within, ap length c.as_slice-groups.ensures) in
+    between_more c.args.origin.now.book.now c.args.origin.now.request.now c.args.origin.now.at.now c.args.flown.now c.args.serving.now.reverse c.as_slice-groups.result.now c.args.serving.now.filed.from c.loop-at.at _ c.index-groups-at.result
+    c.class.new.self.entries.items c.loop-at.table.entries.items c.add_group.new.table.entries.items lt c.index-groups-at.is (c.loop-at.invariant p) (c.in_ok-add_group.ensures p)
+
+pub returns : goal.returns
+returns c = λ p s.
+    let b = c.args.origin.now.book.now in
+    let flown = c.args.flown.now in
+    let serving = c.args.serving.now in
+    let new = c.loop-at.table.entries.items in
+    let put = c.loop-at.invariant p in
+    record {
+      goes = subst (λ es. GoesOn b c.args.origin.now.request.now c.args.origin.now.at.now es new) c.class.ensures put.goes;
+      has = groups_between b flown.path.now flown.flights flown.classes serving.reverse new serving.market.now.groups s.carrier serving.filed c.requires.over.flown_is.count.0 s.first s.groups
+          (λ i g got low high. put.has i g (ap (λ l. slice_get l i) c.as_slice-groups.ensures ∙ got) low (omega (arith, high, c.loop-at-test.false)));
+    }

@@ -1,8 +1,7 @@
-use Rattle.std.proofs.Common.{take}
 use Rattle.component_table.specs.Tables.{IsPathOver}
-use Rattle.component_table.proofs.PathFacts.{GroupsIn}
+use Rattle.component_table.proofs.Served.{BetweenIn}
 use Rattle.component_table.proofs.adding.add_market.Given as goal
 
-abbrev pub invariant-loop-group : goal.invariant-loop-group
-invariant-loop-group l =
-    IsPathOver l.origin.book.now l.origin.request.now l.origin.at.now l.flown l.reverse l.market → GroupsIn l.origin.book.now l.origin.request.now l.origin.at.now l.flown l.reverse (take l.group-index l.group-items) l.initial.table.entries.items l.table.entries.items
+abbrev pub invariant-loop-at : goal.invariant-loop-at
+invariant-loop-at l =
+    IsPathOver l.origin.book.now l.origin.request.now l.origin.at.now l.flown l.serving.reverse l.serving.market.now → BetweenIn l.origin.book.now l.origin.request.now l.origin.at.now l.flown l.serving.reverse l.groups l.from l.at l.initial.table.entries.items l.table.entries.items

@@ -1,4 +1,4 @@
-use Rattle.std.proofs.Common.{◌≡◌, ◌+◌, ◌<◌, ◌≤◌, get_or, length, slice_get, take, ap, subst, sym, ◌∙◌, arith}
+use Rattle.std.proofs.Common.{◌+◌, get_or, slice_get, take, ap, subst, sym, ◌∙◌, arith}
 use Rattle.std.proofs.lemmas.List.{take_all}
 use Rattle.component_table.proofs.Collected.{not_both, number_known, numbers_long, numbers_next, taken_long}
 use Rattle.fare_law.specs.Book.{flight_at}

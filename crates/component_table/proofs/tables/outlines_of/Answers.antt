@@ -1,7 +1,8 @@
-use Rattle.std.proofs.Common.{◌≡◌, ◌+◌, ◌<◌, ap, length, subst, sym, vec_len, ◌∙◌, arith}
-use Rattle.component_table.specs.declared.networks.SliceTails.{SliceTails}
-use Rattle.component_table.specs.Networks.{AreTailsOver}
+use Rattle.std.proofs.Common.{◌≡◌, ◌+◌, ap, length, subst, sym, vec_len, ◌∙◌, arith}
+use Rattle.component_table.specs.declared.networks.FareTails.{FareTails}
+use Rattle.component_table.specs.Masks.{AreMasks}
 use Rattle.component_table.specs.Tables.{IsTable}
+use Rattle.component_table.specs.Tails.{AreTailsFrom}
 use Rattle.component_table.proofs.PathFacts.{got_is, got_lt, no_table}
 use Rattle.fare_groups.proofs.Grouped.{each_in}
 use Rattle.residual_keys.proofs.Sheeted.{got_in}
@@ -14,16 +15,20 @@ returns-then-from-len-clause-table c =
 pub index-requires : goal.index-requires
 index-requires c =
     let s = c.in_ok-at.ensures.tails in
-    let lt = got_lt c.find_tails.new.self.tails.items c.in_ok-at.at s.kept s.stands in
-    let e : vec_len c.find_tails.new.self.tails ≡ length c.find_tails.new.self.tails.items = omega arith in
+    let lt = got_lt c.find_fare_tails.new.self.fare_tails.items c.in_ok-at.at s.tails s.stands in
+    let e : vec_len c.find_fare_tails.new.self.fare_tails ≡ length c.find_fare_tails.new.self.fare_tails.items = omega arith in
     omega (arith, lt, e)
 
 pub made-requires-clause-tails : goal.made-requires-clause-tails
 made-requires-clause-tails c =
     let b = c.args.book.now in
     let q = c.args.request.now in
-    let ts = c.find_tails.new.self.tails.items in
+    let at = c.args.position.now in
+    let ts = c.find_fare_tails.new.self.fare_tails.items in
     let s = c.in_ok-at.ensures.tails in
-    let same = c.index.ensures ∙ got_is ts c.in_ok-at.at c.index.result.now s.kept s.stands in
-    let are = each_in (λ (t : SliceTails). AreTailsOver b q.slices t.slice t.paths) ts s.kept c.in_ok-at.ensures.network.tails (got_in ts c.in_ok-at.at s.kept s.stands) in
-    subst (AreTailsOver b q.slices (c.args.position.now.slice + 1)) (sym (c.as_slice.ensures ∙ ap (λ (t : SliceTails). t.paths) same)) (subst (λ i. AreTailsOver b q.slices i s.kept.paths) s.slice_is are)
+    let same = c.index.ensures ∙ got_is ts c.in_ok-at.at c.index.result.now s.tails s.stands in
+    let are = each_in (λ (t : FareTails). AreTailsFrom b q t.place t.slice t.paths) ts s.tails c.in_ok-at.ensures.network.fare_tails (got_in ts c.in_ok-at.at s.tails s.stands) in
+    subst (AreTailsFrom b q at.place (at.slice + 1)) (sym (c.as_slice-tails.ensures ∙ ap (λ (t : FareTails). t.paths) same)) (subst (λ i. AreTailsFrom b q at.place i s.tails.paths) s.slice_is (subst (λ p. AreTailsFrom b q p s.tails.slice s.tails.paths) s.place_is are))
+
+pub made-requires-clause-masks : goal.made-requires-clause-masks
+made-requires-clause-masks c = subst (AreMasks c.args.book.now c.args.request.now) (sym c.replace-masks.ensures.value) c.in_ok-at.ensures.network.masks

@@ -13,6 +13,8 @@ returns-clause-network c =
     let t : SliceTails = record { slice = c.args.slice; paths = c.in_ok-paths.paths } in
     record {
       markets = c.requires.markets;
+      masks = c.requires.masks;
+      fare_tails = c.requires.fare_tails;
       tails = subst (Each (λ (x : SliceTails). AreTailsOver b q.slices x.slice x.paths)) (sym c.in_ok-push.ensures.items)
           (each_last (λ (x : SliceTails). AreTailsOver b q.slices x.slice x.paths) c.args.self.now.tails.items t c.requires.tails
           (λ x places flights. c.in_ok-paths.ensures x (record { places = places ∙ c.schedule_of.ensures.places; flights = flights ∙ c.schedule_of.ensures.flights })));

@@ -1,0 +1,135 @@
+-- A path adds nothing with the fares of carriers but its first flight's: category 9 asks in every form that the fare's carrier is the first flight's.
+use Rattle.std.proofs.Common.{◌≡◌, ℕ, suc, ◌+◌, ◌<◌, ◌≤◌, Bool, true, false, List, [], ◌∷◌, length, get_or, slice_get, All, Option, Some, None, MatchOption, MatchBool, sym, ap, subst, ◌∙◌, inl, inr, arith}
+use Rattle.std.proofs.lemmas.List.Elements.{All-head}
+use Rattle.component_table.specs.declared.ends.End.{End}
+use Rattle.component_table.specs.declared.filed.Filed.{Filed}
+use Rattle.component_table.specs.declared.markets.Market.{Market}
+use Rattle.component_table.specs.declared.ways.Flown.{Flown}
+use Rattle.component_table.specs.Markets.{AreMarkets, IsMarket}
+use Rattle.component_table.specs.Reaches.{FiledAt, IsEnd, IsUnserved, StandBetween, filed_of}
+use Rattle.component_table.specs.Tables.{BeginsWith, EndsAt, GoesOn, GroupDone, HasGroup, HasLegs, PathAdded}
+use Rattle.component_table.proofs.GroupFacts.{path_some, some_counted}
+use Rattle.component_table.proofs.FiledFacts.{below_or, some_same}
+use Rattle.component_table.proofs.Lower.{goes_on, goes_self, has_group_on}
+use Rattle.component_table.proofs.PathFacts.{end_from, end_to, got_at, path_numbers, path_over}
+use Rattle.component_table.proofs.ReachFacts.{end_found}
+use Rattle.fare_book.specs.Keeping.{Limited, NoFare}
+use Rattle.fare_groups.specs.declared.group.FareGroup.{FareGroup}
+use Rattle.fare_groups.specs.Groups.{Permits}
+use Rattle.fare_groups.proofs.Grouped.{each_in}
+use Rattle.fare_law.specs.declared.flights.Flight.{Flight}
+use Rattle.fare_law.specs.declared.names.Carrier.{Carrier}
+use Rattle.fare_law.specs.declared.requests.Request.{Request}
+use Rattle.fare_law.specs.declared.rules.Rule.{Rule}
+use Rattle.fare_law.specs.declared.rules.TransferRule.{TransferRule}
+use Rattle.fare_law.specs.Book.{Book}
+use Rattle.fare_law.specs.Lists.{IsIn, OnFirst, OnLast}
+use Rattle.fare_law.specs.Parts.{Numbers, transfers}
+use Rattle.flight_paths.specs.declared.positions.Path.{Path}
+use Rattle.flight_paths.specs.declared.positions.Position.{Position}
+use Rattle.flight_paths.specs.Positions.{IsPath}
+use Rattle.outlines.specs.declared.outline.Entry.{Entry}
+use Rattle.outlines.specs.ByGroups.{PathDone}
+use Rattle.residual_keys.specs.Steps.{MarketOver}
+use Rattle.residual_keys.proofs.Sheeted.{got_in}
+
+first_of_all : (P : Flight → Type 0) (fs : List Flight) → 1 ≤ length fs → All P fs → OnFirst P fs
+first_of_all P [] some h = absurd (omega arith)
+first_of_all P (f ∷ fs) some h = All-head P f fs h
+
+-- the fare's carrier is the first flight's
+permits_first : (rule : Rule) (carrier : Carrier) (fs : List Flight) → 1 ≤ length fs → Permits rule carrier fs → OnFirst (λ f. f.carrier ≡ carrier) fs
+permits_first rule carrier fs some p = go rule.cat9 p.transfers
+  where
+    by_form : (b : Bool) → MatchBool b (All (λ f. f.carrier ≡ carrier) fs) (OnFirst (λ f. f.carrier ≡ carrier) fs) → OnFirst (λ f. f.carrier ≡ carrier) fs
+    by_form true h = first_of_all (λ f. f.carrier ≡ carrier) fs some h
+    by_form false h = h
+
+    go : (o : Option TransferRule) → MatchOption o (OnFirst (λ f. f.carrier ≡ carrier) fs) (λ c. (transfers fs ≤ c.max) × MatchBool c.online (All (λ f. f.carrier ≡ carrier) fs) (OnFirst (λ f. f.carrier ≡ carrier) fs)) → OnFirst (λ f. f.carrier ≡ carrier) fs
+    go None h = h
+    go (Some c) h = by_form c.online h.1
+
+carriers_same : (fs : List Flight) (x y : Carrier) → OnFirst (λ f. f.carrier ≡ x) fs → OnFirst (λ f. f.carrier ≡ y) fs → x ≡ y
+carriers_same [] x y h k = absurd h
+carriers_same (f ∷ fs) x y h k = sym h ∙ k
+
+in_got : {X : Type 0} (xs : List X) (x : X) → IsIn x xs → (i : ℕ) × (slice_get xs i ≡ Some x)
+in_got [] x i = absurd i
+in_got (y ∷ xs) x (inl e) = (0, ap Some (sym e))
+in_got (y ∷ xs) x (inr i) = let r = in_got xs x i in (suc r.0, r.1)
+
+-- where the groups of the first flight's carrier are put in, all are
+pub groups_between : (b : Book) (path : Path) (fs : List Flight) (classes : ℕ) (reverse : Bool) (table : List Entry) (gs : List FareGroup) (carrier : Carrier) (f : Filed) → 1 ≤ length fs → OnFirst (λ x. x.carrier ≡ carrier) fs → StandBetween gs carrier f
+    → ((i : ℕ) (g : FareGroup) → slice_get gs i ≡ Some g → f.from ≤ i → i < f.to → HasGroup b path fs classes reverse g table) → (g : FareGroup) → IsIn g gs → HasGroup b path fs classes reverse g table
+groups_between b path fs classes reverse table gs carrier f some first between has g i rule live permits least cheap =
+    let own = carriers_same fs g.key.carrier carrier (permits_first rule g.key.carrier fs some permits) first in
+    let k = in_got gs g i in
+    let within = between k.0 g k.1 own in
+    has k.0 g k.1 within.0 within.1 rule live permits least cheap
+
+not_between : (from to i : ℕ) → to ≤ from → from ≤ i → i < to → ⊥
+not_between from to i h k l = absurd (omega (arith, h, k, l))
+
+-- where none is, nothing is to be put in
+pub groups_apart : (b : Book) (path : Path) (fs : List Flight) (classes : ℕ) (reverse : Bool) (table : List Entry) (gs : List FareGroup) (carrier : Carrier) (f : Filed) → 1 ≤ length fs → OnFirst (λ x. x.carrier ≡ carrier) fs → StandBetween gs carrier f → f.to ≤ f.from
+    → (g : FareGroup) → IsIn g gs → HasGroup b path fs classes reverse g table
+groups_apart b path fs classes reverse table gs carrier f some first between none = groups_between b path fs classes reverse table gs carrier f some first between (λ i g got low high. absurd (not_between f.from f.to i none low high))
+
+module _ (b : Book) (q : Request) (at : Position) (path : Path) (ms : List Market) (e : End) (classes : ℕ) (are : AreMarkets b ms) (limited : Limited b) (end : IsEnd b at.place ms e) (legs : (fs : List Flight) → Numbers b path.flights fs → HasLegs b q fs classes) where
+  unserved_done : (fs : List Flight) (table : List Entry) → IsPath b q.slices at path.flights fs path.after → OnLast (λ f. f.to ≡ e.key.place) fs → OnFirst (λ f. f.carrier ≡ e.key.carrier) fs → (r : Bool) → IsUnserved (filed_of e r) → PathDone b q at path fs r table
+  unserved_done fs table is ends begins r unserved = by_found (filed_of e r) (end_found b at.place ms e r end) unserved
+    where
+      over : MarketOver r fs (end_from r at.place e.key.place) (end_to r at.place e.key.place)
+      over = path_over b q at path.flights fs path.after e.key.place is ends r
+
+      by_found : (o : Option Filed) → MatchOption o (NoFare b (end_from r at.place e.key.place) (end_to r at.place e.key.place)) (FiledAt ms (record { from = end_from r at.place e.key.place; to = end_to r at.place e.key.place }) e.key.carrier) → IsUnserved o → PathDone b q at path fs r table
+      by_found None none u = record { from = end_from r at.place e.key.place; to = end_to r at.place e.key.place; market = over; done = inl none }
+      by_found (Some f) s u =
+          let m = s.at.market in
+          let market = each_in (IsMarket b) ms m are (got_in ms f.market m s.at.stands) in
+          let has = legs fs (path_numbers b q at path.flights fs path.after is) in
+          let some = some_counted fs (path_some b q at path.flights fs path.after is) in
+          let own : MarketOver r fs m.sheet.value.from m.sheet.value.to =
+          subst (λ p. MarketOver r fs m.sheet.value.from p) (sym s.at.to) (subst (λ p. MarketOver r fs p (end_to r at.place e.key.place)) (sym s.at.from) over) in
+          record {
+            from = m.sheet.value.from;
+            to = m.sheet.value.to;
+            market = own;
+            done = inr (
+              has.legs,
+              classes,
+              m.sheet.value,
+              m.groups,
+              record { path_is = is; legs_are = has.legs_are; classes_are = has.classes_are; market = own; sheet_is = market.sheet; groups_are = market.groups; limited = limited },
+              groups_apart b path fs classes r table m.groups e.key.carrier f some begins s.groups u,
+            );
+          }
+
+  -- a path of a carrier that has no fare to its end or from it is put in by leaving the table as it is
+  pub unserved_added : (old : List Entry) → EndsAt b path.flights e.key.place → BeginsWith b path.flights e.key.carrier → IsUnserved e.there → IsUnserved e.back → PathAdded b q at path old old
+  unserved_added old ends begins there back = record {
+    goes = goes_self b q at old;
+    done = λ fs is r. let own = path_numbers b q at path.flights fs path.after is in unserved_done fs old is (ends fs own) (begins fs own) r (both r);
+  }
+    where
+      both : (r : Bool) → IsUnserved (filed_of e r)
+      both true = back
+      both false = there
+
+-- the groups of a market from one place on and before another were put in
+pub record BetweenIn (b : Book) (q : Request) (at : Position) (flown : Flown) (reverse : Bool) (gs : List FareGroup) (from to : ℕ) (old new : List Entry) : Type 0 where
+  pub goes : GoesOn b q at old new
+  pub has : (i : ℕ) (g : FareGroup) → slice_get gs i ≡ Some g → from ≤ i → i < to → HasGroup b flown.path.now flown.flights flown.classes reverse g new
+
+module _ (b : Book) (q : Request) (at : Position) (flown : Flown) (reverse : Bool) (gs : List FareGroup) where
+  pub between_none : (from : ℕ) (old new : List Entry) → new ≡ old → BetweenIn b q at flown reverse gs from from old new
+  between_none from old new same = subst (λ es. BetweenIn b q at flown reverse gs from from old es) (sym same) (record { goes = goes_self b q at old; has = λ i g got low high. absurd (omega (arith, low, high)) })
+
+  pub between_more : (from n : ℕ) (d x : FareGroup) (old mid new : List Entry) → n < length gs → x ≡ get_or gs n d → BetweenIn b q at flown reverse gs from n old mid → GroupDone b q at flown reverse x mid new → BetweenIn b q at flown reverse gs from (n + 1) old new
+  between_more from n d x old mid new lt e h done = record {
+    goes = goes_on b q at old mid new h.goes done.goes;
+    has = λ i g got low high. elim (below_or i n high) [
+      | inl k ↦ has_group_on b flown.path.now flown.flights flown.classes reverse g mid new done.goes.covers (h.has i g got low k)
+      | inr s ↦ subst (λ (y : FareGroup). HasGroup b flown.path.now flown.flights flown.classes reverse y new) (some_same (slice_get gs n) x g (got_at gs n d x lt e) (ap (slice_get gs) (sym s) ∙ got)) done.has
+    ];
+  }

@@ -1,0 +1,41 @@
+-- The tails of the next slice that the paths of a position may need.
+use Rattle.std.specs.Prelude.{◌≡◌, ℕ, ◌+◌, Bool, false, List, Some, slice_get}
+use Rattle.component_table.specs.declared.networks.FareTails.{FareTails}
+use Rattle.fare_book.specs.Keeping.{NoFare}
+use Rattle.fare_law.specs.declared.names.Place.{Place}
+use Rattle.fare_law.specs.declared.requests.Request.{Request}
+use Rattle.fare_law.specs.Book.{Book}
+use Rattle.flight_paths.specs.declared.positions.Path.{Path}
+use Rattle.flight_paths.specs.declared.positions.Position.{Position}
+use Rattle.flight_paths.specs.Heads.{TailsTo}
+use Rattle.indexmap.specs.IndexMap.{IndexMap, get}
+
+-- the books have the same places and flights
+pub record SamePlan (b c : Book) : Type 0 where
+  pub places : b.timetable.places ≡ c.timetable.places
+  pub flights : b.timetable.flights ≡ c.timetable.flights
+
+-- no fare is filed between the places, in neither direction
+abbrev pub HasNoFares : Book → Place → Place → Type 0
+HasNoFares b from to = NoFare b from to × NoFare b to from
+
+-- Tails of a slice: each that ends where a fare is filed from a place or to it is among them.
+pub record AreTailsFrom (b : Book) (q : Request) (from : Place) (slice : ℕ) (tails : List Path) : Type 0 where
+  pub wanted : Place → Bool
+  pub tails_to : (c : Book) → SamePlan c b → TailsTo c q.slices slice wanted tails
+  pub others : (place : Place) → wanted place ≡ false → HasNoFares b from place
+
+-- tails of the slice after the position's: each that ends where a fare is filed from the position's place or to it is among them
+abbrev pub AreFareTails : Book → Request → Position → List Path → Type 0
+AreFareTails b q at tails = AreTailsFrom b q at.place (at.slice + 1) tails
+
+-- the tails of this slice that a place needs stand at this place of a list
+pub record FareTailsStand (kept : List FareTails) (place : Place) (slice at : ℕ) : Type 0 where
+  pub tails : FareTails
+  pub stands : slice_get kept at ≡ Some tails
+  pub place_is : tails.place ≡ place
+  pub slice_is : tails.slice ≡ slice
+
+-- where an end is known to have no fares, it has none
+abbrev pub KnowsEnds : {S : Type 0} → (Place → Place → Bool) → Book → Place → IndexMap Place Bool S → Type 0
+KnowsEnds eq b from known = (place : Place) → get eq known place ≡ Some false → HasNoFares b from place
