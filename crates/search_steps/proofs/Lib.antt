@@ -5,3 +5,7 @@ pub mod RowsInOrder
 pub mod TableFacts
 pub mod WithinLimit
 pub mod NetworkFacts
+pub mod Given
+pub mod Kept
+pub mod Shorter
+pub mod UnitRanges

@@ -2,15 +2,11 @@
 use Rattle.std.proofs.Common.{◌≡◌, ◌∙◌, ℕ, zero, suc, ◌+◌, ◌<◌, List, [], ◌∷◌, ◌++◌, length, Option, Some, None, refl, sym, ap, subst, inl, inr, arith, slice_get, take, get_or, map}
 use Rattle.std.proofs.Math.Seq.{take-suc}
 use Rattle.std.proofs.lemmas.List.{map-append}
-use Rattle.component_table.specs.declared.networks.Network.{Network}
-use Rattle.component_table.specs.Networks.{IsNetwork}
-use Rattle.component_table.specs.Tables.{IsTable}
 use Rattle.graph_walk.specs.declared.outcome.Outcome.{Outcome}
 use Rattle.graph_walk.specs.Steps.{AreOutcomes}
 use Rattle.fare_law.specs.declared.requests.Request.{Request}
 use Rattle.fare_law.specs.Book.{Book}
 use Rattle.fare_law.specs.Lists.{Each, IsIn}
-use Rattle.flight_paths.specs.declared.positions.Position.{Position}
 use Rattle.outlines.specs.declared.outline.Outcome.{Outcome as Tried}
 use Rattle.outlines.specs.Outcomes.{AreOutcomes as TriedAre, IsAttained}
 use Rattle.residual_keys.specs.declared.residual.Chosen.{Chosen}
@@ -18,9 +14,8 @@ use Rattle.residual_keys.specs.declared.residual.Next.{Next}
 use Rattle.residual_keys.specs.declared.residual.Next.TheVariants.{At, Done}
 use Rattle.residual_keys.specs.Residuals.{State}
 use Rattle.residual_keys.specs.Steps.{IsChosen}
-use Rattle.search_steps.specs.declared.tables.PositionTable.{PositionTable}
 use Rattle.search_steps.specs.Leads.{leads_of, next_of, state_of}
-use Rattle.search_steps.specs.Tables.{AreTables, AsTried, TableAt, outcome_tried}
+use Rattle.search_steps.specs.Tables.{AsTried, outcome_tried}
 
 next_again : (next : Next) → next_of (state_of next) ≡ next
 next_again Done = refl
@@ -54,20 +49,13 @@ tried_more found i d o os os' h is a e =
     let front : take (i + 1) found ≡ take i found ++ o ∷ [] = ap (λ (n : ℕ). take n found) (sym next) ∙ (take-suc found i d h ∙ ap (λ z. take i found ++ z ∷ []) (sym is)) in
     e ∙ (ap (λ l. l ++ outcome_tried o ∷ []) a ∙ sym (ap (map outcome_tried) front ∙ map-append outcome_tried (take i found) (o ∷ [])))
 
-each_last : {X : Type 0} (P : X → Type 0) (xs : List X) (x : X) → Each P xs → P x → Each P (xs ++ x ∷ [])
+pub each_last : {X : Type 0} (P : X → Type 0) (xs : List X) (x : X) → Each P xs → P x → Each P (xs ++ x ∷ [])
 each_last P [] x h k = (k, tt)
 each_last P (y ∷ xs) x h k = (h.0, each_last P xs x h.1 k)
 
--- one table more
-pub tables_more : (b : Book) (q : Request) (old new : List PositionTable) (ms ns : Network) (t : PositionTable) → new ≡ old ++ t ∷ [] → AreTables b q old ms → IsNetwork b q ns → IsTable b q t.at t.entries → AreTables b q new ns
-tables_more b q old new ms ns t is h k table = record { tables = subst (Each (λ (x : PositionTable). IsTable b q x.at x.entries)) (sym is) (each_last (λ (x : PositionTable). IsTable b q x.at x.entries) old t h.tables table); network = k }
-
-last_got : {X : Type 0} (xs : List X) (x : X) → slice_get (xs ++ x ∷ []) (length xs) ≡ Some x
+pub last_got : {X : Type 0} (xs : List X) (x : X) → slice_get (xs ++ x ∷ []) (length xs) ≡ Some x
 last_got [] x = refl
 last_got (y ∷ xs) x = last_got xs x
-
-pub table_last : (old new : List PositionTable) (t : PositionTable) (n : ℕ) → new ≡ old ++ t ∷ [] → n ≡ length old → TableAt new t.at n
-table_last old new t n is e = record { table = t; stands = ap (λ ts. slice_get ts n) is ∙ ap (slice_get (old ++ t ∷ [])) e ∙ last_got old t; position = refl }
 
 pub got_is : {X : Type 0} (xs : List X) (n : ℕ) (d x : X) → slice_get xs n ≡ Some x → get_or xs n d ≡ x
 got_is [] n d x e = absurd (cc)
@@ -78,10 +66,3 @@ pub got_each : {X : Type 0} (P : X → Type 0) (xs : List X) (n : ℕ) (x : X) �
 got_each P [] n x h e = absurd (cc)
 got_each P (y ∷ xs) zero x h e = subst P (let z : y ≡ x = cc in z) h.0
 got_each P (y ∷ xs) (suc n) x h e = got_each P xs n x h.1 e
-
--- the table that stands at a place is the position's
-pub table_there : (b : Book) (q : Request) (ts : List PositionTable) (ms : Network) (at : Position) (n : ℕ) (t : PositionTable) → AreTables b q ts ms → TableAt ts at n → t ≡ get_or ts n t → IsTable b q at t.entries
-table_there b q ts ms at n t h s is =
-    let same : t ≡ s.table = is ∙ got_is ts n t s.table s.stands in
-    let table = got_each (λ (x : PositionTable). IsTable b q x.at x.entries) ts n s.table h.tables s.stands in
-    subst (λ (x : PositionTable). IsTable b q at x.entries) (sym same) (subst (λ a. IsTable b q a s.table.entries) s.position table)

@@ -4,3 +4,5 @@ pub mod Cases
 pub mod LeastMoves
 pub mod Tables
 pub mod Within
+pub mod Giving
+pub mod Shortening

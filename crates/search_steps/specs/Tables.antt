@@ -1,6 +1,5 @@
--- The tables of positions.
-use Rattle.std.specs.Prelude.{◌≡◌, ℕ, List, map, slice_get, Some}
-use Rattle.component_table.specs.declared.networks.Network.{Network}
+-- The tables of positions with their lists by role, and the lists of open units.
+use Rattle.std.specs.Prelude.{◌≡◌, ℕ, List, map, slice_get, Some, IfSome}
 use Rattle.component_table.specs.Networks.{IsNetwork}
 use Rattle.component_table.specs.Tables.{IsTable}
 use Rattle.fare_law.specs.declared.requests.Request.{Request}
@@ -8,21 +7,58 @@ use Rattle.fare_law.specs.Book.{Book}
 use Rattle.fare_law.specs.Lists.{Each}
 use Rattle.flight_paths.specs.declared.positions.Position.{Position}
 use Rattle.graph_walk.specs.declared.outcome.Outcome.{Outcome}
+use Rattle.open_unit.specs.declared.units.OpenUnit.{OpenUnit}
+use Rattle.open_unit.specs.Ranges.{UnitInRanges}
+use Rattle.outlines.specs.declared.marks.Listed.{Listed}
 use Rattle.outlines.specs.declared.outline.Outcome.{Outcome as Tried}
+use Rattle.outlines.specs.Marks.{IsAlone, IsList, IsOfUnit, IsOpening}
 use Rattle.residual_keys.specs.Residuals.{State}
 use Rattle.search_steps.specs.declared.tables.PositionTable.{PositionTable}
+use Rattle.search_steps.specs.declared.tables.Tables.{Tables}
+use Rattle.search_steps.specs.declared.tables.UnitTable.{UnitTable}
 use Rattle.search_steps.specs.Leads.{state_of}
 
--- each is the table of its position, and the network is the search's
-pub record AreTables (b : Book) (q : Request) (ts : List PositionTable) (n : Network) : Type 0 where
-  pub tables : Each (λ t. IsTable b q t.at t.entries) ts
-  pub network : IsNetwork b q n
+-- the units that marks leave open are in their ranges
+abbrev pub UnitsKept : List Listed → Type 0
+UnitsKept xs = Each (λ x. IfSome x.mark.unit UnitInRanges) xs
+
+-- It is the table of its position, with the lists of its components where they stand alone and where they open a unit.
+pub record IsListed (b : Book) (q : Request) (t : PositionTable) : Type 0 where
+  pub table : IsTable b q t.at t.entries
+  pub alone : IsList (IsAlone t.at.place q.sale) t.entries t.alone
+  pub opening : IsList (IsOpening t.at.place q.sale) t.entries t.opening
+  pub kept : UnitsKept t.opening
+
+-- It is the list of its open unit, from the table that stands at its place.
+pub record IsUnitList (q : Request) (ts : List PositionTable) (u : UnitTable) : Type 0 where
+  pub unit : UnitInRanges u.unit
+  pub table : PositionTable
+  pub stands : slice_get ts u.place ≡ Some table
+  pub list : IsList (IsOfUnit table.at.place q.sale u.unit) table.entries u.list
+  pub kept : UnitsKept u.list
+
+-- the tables, the lists and the network are the book's and the request's
+pub record AreTables (b : Book) (q : Request) (t : Tables) : Type 0 where
+  pub tables : Each (IsListed b q) t.kept.items
+  pub units : Each (IsUnitList q t.kept.items) t.units.items
+  pub network : IsNetwork b q t.network
+
+-- a table stands at this place
+abbrev pub HasTable : List PositionTable → ℕ → Type 0
+HasTable ts n = (t : PositionTable) × (slice_get ts n ≡ Some t)
 
 -- the table of a position stands at this place
 pub record TableAt (ts : List PositionTable) (at : Position) (n : ℕ) : Type 0 where
   pub table : PositionTable
   pub stands : slice_get ts n ≡ Some table
   pub position : table.at ≡ at
+
+-- the list of an open unit, from the table at a place, stands at this place
+pub record UnitAt (us : List UnitTable) (place : ℕ) (u : OpenUnit) (n : ℕ) : Type 0 where
+  pub table : UnitTable
+  pub stands : slice_get us n ≡ Some table
+  pub of_place : table.place ≡ place
+  pub of_unit : table.unit ≡ u
 
 -- an outcome of a table, as one of states
 abbrev pub outcome_tried : Tried → Outcome State

@@ -31,7 +31,7 @@ impl<'a> Model for TabledCase<'a> {
 
     ghost view = { λ t. t.case };
 
-    ghost invariant = { λ t. AreTables t.case.book.now t.case.request.now t.tables.kept.items t.tables.network };
+    ghost invariant = { λ t. AreTables t.case.book.now t.case.request.now t.tables };
 }
 
 impl<'a> TabledCase<'a> {

@@ -5,6 +5,8 @@ ghost use Rattle.fare_law.specs.declared.requests.Request.{Request};
 ghost use Rattle.fare_law.specs.Book.{Book};
 ghost use Rattle.fare_law.specs.Lists.{IsIn};
 ghost use Rattle.graph_walk.specs.Walks.{AreReached, Costs, IsShort, LeastBy};
+ghost use Rattle.open_unit.specs.declared.units.OpenUnit.{OpenUnit as UnitData};
+ghost use Rattle.open_unit.specs.Ranges.{UnitInRanges};
 ghost use Rattle.residual_keys.specs.Kept.{IsResidual};
 ghost use Rattle.residual_keys.specs.Residuals.{State};
 ghost use Rattle.residual_keys.specs.ResidualOrder.{StateBefore};
@@ -14,6 +16,7 @@ ghost use Rattle.search_steps.specs.Keys.{IsKey, residual_of};
 ghost use Rattle.search_steps.specs.Leads.{IsRoot, MovesCostLess, leads_of, level_of};
 
 use crate::Key;
+use open_unit::OpenUnit;
 use residual_keys::{Residual, residual_order, runs_are_short};
 
 /// The least prices of a walk are the least prices of runs.
@@ -49,3 +52,10 @@ pub fn keys_in_order()
 fn order_tells<T: Ord>()
     ensures { (a b : T) → IsTrue (T.eq a b) ↔ (T.cmp a b ≡ Equal) }
 {}
+
+/// So does the test of open units.
+pub fn units_tell()
+    ensures { (u v : UnitData) → UnitInRanges u → UnitInRanges v → IsTrue (⟦<OpenUnit as PartialEq>⟧.eq u v) ↔ (u ≡ v) }
+{
+    residuals_tell();
+}

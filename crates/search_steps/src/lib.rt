@@ -5,15 +5,18 @@
 mod bounds;
 mod caching;
 mod case;
+mod giving;
 mod key;
 mod laws;
 mod least;
 mod nearest;
 mod ordering;
 mod outcomes;
+mod shortening;
 mod steps;
 mod tabled;
 mod tables;
+mod unit_lists;
 mod walking;
 mod within;
 
@@ -24,4 +27,4 @@ pub use key::Key;
 pub use laws::{keys_in_order, least_prices_are_least, reached_states_are_reached, residuals_tell};
 pub use least::LeastMove;
 pub use steps::SearchSteps;
-pub use tables::{PositionTable, Tables};
+pub use tables::{PositionTable, Tables, UnitKey, UnitTable};

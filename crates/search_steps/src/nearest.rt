@@ -27,8 +27,8 @@ pub fn least_by<B: Bounds>(
 ) -> Result<List<LeastMove<Key>>, Mem>
     requires request { IsRequest case.now.request.now }
     requires known { residual.now.at.slice < length case.now.request.now.slices }
-    requires right { AreTables case.now.book.now case.now.request.now tables.old.kept.items tables.old.network }
-    ensures right { AreTables case.now.book.now case.now.request.now tables.new.kept.items tables.new.network }
+    requires right { AreTables case.now.book.now case.now.request.now tables.old }
+    ensures right { AreTables case.now.book.now case.now.request.now tables.new }
     ensures least { IfOk result (λ ms. AreLeastMoves case.now.book.now case.now.request.now (BoundBy IsKey residual_of (B.bound bounds.now)) residual.now wanted (map (least_as residual_of) ms)) }
     ensures live { IfOk result (LeaveLive IsKey) }
 {
@@ -53,8 +53,8 @@ fn least_over<B: Bounds>(
 ) -> Result<List<LeastMove<Key>>, Mem>
     requires request { IsRequest search.now.request.now }
     requires known { search.now.residual.now.at.slice < length search.now.request.now.slices }
-    requires right { AreTables search.now.book.now search.now.request.now tables.old.kept.items tables.old.network }
-    ensures right { AreTables search.now.book.now search.now.request.now tables.new.kept.items tables.new.network }
+    requires right { AreTables search.now.book.now search.now.request.now tables.old }
+    ensures right { AreTables search.now.book.now search.now.request.now tables.new }
     ensures least { IfOk result (λ ms. AreLeastMoves search.now.book.now search.now.request.now (BoundBy IsKey residual_of (B.bound search.now.bounds.now)) search.now.residual.now wanted (map (least_as residual_of) ms)) }
     ensures live { IfOk result (LeaveLive IsKey) }
 {

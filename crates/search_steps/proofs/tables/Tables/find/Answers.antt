@@ -1,0 +1,19 @@
+use Rattle.std.proofs.Common.{arith}
+use Rattle.search_steps.proofs.Kept.{table_last, tables_more, units_stay}
+use Rattle.search_steps.proofs.tables.Tables.find.Goals as goal
+
+pub returns-clause-right : goal.returns-clause-right
+returns-clause-right c =
+    let b = c.args.case.now.book.now in
+    let q = c.args.case.now.request.now in
+    let old = c.args.self.now in
+    let kept = c.push.new.self.items in
+    let right = c.requires.right in
+    record {
+      tables = tables_more b q old.kept.items kept c.in_ok-table.table c.in_ok-push.ensures.items right.tables c.in_ok-table.ensures.listed;
+      units = units_stay q old.kept.items kept c.in_ok-table.table old.units.items c.in_ok-push.ensures.items right.units;
+      network = c.table_with_lists.ensures.network;
+    }
+
+pub returns-clause-found : goal.returns-clause-found
+returns-clause-found c = table_last c.args.self.now.kept.items c.push.new.self.items c.in_ok-table.table _ c.len-place.result c.in_ok-push.ensures.items (omega (arith, c.len-place.ensures)) c.in_ok-table.ensures.at
