@@ -7,7 +7,8 @@ import subprocess
 import time
 
 MOST_SECONDS = 300
-CHUNK = 250
+CHUNK = 50
+PROGRESS_SECONDS = 10
 
 
 def ran(program, words, given, **more):
@@ -64,6 +65,7 @@ class Survey:
         global _judge
         _judge = judge
         pool = context.Pool(jobs) if jobs > 1 else None
+        told = time.monotonic()
         while self.reached < count:
             begun = time.monotonic()
             numbers = range(self.reached, min(count, self.reached + CHUNK))
@@ -74,7 +76,9 @@ class Survey:
             self.reached = numbers.stop
             self.seconds += time.monotonic() - begun
             self.keep(count)
-            print(f"{self.name}: {self.reached} of {count}, {len(self.found)} found, {self.seconds:.0f} s", flush=True)
+            if self.reached == count or time.monotonic() - told > PROGRESS_SECONDS:
+                told = time.monotonic()
+                print(f"{self.name}: {self.reached} of {count}, {len(self.found)} found, {self.seconds:.0f} s", flush=True)
         if pool:
             pool.terminate()
         return not self.found
