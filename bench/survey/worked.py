@@ -1,4 +1,6 @@
 """The worked cases of each command, made of the examples: a certificate and a ticket are those that the program itself writes."""
+import os
+
 from survey import ran
 
 NAMES = ["one-way", "round-trip", "two-carriers"]
@@ -75,3 +77,16 @@ def worked(program, top):
         ("make-summary", ["make", "--seed", "7", "--size", "2", "--summary"], b""),
         ("serve-two-desks", ["serve"], two_desks(top)),
     ]
+
+
+def examples(top):
+    """Names, words and inputs of all examples that stand in a file."""
+    folder = f"{top}/examples"
+    for name in sorted(os.listdir(folder)):
+        if name.endswith(".case"):
+            stem = name.removesuffix(".case")
+            words = ["search"]
+            if os.path.exists(f"{folder}/{stem}.words"):
+                with open(f"{folder}/{stem}.words") as held:
+                    words = held.read().split()
+            yield stem, words, search_case(top, stem)
