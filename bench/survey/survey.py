@@ -59,8 +59,12 @@ class Survey:
         print(f"{self.name} {number}: {told}", flush=True)
 
     def run(self, count, judge):
-        """Judges each number below the count. `judge` gives what it saw, a list of names, and None or what is wrong and the case."""
-        jobs = int(os.environ.get("JOBS", "1"))
+        """Judges each number below the count. `judge` gives what it saw, a list of names, and None or what is wrong and the case.
+
+        JOBS is how many are judged at a time, and with SAMPLE n only each n-th is judged, for a quick look.
+        """
+        jobs, step = int(os.environ.get("JOBS", "1")), int(os.environ.get("SAMPLE", "1"))
+        count = -(-count // step)
         context = multiprocessing.get_context("fork")
         global _judge
         _judge = judge
@@ -68,12 +72,13 @@ class Survey:
         told = time.monotonic()
         while self.reached < count:
             begun = time.monotonic()
-            numbers = range(self.reached, min(count, self.reached + CHUNK))
+            until = min(count, self.reached + CHUNK)
+            numbers = range(self.reached * step, until * step, step)
             for number, (names, wrong) in zip(numbers, pool.imap(_judged, numbers) if pool else map(judge, numbers)):
                 self.seen.update(names)
                 if wrong:
                     self.find(number, *wrong)
-            self.reached = numbers.stop
+            self.reached = until
             self.seconds += time.monotonic() - begun
             self.keep(count)
             if self.reached == count or time.monotonic() - told > PROGRESS_SECONDS:
