@@ -66,8 +66,11 @@ def nested_ticket(case, deep, draw):
 
 
 def eighteen(draw):
-    """Six slices of three flights, and a fare for each flight: tickets of eighteen components."""
+    """Six slices of three flights, and a fare for each flight, mostly for it alone: tickets of eighteen components."""
     case = Case(draw)
+    alone = draw.random() < 0.7
+    if alone:
+        case.rule(1, {"cat8": {"max": 0, "charge": 0}, "cat9": {"max": 0, "online": False}})
     for at in range(6):
         way = draw.sample(PLACES, 4) if not at else [way[-1], *draw.sample([name for name in PLACES if name != way[-1]], 3)]
         case.slice_over(way, 2 * at)
@@ -76,7 +79,7 @@ def eighteen(draw):
         fields = flight.split(",")
         put[fields[2], fields[3]] = None
     for start, end in put:
-        case.fare(start, end, draw.choice("OOOOS"), draw.randint(100, 200))
+        case.fare(start, end, draw.choice("OOOOS"), draw.randint(100, 200), rule=int(alone))
     ticket = []
     for at, flight in enumerate(case.flights):
         fields = flight.split(",")

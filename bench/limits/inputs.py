@@ -165,8 +165,12 @@ def longest_component(more):
 
 
 def eighteen():
+    """Six slices of three flights, on fares that are each for one flight alone."""
     ways = [["LON", "XAA", "XAB", "NYC"] if at % 2 == 0 else ["NYC", "XAA", "XAB", "LON"] for at in range(6)]
-    return chain(ways, legs(ways), best=1)
+    case = chain(ways, [], best=1)
+    alone = rule(1, cat8={"max": 0, "charge": 0}, cat9={"max": 0, "online": False})
+    case.filings = [[alone, *(fare(start, end, rule=1) for start, end, _ in legs(ways))]]
+    return case
 
 
 def with_ticket(case, more):
@@ -194,7 +198,8 @@ def brackets(count, closed=True):
 
 def moves(count):
     """A certificate of one answer of so many moves, and no rows."""
-    lines = ["certificate 1", "version 1", "request {}", "answers 1", "answer 1" + " 1 1 QX Y1 0 0" * count, "rows 0", "end"]
+    asked = json.dumps(Case().request, separators=(",", ":"), sort_keys=True)
+    lines = ["certificate 1", "version 1", f"request {asked}", "answers 1", "answer 1" + " 1 1 QX Y1 0 0" * count, "rows 0", "end"]
     return Case(after=["#certificate", *lines])
 
 
@@ -228,10 +233,10 @@ def limits():
     yield from case("charge 1,000,000 of a stopover", lambda more: Case(filings=[[rule(1, cat8={"max": 3, "charge": 10**6 + more}), fare(rule=1)]]), "action 1 Rule Range", '{"actions"')
     surcharge = {"carrier": "QX", "low": 101, "high": 101, "first": date(0), "last": date(0)}
     yield from case("amount 1,000,000 of a surcharge", lambda more: Case(filings=[[rule(1, cat12=[{**surcharge, "amount": 10**6 + more}]), fare(rule=1)]]), "action 1 Rule Range", '{"actions"', expected=(0, "ticket 1 price 1020000"))
-    yield from case("6 slices", six, "BadRequest Slices", '{"sale"', expected=(0, "tickets 1"))
+    yield from case("6 slices", six, "BadRequest Slices", '{"sale"', expected=(0, "tickets 3"))
     yield from line("3 flights in a slice", lambda: longest_slice(0).text(), (lambda: longest_slice(1).text(), (0, "tickets 0")))
     yield from line("4 flights in a component", lambda: longest_component(0).text(), (lambda: longest_component(1).text(), (0, "tickets 0")))
-    yield "18 components of a ticket", "at", ["search"], lambda: eighteen().text(), found
+    yield "18 components of a ticket", "at", ["search"], lambda: eighteen().text(), (0, "ticket 1 price 360000")
     yield from case("18 moves of an answer", lambda more: moves(18 + more), "Syntax", "answer 1", expected=(7, "no C1 0"), words=["check"])
     yield from case("18 components of a ticket that is judged", lambda more: with_ticket(eighteen(), more), "Ticket", "component 19 ", expected=(0, "lawful price 360000"), words=["verdict"])
     yield from line("2 units open at once", lambda: open_units(2).text(), (lambda: open_units(3).text(), (0, "tickets 0")))
@@ -250,7 +255,7 @@ def limits():
     yield from case("party 9", lambda more: Case(request=asking(party=9 + more)), "BadRequest Party", '{"sale"')
     yield from case("a window of 7 days", lambda more: Case(request=asking(slices=[one_slice("LON", "NYC", 0, 7 + more)])), "BadRequest Window", '{"sale"')
     yield from case("least connect time 1,440", lambda more: Case(places=["LON,60", f"NYC,{1440 + more}"]), "BadRow column 2", "NYC,")
-    yield from case("flight number 9999", lambda more: Case(flights=[*Case().flights, flight(9999 + more, "LON", "NYC", 9)]), "BadRow column 2", "QX,")
+    yield from case("flight number 9999", lambda more: Case(flights=[*Case().flights, flight(9999 + more, "LON", "NYC", 9)]), "BadRow column 2", "QX,10000,")
     yield from case("offset +14:00", lambda more: Case(flights=[*Case().flights, flight(1, "LON", "NYC", 9).replace("+00:00", f"+14:0{more}")]), "BadRow column 6", "QX,1,")
     yield from case("a period of 366 days", lambda more: Case(flights=[*Case().flights, flight(1, "LON", "NYC", 9, period=365 + more)]), "BadPeriod", "QX,1,")
     yield from line("lists in lists, 127 deep", lambda: brackets(127).text(), (lambda: brackets(128).text(), (1, "refused 9 Syntax")), (1, "refused 9 action 0 Shape"))
