@@ -1,7 +1,7 @@
 #!/usr/bin/env bash
 # Runs all that is tried against the program, one part after the other, and prints the tables for docs/RELIABILITY.md:
 # bench/hostile.sh PEER DONE [CASES [PART ..]]. PEER is another program of the same formats, CASES how many random cases are compared
-# (100,000), and the parts are memory, streams, damage, limits, differ, fuzz and memcheck. The folder DONE keeps how far each part came:
+# (100,000), and the parts are memory, streams, damage, limits, differ, fuzz, desks and memcheck. The folder DONE keeps how far each part came:
 # called again with it, a run that was cut off goes on, and what is done isn't done again. JOBS is how many runs there are at a time (1).
 set -euo pipefail
 top=$(cd "$(dirname "$0")/.." && pwd)
@@ -9,7 +9,7 @@ top=$(cd "$(dirname "$0")/.." && pwd)
 source "$top/bench/survey/program.sh"
 peer=$1 done=$2 cases=${3:-100000}
 parts=("${@:4}")
-[ ${#parts[@]} -gt 0 ] || parts=(memory streams damage limits differ fuzz memcheck)
+[ ${#parts[@]} -gt 0 ] || parts=(memory streams damage limits differ fuzz desks memcheck)
 export LOWFARE=$program DONE=$done
 
 mkdir -p "$done"
@@ -26,7 +26,7 @@ for part in "${parts[@]}"; do
   case $part in
     memory | streams | memcheck) "$top/bench/$part.sh" "$done" ;;
     damage | limits) "$top/bench/$part.sh" "$peer" "$done" ;;
-    differ | fuzz) "$top/bench/$part.sh" "$peer" 1 "$cases" ;;
+    differ | fuzz | desks) "$top/bench/$part.sh" "$peer" 1 "$cases" ;;
     *) echo "no such part: $part" >&2 && exit 2 ;;
   esac || status=1
 done

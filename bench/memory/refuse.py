@@ -49,7 +49,7 @@ def each_allocation(program, library, done, name, words, case, wholes):
 
 def less_room(program, done):
     """A search with an address space from the least in which the program starts to the first in which it ends."""
-    case = ran(program, ["make", "--seed", "1", "--size", "60"], b"")[0]
+    case = ran(program, ["make", "--seed", "1", "--size", "30"], b"")[0]
     usage, whole = ran(program, [], b""), ran(program, ["search"], case)
 
     def within(words, given, steps):

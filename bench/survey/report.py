@@ -15,6 +15,7 @@ PARTS = {
     "limits": "`bench/limits.sh`: one input at each limit and one past it",
     "differ": "`bench/differ.sh`: random cases",
     "fuzz": "`bench/fuzz.sh`: examples changed at random",
+    "desks": "`bench/desks.sh`: random cases of `serve`",
     "memcheck": "`bench/memcheck.sh`: the examples and worked cases under memcheck",
 }
 
@@ -51,7 +52,7 @@ def main():
             print(f"\n| {part} | Times | What came |\n|---|---|---|")
         for one in every[part]:
             print(f"| {one['name'].removeprefix(part + '-')} | {times(one['reached'])} | {listed(one['seen'])} |")
-    for part in ("streams", "differ"):
+    for part in ("streams", "differ", "desks"):
         seen = sum((collections.Counter(one["seen"]) for one in every[part]), collections.Counter())
         if seen:
             print(f"\n| {part} | Times |\n|---|---|")
