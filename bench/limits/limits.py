@@ -14,15 +14,15 @@ from survey import MOST_SECONDS, serves
 
 
 def measured(program, words, case):
-    """Text, status, seconds and megabytes at the most."""
+    """Text, status, processor seconds and megabytes at the most."""
     with tempfile.NamedTemporaryFile() as given, tempfile.NamedTemporaryFile("r") as told:
         given.write(case)
         given.flush()
-        timed = ["/usr/bin/time", "-q", "-o", told.name, "-f", "%e %M", program, *words]
+        timed = ["/usr/bin/time", "-q", "-o", told.name, "-f", "%U %S %M", program, *words]
         with open(given.name, "rb") as held:
             end = subprocess.run(timed, stdin=held, stdout=subprocess.PIPE, stderr=subprocess.DEVNULL, timeout=MOST_SECONDS)
-        seconds, kilobytes = told.read().split()
-    return end.stdout, end.returncode, float(seconds), int(kilobytes) / 1000
+        *seconds, kilobytes = map(float, told.read().split())
+    return end.stdout, end.returncode, round(sum(seconds), 2), kilobytes / 1000
 
 
 def one_limit(program, peer, words, make, expected):
