@@ -4,6 +4,7 @@ import json
 import random
 
 from filings import Filings
+from rare import rare_lines
 from timetable import FIRST_DAY, Timetable, date
 
 
@@ -87,6 +88,19 @@ def options(draw, *names):
         if draw.random() < 0.2:
             words += [f"--{name}", str(draw.choice(ranges[name]))]
     return words
+
+
+def exact_budget(draw, words, lines, answered):
+    """Now and then the budget that the search needs, or one less."""
+    if "--budget" in words or draw.random() < 0.8:
+        return []
+    answer = answered(words, text_of(lines)).decode().splitlines()
+    rows = next((int(line.split(" ")[1]) for line in answer if line.startswith("rows ")), 0)
+    return ["--budget", str(max(1, rows - draw.choice([0, 1])))]
+
+
+def text_of(lines):
+    return ("\n".join([*lines, "#end"]) + "\n").encode()
 
 
 def changed_number(draw, words):
@@ -185,15 +199,20 @@ def case_of(seed, answered):
         return make_words(draw), b""
     if kind == "words":
         return bad_words(draw), damaged(draw, search_lines(draw))
-    lines = search_lines(draw, kind == "calendar")
+    lines, ticket = search_lines(draw, kind == "calendar"), None
+    if kind != "calendar" and draw.random() < 0.15:
+        lines, ticket = rare_lines(draw)
     if kind == "search":
-        return ["search", *options(draw, "best", "budget", "at")], damaged(draw, lines)
+        words = ["search", *options(draw, "best", "budget", "at")]
+        return [*words, *exact_budget(draw, words, lines, answered)], damaged(draw, lines)
     if kind == "calendar":
         spans = ["--outs", str(draw.choice([1, 2, 3, 7])), "--backs", str(draw.choice([1, 2, 4]))]
         return ["calendar", *spans, *options(draw, "budget", "at")], damaged(draw, lines)
-    answer = answered(["search"], ("\n".join([*lines, "#end"]) + "\n").encode()).decode().splitlines()
+    answer = answered(["search"], text_of(lines)).decode().splitlines()
     if kind == "check":
         at = next((at for at, line in enumerate(answer) if line.startswith("certificate ")), None)
         written = answer[at:] if at is not None else ["certificate 1"]
         return ["check", *options(draw, "best", "at")], damaged(draw, [*lines, "#certificate", *changed_certificate(draw, written)])
-    return ["verdict", *options(draw, "at")], damaged(draw, [*lines, "#ticket", *ticket_lines(draw, answer, lines)])
+    if ticket is None or draw.random() < 0.3:
+        ticket = ticket_lines(draw, answer, lines)
+    return ["verdict", *options(draw, "at")], damaged(draw, [*lines, "#ticket", *ticket])

@@ -79,7 +79,38 @@ def rule(draw, carriers, places):
     }
     share = draw.choice([3, 10, 30]) / 100
     chosen = [name for name in members if draw.random() < share]
-    return {name: members[name]() for name in chosen}
+    found = {name: members[name]() for name in chosen}
+    if draw.random() < 0.03:
+        found.update(at_its_end(draw, carriers))
+    return found
+
+
+def at_its_end(draw, carriers):
+    """A category with a number or a length at the end of its range, or one past it."""
+    past = draw.choice([0, 0, 1])
+    day, flight = [date(0), date(0)], [carriers[0], 1, 9999]
+    surcharge = {"carrier": carriers[0], "low": 1, "high": 9999, "first": date(0), "last": date(0), "amount": 1}
+    return draw.choice(
+        [
+            {"cat2": {"days": [1, 2, 3, 4, 5, 6, 7 + past], "from": "00:00", "to": "23:59"}},
+            {"cat2": {"days": [1, 2, 3, 4, 5, 6, 7], "from": "10:00" if not past else "10:01", "to": "10:00"}},
+            {"cat3": [day] * (8 + past)},
+            {"cat4": {"allow": True, "flights": [flight] * (16 + past)}},
+            {"cat4": {"allow": False, "flights": [[carriers[0], 1 - past, 1]]}},
+            {"cat4": {"allow": True, "flights": [[carriers[0], 1, 9999 + past]]}},
+            {"cat5": 365 + past},
+            {"cat6": {"days": 365 + past, "sunday": False}},
+            {"cat7": 365 + past},
+            {"cat8": {"max": 3 + past, "charge": 1000000}},
+            {"cat8": {"max": 3, "charge": 1000000 + past}},
+            {"cat8": {"max": 3, "charge": 0, "places": ["LON"] * (16 + past)}},
+            {"cat9": {"max": 3 + past, "online": False}},
+            {"cat10": {"kinds": KINDS[past:] + KINDS[:past], "partners": "any", "end_on_end": "free"}},
+            {"cat12": [surcharge] * (8 + past)},
+            {"cat12": [{**surcharge, "amount": 1000000 + past}]},
+            {"cat14": {"ranges": [day] * (8 + past), "by": date(0)}},
+        ]
+    )
 
 
 class Filings:

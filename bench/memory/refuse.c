@@ -1,21 +1,24 @@
-/* Loaded before a program: refuses one allocation, the one whose number REFUSE names, and at the end writes how many were
- * asked for to the file that COUNTED names. */
+/* Loaded before a program: refuses one allocation, the one whose number REFUSE names, or where FROM is set all from that one
+ * on, and at the end writes how many were asked for to the file that COUNTED names. A thread that is asked for counts as an
+ * allocation. */
 #define _GNU_SOURCE
 #include <dlfcn.h>
 #include <errno.h>
 #include <fcntl.h>
+#include <pthread.h>
 #include <stddef.h>
 #include <stdlib.h>
 #include <string.h>
 #include <unistd.h>
 
 static unsigned long asked, refused;
-static int is_ready;
+static int is_ready, all_from;
 
 /* What is asked for before the program's own start is none of its allocations. */
 __attribute__((constructor)) static void begin(void) {
     const char *number = getenv("REFUSE");
     refused = number ? strtoul(number, NULL, 10) : 0;
+    all_from = getenv("FROM") != NULL;
     is_ready = 1;
 }
 
@@ -36,7 +39,10 @@ __attribute__((destructor)) static void end(void) {
 }
 
 static int is_refused(void) {
-    return is_ready && __atomic_add_fetch(&asked, 1, __ATOMIC_SEQ_CST) == refused;
+    unsigned long number;
+    if (!is_ready) return 0;
+    number = __atomic_add_fetch(&asked, 1, __ATOMIC_SEQ_CST);
+    return refused && (number == refused || (all_from && number > refused));
 }
 
 extern void *__libc_malloc(size_t), *__libc_calloc(size_t, size_t), *__libc_realloc(void *, size_t), *__libc_memalign(size_t, size_t);
@@ -59,4 +65,10 @@ int posix_memalign(void **held, size_t to, size_t size) {
     if (!made) return ENOMEM;
     *held = made;
     return 0;
+}
+
+int pthread_create(pthread_t *thread, const pthread_attr_t *how, void *(*body)(void *), void *given) {
+    static int (*next)(pthread_t *, const pthread_attr_t *, void *(*)(void *), void *);
+    if (!next) *(void **)&next = dlsym(RTLD_NEXT, "pthread_create");
+    return is_refused() ? EAGAIN : next(thread, how, body, given);
 }

@@ -1,0 +1,17 @@
+# shellcheck shell=bash
+# For the scripts beside this folder. `program` is what LOWFARE names, else the proved program itself that ./lowfare keeps: what is
+# loaded before it, or counts its memory, must not meet a shell.
+
+: "${top:?}"
+# shellcheck source=launch/proved.sh
+source "$top/launch/proved.sh"
+program=${LOWFARE:-$(kept_program "$(source_sum)")}
+if [ ! -x "$program" ]; then
+  echo "no program of these sources is kept yet: call ./lowfare once" >&2
+  exit 1
+fi
+
+# Runs one of the surveys.
+survey() {
+  PYTHONPATH=$top/bench/survey:$top/bench/differ PYTHONDONTWRITEBYTECODE=1 python3 "$top/bench/$1" "${@:2}"
+}
