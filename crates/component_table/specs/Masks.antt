@@ -14,9 +14,9 @@ pub record IsMask (b : Book) (q : Request) (f : Flight) (mask : ℕ) : Type 0 wh
 abbrev pub IsMaskOf : Book → Request → ℕ → ℕ → Type 0
 IsMaskOf b q n mask = (f : Flight) → flight_at b n ≡ Some f → IsMask b q f mask
 
--- each mask that is known is that of its flight
-abbrev pub AreMasks : Book → Request → Masks → Type 0
-AreMasks b q ms = (n mask : ℕ) → slice_get ms.known.items n ≡ Some (Some mask) → IsMaskOf b q n mask
+-- Each mask that is known is that of its flight.
+pub record AreMasks (b : Book) (q : Request) (ms : Masks) : Type 0 where
+  pub each : (n mask : ℕ) → slice_get ms.known.items n ≡ Some (Some mask) → IsMaskOf b q n mask
 
 -- each mask that is known was known before
 abbrev pub KnowsNoMore : List (Option ℕ) → List (Option ℕ) → Type 0

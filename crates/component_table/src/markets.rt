@@ -14,7 +14,7 @@ use std::sync::Arc;
 use ticket_order::order_laws;
 
 /// The ends of a market.
-#[derive(Clone, Copy, PartialEq, Eq, Hash, Debug)]
+#[derive(Clone, Copy, PartialEq, Eq, Debug)]
 pub struct MarketKey {
     pub from: Place,
     pub to: Place,
@@ -31,8 +31,17 @@ pub struct Market {
 #[derive(Drop)]
 pub struct Markets {
     pub kept: Vec<Market>,
-    /// Where a market may stand.
-    pub places: IndexMap<MarketKey, usize>,
+    /// Where a market may stand, by the letters of its ends.
+    pub places: IndexMap<u64, usize>,
+}
+
+impl MarketKey {
+    /// The letters, as one number.
+    fn letters(self) -> u64 {
+        let [a, b, c] = self.from.0;
+        let [d, e, f] = self.to.0;
+        u64::from_le_bytes([a, b, c, d, e, f, 0, 0])
+    }
 }
 
 impl Markets {
@@ -81,17 +90,17 @@ impl Markets {
         let at = self.kept.len();
         let groups = groups_of(alloc, sheet.rows.as_slice())?;
         let sheet = Arc::try_clone(sheet)?;
-        self.places.insert(key, at)?;
+        self.places.insert(key.letters(), at)?;
         self.kept.push(Market { sheet, groups })?;
         Ok(at)
     }
 }
 
 /// Where the market of these ends stands, if it is known.
-fn known(kept: &[Market], places: &IndexMap<MarketKey, usize>, key: MarketKey) -> Option<usize>
+fn known(kept: &[Market], places: &IndexMap<u64, usize>, key: MarketKey) -> Option<usize>
     ensures { IfSome result (StandsAt kept.now key) }
 {
-    let at = places.get(&key).copied()?;
+    let at = places.get(&key.letters()).copied()?;
     let market = kept.get(at)?;
     let sheet: &MarketSheet = &market.sheet;
     if sheet.from.is(key.from) && sheet.to.is(key.to) {
