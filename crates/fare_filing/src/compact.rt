@@ -11,6 +11,7 @@ use crate::fields::{
     basis_after, carrier_after, class_after, kind_after, number_after, place_after, text_after,
 };
 use crate::pieces::after;
+use crate::room::room_for;
 use fare_law::{Action, Fare, FareKey, Filing, List, Mem, SeatKey};
 use name_text::{names_read_again, seat_day_of, seats_of};
 use std::alloc::Global;
@@ -39,7 +40,7 @@ fn compact_actions(alloc: Global, text: &[u8]) -> Result<Option<List<Action>>, M
     ensures limits { IfOk result (λ found. IfSome found (Each IsAction)) }
     ensures few { IfOk result (λ found. IfSome found (λ actions. length actions ≤ 5000)) }
 {
-    let mut actions = List::new(alloc);
+    let mut actions = room_for(alloc, likely_count(text))?;
     let mut rest = text;
     for _ in 0..5000usize {
         let Some((action, more)) = compact_action(rest) else {
@@ -53,6 +54,11 @@ fn compact_actions(alloc: Global, text: &[u8]) -> Result<Option<List<Action>>, M
         }
     }
     Ok(None)
+}
+
+// About how many actions a text has: one that puts a fare or seats is seldom shorter.
+fn likely_count(text: &[u8]) -> usize {
+    (text.len() / 100).min(5000)
 }
 
 // Whether the list and the filing's object end here, and the text with them.

@@ -10,6 +10,7 @@ mod fault;
 mod fields;
 mod pieces;
 mod reading;
+mod room;
 mod rows;
 mod rules;
 mod seats;

@@ -1,5 +1,5 @@
 //! Reading a filing.
-ghost use Rattle.std.specs.Prelude.{◌≡◌, ◌≤◌, [], length, IfOk};
+ghost use Rattle.std.specs.Prelude.{◌≡◌, ◌≤◌, length, IfOk};
 ghost use Rattle.serde_json.specs.View.{view, items_view};
 ghost use Rattle.fare_law.specs.FilingLimits.{IsAction, IsFiling};
 ghost use Rattle.fare_law.specs.Lists.{Each};
@@ -9,7 +9,8 @@ ghost use Rattle.fare_filing.specs.Reading.{Tells};
 use crate::FilingFault;
 use crate::actions::read_action;
 use crate::compact::compact_filing;
-use fare_law::{Action, Filing, List, Mem};
+use crate::room::room_for;
+use fare_law::{Action, Filing, List};
 use json_form::{has_members, items_at, read_value};
 use serde_json::Value;
 use std::alloc::Global;
@@ -82,11 +83,4 @@ fn each_action(alloc: Global, items: &[Value]) -> Result<List<Action>, FilingFau
         actions.push(action)?;
     }
     Ok(actions)
-}
-
-// An empty list with room for so many actions, so that none of them is moved as the list grows.
-fn room_for(alloc: Global, count: usize) -> Result<List<Action>, Mem>
-    ensures { IfOk result (λ actions. actions ≡ []) }
-{
-    Ok(List::from_vec(Vec::with_capacity(alloc, count)?))
 }
