@@ -57,3 +57,7 @@ module _ {X : Type 0} (P : X → Chosen → Type 0) where
         | inl l ↦ inl (s.0, l, s.2)
         | inr l ↦ inr (subst (λ y. P y z) (in_one s.0 x l) s.2)
       ]
+
+-- one of the first and one more is one of the first, or that one
+pub one_added : {X : Type 0} (xs : List X) (i : ℕ) (d x y : X) → i < length xs → x ≡ get_or xs i d → IsIn y (take (i + 1) xs) → IsIn y (take i xs) ⊎ (y ≡ x)
+one_added xs i d x y lt e j = elim (in_either y (take i xs) (x ∷ []) (subst (IsIn y) (one_more xs i d x lt e) j)) [ inl k ↦ inl k | inr k ↦ inr (in_one y x k) ]

@@ -6,4 +6,5 @@ pub mod RoleMoves
 pub mod GroupMoves
 pub mod MarketMoves
 pub mod PathMoves
-pub mod EndsKnown
+pub mod LeadMoves
+pub mod Hoped

@@ -1,7 +1,8 @@
 -- What is read from lists, and what holds of the first and the last of some flights.
-use Rattle.std.proofs.Common.{◌≡◌, ℕ, zero, suc, ◌<◌, ◌≤◌, ◌+◌, Bool, true, false, List, [], ◌∷◌, length, get_or, slice_get, Some, Result, Ok, Err, IfOk, OnOk, refl, sym, ap, subst, ◌∙◌, inl, arith}
+use Rattle.std.proofs.Common.{◌≡◌, ◌⊎◌, ℕ, zero, suc, ◌<◌, ◌≤◌, ◌+◌, Bool, true, false, List, [], ◌∷◌, length, get_or, slice_get, Some, Result, Ok, Err, IfOk, OnOk, refl, sym, ap, subst, ◌∙◌, inl, inr, arith}
 use Rattle.fare_law.specs.declared.flights.Flight.{Flight}
 use Rattle.fare_law.specs.Lists.{IsIn, OnFirst, OnLast}
+use Rattle.open_unit.specs.declared.units.OpenUnit.{OpenUnit}
 use Rattle.residual_keys.specs.Steps.{MarketOver}
 
 pub got_lt : {X : Type 0} (xs : List X) (n : ℕ) (x : X) → slice_get xs n ≡ Some x → n < length xs
@@ -25,11 +26,11 @@ pub on_ok : {A E : Type 0} (r : Result A E) (P Q : Type 0) → (P → Q) → OnO
 on_ok (Ok x) P Q f p = f p
 on_ok (Err e) P Q f p = tt
 
-on_first_as : (P : Flight → Type 0) (fs : List Flight) (f : Flight) → OnFirst (λ x. f ≡ x) fs → P f → OnFirst P fs
+pub on_first_as : (P : Flight → Type 0) (fs : List Flight) (f : Flight) → OnFirst (λ x. f ≡ x) fs → P f → OnFirst P fs
 on_first_as P [] f h p = absurd h
 on_first_as P (x ∷ fs) f h p = subst P h p
 
-on_last_as : (P : Flight → Type 0) (fs : List Flight) (f : Flight) → OnLast (λ x. f ≡ x) fs → P f → OnLast P fs
+pub on_last_as : (P : Flight → Type 0) (fs : List Flight) (f : Flight) → OnLast (λ x. f ≡ x) fs → P f → OnLast P fs
 on_last_as P [] f h p = absurd h
 on_last_as P (x ∷ []) f h p = subst P h p
 on_last_as P (x ∷ y ∷ fs) f h p = on_last_as P (y ∷ fs) f h p
@@ -49,3 +50,12 @@ clash p q = cc
 
 pub low_sum : (a c charges : ℕ) → a ≤ 3000000 → c ≤ 32000000 → charges ≡ a + c → charges ≤ 35000000
 low_sum a c charges h k e = omega (arith, h, k, e)
+
+-- of two open units at most, one has place 0 or 1
+pub places : (us : List OpenUnit) (slot : ℕ) (u : OpenUnit) → length us ≤ 2 → slice_get us slot ≡ Some u → (◌≡◌ {A = ℕ} slot 0) ⊎ (◌≡◌ {A = ℕ} slot 1)
+places us zero u few e = inl refl
+places us (suc zero) u few e = inr refl
+places [] (suc (suc s)) u few e = cc
+places (x ∷ []) (suc (suc s)) u few e = cc
+places (x ∷ y ∷ []) (suc (suc s)) u few e = cc
+places (x ∷ y ∷ z ∷ us) (suc (suc s)) u few e = absurd (omega arith)

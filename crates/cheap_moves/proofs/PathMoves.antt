@@ -2,7 +2,7 @@
 use Rattle.std.proofs.Common.{◌≡◌, ◌⊎◌, ℕ, ◌+◌, ◌≤◌, ◌<◌, Bool, true, false, List, [], ◌∷◌, length, map, take, get_or, slice_get, MatchBool, Option, Some, None, refl, sym, ap, subst, ◌∙◌, inl, inr, arith}
 use Rattle.cheap_moves.specs.declared.component.Flown.{Flown}
 use Rattle.cheap_moves.specs.Making.{IsFlown, IsOver, IsWithinFiled, IsWithinOn, Of}
-use Rattle.cheap_moves.specs.Within.{IsMoveWithin}
+use Rattle.cheap_moves.specs.Within.{CountsWithin, IsMoveWithin}
 use Rattle.cheap_moves.proofs.Joining.{differs_before, of_more}
 use Rattle.component_table.specs.declared.markets.Market.{Market}
 use Rattle.component_table.specs.declared.markets.MarketKey.{MarketKey}
@@ -94,48 +94,14 @@ module _ (b : Book) (q : Request) (r : State) (bound : State → Option ℕ) (li
           differs_before (λ (w : Path). w) paths i d p y (subst AllDifferent (same_map paths) are.once) lt e j
           (path_one b q r y p k.0 l.0 k.1 l.1 (sym x.0.1 ∙ ap (λ (w : Move). w.flights) s ∙ z.0.1))
 
-  -- a move's flights end where a fare is filed
-  module _ (others : (place : Place) → wanted place ≡ false → NoFare b r.at.place place × NoFare b place r.at.place) where
-    end_wanted : (c : Chosen) (k : IsChosen b q r c) → EndWanted wanted k.flights
-    end_wanted c k = by k.flights (path_begins b q.slices r.at c.mv.flights k.flights k.after k.moves.path) (moves_key b q r c.mv k.flights k.piece k.after k.units k.moves).ends
-      where
-        key : FareKey
-        key = k.piece.fare.key
-
-        one : (z : Flight) (from : Place) → from ≡ r.at.place → MatchBool (closes c.mv.role) ((key.from ≡ z.to) × (key.to ≡ from)) ((key.from ≡ from) × (key.to ≡ z.to)) → wanted z.to ≡ true
-        one z from e h = of (wanted z.to) refl
-          where
-            of : (t : Bool) → wanted z.to ≡ t → wanted z.to ≡ true
-            of true w = w
-            of false w = absurd (filed (closes c.mv.role) h)
-              where
-                no_fare : live_fare b key ≡ None → ⊥
-                no_fare n = clash_some (sym k.moves.stands.fare ∙ n)
-                  where
-                    clash_some : Some k.piece.fare ≡ None → ⊥
-                    clash_some x = cc
-
-                filed : (t : Bool) → MatchBool t ((key.from ≡ z.to) × (key.to ≡ from)) ((key.from ≡ from) × (key.to ≡ z.to)) → ⊥
-                filed true x = no_fare ((others z.to w).1 key x.0 (x.1 ∙ e))
-                filed false x = no_fare ((others z.to w).0 key (x.0 ∙ e) x.1)
-
-        last : (gs : List Flight) (from : Place) → from ≡ r.at.place → OnLast (λ z. MatchBool (closes c.mv.role) ((key.from ≡ z.to) × (key.to ≡ from)) ((key.from ≡ from) × (key.to ≡ z.to))) gs → OnLast (λ z. wanted z.to ≡ true) gs
-        last [] from e h = absurd h
-        last (z ∷ []) from e h = one z from e h
-        last (y ∷ z ∷ gs) from e h = last (z ∷ gs) from e h
-
-        by : (gs : List Flight) → OnFirst (λ f. f.from ≡ r.at.place) gs → MarketOver (closes c.mv.role) gs key.from key.to → EndWanted wanted gs
-        by [] h e = absurd h
-        by (f ∷ gs) h e = last (f ∷ gs) f.from h e
-
-    -- all paths that were seen have all moves
-    pub all_paths : (old new : List Chosen) → Adds (Of (IsWithinOn b q r bound limit) paths) old new → Adds (IsMoveWithin b q r bound limit) old new
-    all_paths old new h = adds_like (Of (IsWithinOn b q r bound limit) paths) (IsMoveWithin b q r bound limit) old new h (λ c. (λ u. (u.2.0.0, u.2.1), λ k. back c k))
-      where
-        back : (c : Chosen) → IsMoveWithin b q r bound limit c → Of (IsWithinOn b q r bound limit) paths c
-        back c k =
-            let p : Path = record { flights = c.mv.flights; after = k.0.after } in
-            (p, are.all p k.0.flights k.0.moves.path (end_wanted c k.0), ((k.0, refl), k.1))
+  -- all paths that were seen have all moves, where each move ends where it is wanted
+  pub all_paths : ((c : Chosen) (k : IsChosen b q r c) → CountsWithin bound limit c → EndWanted wanted k.flights) → (old new : List Chosen) → Adds (Of (IsWithinOn b q r bound limit) paths) old new → Adds (IsMoveWithin b q r bound limit) old new
+  all_paths ends old new h = adds_like (Of (IsWithinOn b q r bound limit) paths) (IsMoveWithin b q r bound limit) old new h (λ c. (λ u. (u.2.0.0, u.2.1), λ k. back c k))
+    where
+      back : (c : Chosen) → IsMoveWithin b q r bound limit c → Of (IsWithinOn b q r bound limit) paths c
+      back c k =
+          let p : Path = record { flights = c.mv.flights; after = k.0.after } in
+          (p, are.all p k.0.flights k.0.moves.path (ends c k.0 k.1), ((k.0, refl), k.1))
 
 -- a residual past the last slice has no move
 pub no_slice : (b : Book) (q : Request) (r : State) (bound : State → Option ℕ) (limit : Option ℕ) (old : List Chosen) → length q.slices ≤ r.at.slice → Adds (IsMoveWithin b q r bound limit) old old

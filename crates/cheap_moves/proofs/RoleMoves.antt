@@ -4,6 +4,7 @@ use Rattle.cheap_moves.specs.declared.component.Component.{Component}
 use Rattle.cheap_moves.specs.declared.component.Onward.{Onward}
 use Rattle.cheap_moves.specs.Making.{IsComponentMove, IsFareMove, IsRoleMove, Of}
 use Rattle.cheap_moves.specs.Within.{IsWithin, rest_of}
+use Rattle.cheap_moves.proofs.Looking.{places}
 use Rattle.fare_law.specs.declared.moves.Move.{Move}
 use Rattle.fare_law.specs.declared.moves.Role.{Role}
 use Rattle.fare_law.specs.declared.moves.Role.TheVariants.{Alone, Opens, GoesOn, Closes}
@@ -79,15 +80,6 @@ module _ (r : State) (bound : State → Option ℕ) (limit : Option ℕ) (k : Co
 
   other_slot : (role : Role) (slot slot' : ℕ) (x y : Chosen) → (slot ≡ slot' → ⊥) → Q role slot x → Q role slot' y → x.mv ≢ y.mv
   other_slot role slot slot' x y ne h l e = ne (ap (λ (m : Move). m.slot) (sym h.move ∙ e ∙ l.move))
-
-  -- of two open units at most, one has place 0 or 1
-  places : (us : List OpenUnit) (slot : ℕ) (u : OpenUnit) → length us ≤ 2 → slice_get us slot ≡ Some u → (◌≡◌ {A = ℕ} slot 0) ⊎ (◌≡◌ {A = ℕ} slot 1)
-  places us zero u few e = inl refl
-  places us (suc zero) u few e = inr refl
-  places [] (suc (suc s)) u few e = cc
-  places (x ∷ []) (suc (suc s)) u few e = cc
-  places (x ∷ y ∷ []) (suc (suc s)) u few e = cc
-  places (x ∷ y ∷ z ∷ us) (suc (suc s)) u few e = absurd (omega arith)
 
   way_is : (role : Role) (slot : ℕ) (c : Chosen) → Q role slot c → k.piece.reverse ≡ closes role
   way_is role slot c h = direction role slot r.units h.leaves.units k.piece h.leaves.step

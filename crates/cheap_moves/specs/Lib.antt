@@ -1,3 +1,5 @@
 pub mod Within
 pub mod Tails
 pub mod Making
+pub mod Leads
+pub mod Hopes

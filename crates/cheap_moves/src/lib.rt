@@ -1,14 +1,16 @@
 //! The moves of a residual that count under bounds and whose totals are within a limit: a move's price and the bound
-//! of what it leaves. The others aren't made. The layer above may guess any limit: where enough moves are within it,
-//! the first of them are the first of all, and else it asks again without one.
+//! of what it leaves. The others aren't made, and paths on which none can be within it are left out: the table of the
+//! position tells which. The layer above may guess any limit: where enough moves are within it, the first of them are
+//! the first of all, and else it asks again without one.
 #![tactic(auto)]
 
 mod bounds;
 mod component;
-mod ends;
 mod fares;
 mod groups;
+mod hopes;
 mod laws;
+mod leads;
 mod listing;
 mod paths;
 mod roles;
@@ -16,7 +18,7 @@ mod search;
 mod ways;
 
 pub use bounds::ResidualBounds;
-pub use ends::{fare_tails, position_tails};
 pub use laws::first_within_are_first;
+pub use leads::{Lead, leads_of};
 pub use listing::moves_within;
 pub use search::MoveSearch;

@@ -1,7 +1,8 @@
 //! The moves of a residual within a limit, in the order of their codes.
-ghost use Rattle.std.specs.Prelude.{[], map, IfOk};
+ghost use Rattle.std.specs.Prelude.{[], ◌+◌, map, IfOk};
 ghost use Rattle.std.specs.List.Sorted.{IsPermutation};
-ghost use Rattle.cheap_moves.specs.Tails.{AreFareTails};
+ghost use Rattle.cheap_moves.specs.Tails.{AreTailsOver};
+ghost use Rattle.cheap_moves.specs.Leads.{AreLeads};
 ghost use Rattle.cheap_moves.specs.Within.{AreMovesWithin, IsMoveWithin};
 ghost use Rattle.component_table.specs.Markets.{AreMarkets};
 ghost use Rattle.fare_law.specs.Limits.{IsRequest};
@@ -12,7 +13,9 @@ ghost use Rattle.ticket_order.specs.Coding.{Coded};
 
 use crate::MoveSearch;
 use crate::bounds::ResidualBounds;
-use crate::paths::fare_paths;
+use crate::hopes::hopes_of;
+use crate::leads::Lead;
+use crate::paths::hoped_paths;
 use crate::ways::add_path;
 use component_table::Markets;
 use fare_law::{List, Mem};
@@ -22,20 +25,23 @@ use std::alloc::Global;
 use ticket_order::{codes_tell, move_code, order_laws};
 
 /// The moves of a residual that count under bounds, whose price and the bound of what they leave are within
-/// the limit: each once, ascending by code. The markets that it needs are found once for a search.
+/// the limit: each once, ascending by code. The leads tell on which paths they may be; the tails are all of the next
+/// slice. The markets that it needs are found once for a search.
 pub fn moves_within<B: ResidualBounds>(
     alloc: Global,
     search: &MoveSearch<'_, B>,
+    leads: &[Lead],
     tails: &[Path],
     markets: &mut Markets,
 ) -> Result<List<Chosen>, Mem>
     requires request { IsRequest search.now.request.now }
-    requires tails { AreFareTails search.now.book.now search.now.request.now search.now.residual.now.at tails.now }
+    requires leads { AreLeads search.now.book.now search.now.request.now search.now.residual.now (B.bound search.now.bounds.now) leads.now }
+    requires tails { AreTailsOver search.now.book.now search.now.request.now.slices (search.now.residual.now.at.slice + 1) tails.now }
     requires markets { AreMarkets search.now.book.now markets.old.kept.items }
     ensures markets { AreMarkets search.now.book.now markets.new.kept.items }
     ensures moves { IfOk result (AreMovesWithin search.now.book.now search.now.request.now search.now.residual.now (B.bound search.now.bounds.now) search.now.limit) }
 {
-    let found = gathered(alloc, search, tails, markets)?;
+    let found = gathered(alloc, search, leads, tails, markets)?;
     book_limits(search.book);
     let mut found = found.into_vec();
     put_in_order(found.as_mut_slice());
@@ -46,11 +52,13 @@ pub fn moves_within<B: ResidualBounds>(
 fn gathered<B: ResidualBounds>(
     alloc: Global,
     search: &MoveSearch<'_, B>,
+    leads: &[Lead],
     tails: &[Path],
     markets: &mut Markets,
 ) -> Result<List<Chosen>, Mem>
     requires request { IsRequest search.now.request.now }
-    requires tails { AreFareTails search.now.book.now search.now.request.now search.now.residual.now.at tails.now }
+    requires leads { AreLeads search.now.book.now search.now.request.now search.now.residual.now (B.bound search.now.bounds.now) leads.now }
+    requires tails { AreTailsOver search.now.book.now search.now.request.now.slices (search.now.residual.now.at.slice + 1) tails.now }
     requires markets { AreMarkets search.now.book.now markets.old.kept.items }
     ensures markets { AreMarkets search.now.book.now markets.new.kept.items }
     ensures moves { IfOk result (Adds (IsMoveWithin search.now.book.now search.now.request.now search.now.residual.now (B.bound search.now.bounds.now) search.now.limit) []) }
@@ -62,9 +70,10 @@ fn gathered<B: ResidualBounds>(
     if usize::from(at.slice) >= search.request.slices.len() {
         return Ok(found);
     }
-    let paths = fare_paths(alloc, search.book, search.request, at, tails)?;
+    let hopes = hopes_of(alloc, search, leads)?;
+    let paths = hoped_paths(alloc, search.book, search.request, at, tails, &hopes)?;
     for path in paths.as_slice() {
-        add_path(alloc, &mut found, search, markets, path)?;
+        add_path(alloc, &mut found, search, &hopes, markets, path)?;
     }
     Ok(found)
 }

@@ -1,14 +1,13 @@
-//! The paths of a position that end where a fare is filed.
-ghost use Rattle.std.specs.Prelude.{◌≡◌, ◌<◌, IfOk, length};
-ghost use Rattle.cheap_moves.specs.Tails.{AreFareTails};
-ghost use Rattle.fare_law.specs.declared.names.Place.{Place as PlaceName};
+//! The paths of a position that end where moves within the limit end.
+ghost use Rattle.std.specs.Prelude.{◌≡◌, ◌<◌, ◌+◌, IfOk, length};
+ghost use Rattle.cheap_moves.specs.Hopes.{marked};
+ghost use Rattle.cheap_moves.specs.Tails.{AreTailsOver};
 ghost use Rattle.flight_paths.specs.Heads.{AreReached};
-ghost use Rattle.flight_paths.specs.Plans.{HasPlan};
 
+use crate::hopes::{Hopes, schedule_of};
 use fare_book::Book;
-use fare_law::{List, Mem, Request};
-use flight_paths::{Path, PathVisitor, Position, visit_paths};
-use schedule_book::Schedule;
+use fare_law::{List, Mem, Place, Request};
+use flight_paths::{Path, PathVisitor, Position, tails_to, visit_paths};
 use std::alloc::Global;
 
 /// Paths that were visited.
@@ -26,35 +25,32 @@ impl PathVisitor for Visited {
     }
 }
 
-/// Paths of a position, each once, and among them each that ends where a fare is filed from its place or to it.
-pub fn fare_paths(
+/// Paths of a position, each once, and among them each that ends where a move within the limit may. The tails are all
+/// those of the next slice.
+pub fn hoped_paths(
     alloc: Global,
     book: &Book,
     request: &Request,
     position: &Position,
     tails: &[Path],
+    hopes: &Hopes,
 ) -> Result<List<Path>, Mem>
     requires known { position.now.slice < length request.now.slices }
-    requires tails { AreFareTails book.now request.now position.now tails.now }
-    ensures { IfOk result (λ paths. (t : AreFareTails book.now request.now position.now tails.now) → AreReached book.now request.now.slices position.now t.wanted paths) }
+    requires tails { AreTailsOver book.now request.now.slices (position.now.slice + 1) tails.now }
+    ensures { IfOk result (AreReached book.now request.now.slices position.now (marked ⟦<Place as PartialEq>⟧.eq hopes.now.ends)) }
 {
+    let schedule = schedule_of(book);
+    let some = tails_to(alloc, schedule, tails, hopes)?;
     let mut visited = Visited {
         paths: Vec::new(alloc),
     };
     visit_paths(
         alloc,
-        schedule_of(book),
+        schedule,
         request,
         position,
-        tails,
+        some.as_slice(),
         &mut visited,
     )?;
     Ok(List::from_vec(visited.paths))
-}
-
-/// The places and the flights of a book.
-fn schedule_of(book: &Book) -> &Schedule
-    ensures { HasPlan book.now result.now }
-{
-    book.timetable().schedule()
 }

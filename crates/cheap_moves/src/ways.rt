@@ -1,5 +1,6 @@
 //! The moves of a path: with the fares that are filed from its beginning to its end, and those in reverse.
 ghost use Rattle.std.specs.Prelude.{◌≢◌, [], OnOk};
+ghost use Rattle.cheap_moves.specs.Hopes.{AreHopes};
 ghost use Rattle.cheap_moves.specs.Making.{IsFlown, IsOver, IsWithinFiled, IsWithinOn};
 ghost use Rattle.component_table.specs.Markets.{AreMarkets};
 ghost use Rattle.fare_law.specs.declared.flights.Flight.{Flight as DatedFlight};
@@ -12,9 +13,10 @@ use crate::MoveSearch;
 use crate::bounds::ResidualBounds;
 use crate::component::Flown;
 use crate::groups::add_group;
+use crate::hopes::{Hopes, PathClass, is_hopeless};
 use component_table::{Market, MarketKey, Markets};
 use fare_groups::classes_of_all;
-use fare_law::{Flight, List, Mem};
+use fare_law::{Flight, List, Mem, Place};
 use flight_paths::Path;
 use residual_keys::{Chosen, OpenUnits, Way, first_of, last_of};
 use std::alloc::Global;
@@ -25,15 +27,20 @@ pub fn add_path<B: ResidualBounds>(
     alloc: Global,
     found: &mut List<Chosen>,
     search: &MoveSearch<'_, B>,
+    hopes: &Hopes,
     markets: &mut Markets,
     path: &Path,
 ) -> Result<(), Mem>
     requires request { IsRequest search.now.request.now }
+    requires hopes { AreHopes ⟦<Place as PartialEq>⟧.eq ⟦<PathClass as PartialEq>⟧.eq search.now.book.now search.now.request.now search.now.residual.now (B.bound search.now.bounds.now) search.now.limit hopes.now }
     requires markets { AreMarkets search.now.book.now markets.old.kept.items }
     requires path { (fs : Items DatedFlight) × IsPathOf search.now.book.now search.now.request.now search.now.residual.now path.now fs }
     ensures markets { AreMarkets search.now.book.now markets.new.kept.items }
     ensures moves { OnOk result (Adds (IsWithinOn search.now.book.now search.now.request.now search.now.residual.now (B.bound search.now.bounds.now) search.now.limit path.now) found.old found.new) }
 {
+    if is_hopeless(search.book, hopes, path) {
+        return Ok(());
+    }
     let way = Way::of(search.book, search.request, path);
     let classes = classes_of_all(way.legs.as_slice());
     let flown = Flown { way, classes };

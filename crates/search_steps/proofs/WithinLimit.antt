@@ -1,5 +1,5 @@
 -- The first of the moves that count within a limit are the first of all.
-use Rattle.std.proofs.Common.{◌≡◌, ◌∙◌, ◌⊎◌, ℕ, suc, ◌+◌, List, [], ◌∷◌, length, map, Option, Some, None, IfSome, option_map, refl, sym, ap, subst, inl, inr, arith}
+use Rattle.std.proofs.Common.{◌≡◌, ◌∙◌, ◌⊎◌, ℕ, suc, ◌+◌, List, [], ◌∷◌, length, map, Bool, true, not, Option, Some, None, is_some, IfSome, option_map, refl, sym, ap, subst, inl, inr, arith}
 use Rattle.cheap_moves.specs.Within.{AreMovesWithin, IsMoveWithin, IsWithin, rest_of as rest_at}
 use Rattle.cheap_moves.proofs.LeastWithin.{first_same, first_within}
 use Rattle.fare_law.specs.declared.moves.Move.{Move}
@@ -83,3 +83,8 @@ module _ (b : Book) (q : Request) (x : State) (bound : Key → Option ℕ) where
     where
       some_none : (n : ℕ) → Some n ≡ None → ⊥
       some_none n e = cc
+
+-- where it is not so that there is a limit, there is none
+pub no_limit : (o : Option ℕ) (none : Bool) → is_some o ≡ not none → none ≡ true → o ≡ None
+no_limit None none e t = refl
+no_limit (Some n) none e t = absurd (cc)

@@ -1,6 +1,7 @@
 //! The least moves of a residual: those within a guessed limit, or where these are too few, all.
-ghost use Rattle.std.specs.Prelude.{◌≡◌, map, IfOk};
-ghost use Rattle.cheap_moves.specs.Tails.{AreFareTails};
+ghost use Rattle.std.specs.Prelude.{◌≡◌, ◌+◌, map, IfOk};
+ghost use Rattle.cheap_moves.specs.Leads.{AreLeads};
+ghost use Rattle.cheap_moves.specs.Tails.{AreTailsOver};
 ghost use Rattle.component_table.specs.Markets.{AreMarkets};
 ghost use Rattle.fare_law.specs.Limits.{IsRequest};
 ghost use Rattle.search_steps.specs.Keys.{IsKey, residual_of};
@@ -9,7 +10,7 @@ ghost use Rattle.search_steps.specs.Within.{AreCountedWithin};
 
 use crate::least::{counted_moves, first_of};
 use crate::{Bounds, Key, LeastMove};
-use cheap_moves::{MoveSearch, ResidualBounds, moves_within};
+use cheap_moves::{Lead, MoveSearch, ResidualBounds, moves_within};
 use component_table::Markets;
 use fare_law::{List, Mem};
 use flight_paths::Path;
@@ -19,8 +20,8 @@ use ticket_order::order_laws;
 
 /// Bounds of keys, as those of the residuals that they stand for.
 #[derive(Drop)]
-struct OfKeys<'a, B> {
-    bounds: &'a B,
+pub struct OfKeys<'a, B> {
+    pub bounds: &'a B,
 }
 
 impl<'a, B: Bounds> ResidualBounds for OfKeys<'a, B> {
@@ -37,21 +38,26 @@ impl<'a, B: Bounds> ResidualBounds for OfKeys<'a, B> {
 /// within the limit where these are enough, and else of all. So the limit may be any guess.
 pub fn least_within<B: Bounds>(
     alloc: Global,
-    search: &MoveSearch<'_, B>,
+    search: &MoveSearch<'_, OfKeys<'_, B>>,
+    leads: &[Lead],
     tails: &[Path],
     markets: &mut Markets,
     wanted: usize,
 ) -> Result<List<LeastMove<Key>>, Mem>
     requires request { IsRequest search.now.request.now }
-    requires tails { AreFareTails search.now.book.now search.now.request.now search.now.residual.now.at tails.now }
+    requires leads { AreLeads search.now.book.now search.now.request.now search.now.residual.now (λ x. B.bound search.now.bounds.now.bounds.now (record { residual = x })) leads.now }
+    requires tails { AreTailsOver search.now.book.now search.now.request.now.slices (search.now.residual.now.at.slice + 1) tails.now }
     requires markets { AreMarkets search.now.book.now markets.old.kept.items }
     ensures markets { AreMarkets search.now.book.now markets.new.kept.items }
-    ensures least { IfOk result (λ ms. AreLeastMoves search.now.book.now search.now.request.now (BoundBy IsKey residual_of (B.bound search.now.bounds.now)) search.now.residual.now wanted (map (least_as residual_of) ms)) }
+    ensures least { IfOk result (λ ms. AreLeastMoves search.now.book.now search.now.request.now (BoundBy IsKey residual_of (B.bound search.now.bounds.now.bounds.now)) search.now.residual.now wanted (map (least_as residual_of) ms)) }
     ensures live { IfOk result (LeaveLive IsKey) }
 {
     order_laws();
-    let counted = counted_within(alloc, search, tails, markets)?;
+    let counted = counted_within(alloc, search, leads, tails, markets)?;
     if counted.len() >= wanted {
+        return Ok(first_of(counted, wanted));
+    }
+    if search.limit.is_none() {
         return Ok(first_of(counted, wanted));
     }
     let all = MoveSearch {
@@ -61,34 +67,26 @@ pub fn least_within<B: Bounds>(
         bounds: search.bounds,
         limit: None,
     };
-    let whole = counted_within(alloc, &all, tails, markets)?;
+    let whole = counted_within(alloc, &all, leads, tails, markets)?;
     Ok(first_of(whole, wanted))
 }
 
 /// The moves of a residual that count within the limit.
 fn counted_within<B: Bounds>(
     alloc: Global,
-    search: &MoveSearch<'_, B>,
+    search: &MoveSearch<'_, OfKeys<'_, B>>,
+    leads: &[Lead],
     tails: &[Path],
     markets: &mut Markets,
 ) -> Result<Vec<LeastMove<Key>>, Mem>
     requires request { IsRequest search.now.request.now }
-    requires tails { AreFareTails search.now.book.now search.now.request.now search.now.residual.now.at tails.now }
+    requires leads { AreLeads search.now.book.now search.now.request.now search.now.residual.now (λ x. B.bound search.now.bounds.now.bounds.now (record { residual = x })) leads.now }
+    requires tails { AreTailsOver search.now.book.now search.now.request.now.slices (search.now.residual.now.at.slice + 1) tails.now }
     requires markets { AreMarkets search.now.book.now markets.old.kept.items }
     ensures markets { AreMarkets search.now.book.now markets.new.kept.items }
-    ensures counted { IfOk result (λ v. AreCountedWithin search.now.book.now search.now.request.now search.now.residual.now (B.bound search.now.bounds.now) search.now.limit v.items) }
+    ensures counted { IfOk result (λ v. AreCountedWithin search.now.book.now search.now.request.now search.now.residual.now (B.bound search.now.bounds.now.bounds.now) search.now.limit v.items) }
     ensures live { IfOk result (λ v. LeaveLive IsKey v.items) }
 {
-    let bounds = OfKeys {
-        bounds: search.bounds,
-    };
-    let within = MoveSearch {
-        book: search.book,
-        request: search.request,
-        residual: search.residual,
-        bounds: &bounds,
-        limit: search.limit,
-    };
-    let found = moves_within(alloc, &within, tails, markets)?;
-    counted_moves(alloc, found.as_slice(), search.bounds)
+    let found = moves_within(alloc, search, leads, tails, markets)?;
+    counted_moves(alloc, found.as_slice(), search.bounds.bounds)
 }

@@ -1,10 +1,18 @@
 use Rattle.std.proofs.Common.{false, true, sym, subst, ◌∙◌}
+use Rattle.cheap_moves.specs.contracts.hopes.PathClassPartialEq.TheImpl as class
 use Rattle.cheap_moves.specs.Making.{IsWithinFiled}
+use Rattle.cheap_moves.proofs.Hoped.{hopeless}
 use Rattle.cheap_moves.proofs.Looking.{on_ok}
 use Rattle.cheap_moves.proofs.PathMoves.{both_ways, forward_alone}
+use Rattle.fare_law.specs.contracts.names.PlacePartialEq.TheImpl as place
 use Rattle.flight_paths.specs.declared.positions.Path.{Path}
 use Rattle.residual_keys.specs.Gathered.{Adds}
 use Rattle.cheap_moves.proofs.ways.add_path.Goals as goal
+
+pub returns-then-is_hopeless-clause-moves : goal.returns-then-is_hopeless-clause-moves
+returns-then-is_hopeless-clause-moves g c =
+    hopeless place.ghosts.eq class.ghosts.eq c.args.search.now.book.now c.args.search.now.request.now c.args.search.now.residual.now (g.B.ResidualBounds.bound c.args.search.now.bounds.now) c.args.search.now.limit c.args.hopes.now c.requires.hopes
+    c.args.path.now c.args.found.now c.requires.path (c.is_hopeless.ensures c.if-is_hopeless.true)
 
 pub returns-then-is_empty-clause-moves : goal.returns-then-is_empty-clause-moves
 returns-then-is_empty-clause-moves g c =

@@ -1,0 +1,48 @@
+-- The ends and the classes of paths on which a move may be within a limit.
+use Rattle.std.specs.Prelude.{◌≡◌, ℕ, Bool, true, false, List, Option, Some, unwrap_or}
+use Rattle.cheap_moves.specs.declared.hopes.Hopes.{Hopes}
+use Rattle.cheap_moves.specs.declared.hopes.PathClass.{PathClass}
+use Rattle.cheap_moves.specs.declared.leads.Lead.{Lead}
+use Rattle.cheap_moves.specs.Within.{CountsWithin, IsWithin}
+use Rattle.fare_law.specs.declared.flights.Flight.{Flight}
+use Rattle.fare_law.specs.declared.names.Place.{Place}
+use Rattle.fare_law.specs.declared.requests.Request.{Request}
+use Rattle.fare_law.specs.Book.{Book}
+use Rattle.fare_law.specs.Lists.{IsIn, OnFirst, OnLast}
+use Rattle.flight_paths.specs.declared.positions.Position.{Position}
+use Rattle.flight_paths.specs.Heads.{EndWanted}
+use Rattle.indexmap.specs.IndexMap.{IndexMap, get}
+use Rattle.outlines.specs.declared.outline.Outline.{Outline}
+use Rattle.residual_keys.specs.declared.residual.Chosen.{Chosen}
+use Rattle.residual_keys.specs.Residuals.{State}
+use Rattle.residual_keys.specs.Steps.{IsChosen}
+
+-- whether a key is marked
+abbrev pub marked : {K S : Type 0} → (K → K → Bool) → IndexMap K Bool S → K → Bool
+marked eq marks key = unwrap_or (get eq marks key) false
+
+-- A path over these flights, which leads to this position, is of the class.
+pub record IsClass (x : PathClass) (after : Option Position) (fs : List Flight) : Type 0 where
+  pub after_is : x.after ≡ after
+  pub begins : OnFirst (λ f. (x.first ≡ f.day) × (x.carrier ≡ f.carrier)) fs
+  pub ends : OnLast (λ f. (x.end ≡ f.to) × (x.last ≡ f.day)) fs
+
+-- the class of the paths that an outline's components may have
+abbrev pub class_of : Outline → PathClass
+class_of o = record { after = o.after; end = o.end; first = o.first; last = o.last; carrier = o.carrier }
+
+-- The ends and the classes of the leads within a limit are marked.
+pub record HasHopes (same_place : Place → Place → Bool) (same_class : PathClass → PathClass → Bool) (limit : Option ℕ) (leads : List Lead) (h : Hopes) : Type 0 where
+  pub of_ends : (l : Lead) → IsIn l leads → IsWithin limit l.total → marked same_place h.ends l.outline.end ≡ true
+  pub of_classes : (l : Lead) → IsIn l leads → IsWithin limit l.total → marked same_class h.classes (class_of l.outline) ≡ true
+
+-- The end and the class of a lead were marked, where it is within the limit.
+pub record HopeAdded (same_place : Place → Place → Bool) (same_class : PathClass → PathClass → Bool) (limit : Option ℕ) (l : Lead) (old new : Hopes) : Type 0 where
+  pub ends_stay : (p : Place) → marked same_place old.ends p ≡ true → marked same_place new.ends p ≡ true
+  pub classes_stay : (x : PathClass) → marked same_class old.classes x ≡ true → marked same_class new.classes x ≡ true
+  pub has : IsWithin limit l.total → (marked same_place new.ends l.outline.end ≡ true) × (marked same_class new.classes (class_of l.outline) ≡ true)
+
+-- Each move within the limit has its end and its class among those that are marked.
+pub record AreHopes (same_place : Place → Place → Bool) (same_class : PathClass → PathClass → Bool) (b : Book) (q : Request) (r : State) (bound : State → Option ℕ) (limit : Option ℕ) (h : Hopes) : Type 0 where
+  pub of_ends : (c : Chosen) (k : IsChosen b q r c) → CountsWithin bound limit c → EndWanted (marked same_place h.ends) k.flights
+  pub of_classes : (c : Chosen) (k : IsChosen b q r c) → CountsWithin bound limit c → (x : PathClass) → IsClass x k.after k.flights → marked same_class h.classes x ≡ true

@@ -1,0 +1,173 @@
+//! The ends and the classes of the paths on which a move may be within a limit. Other paths are looked at no further.
+ghost use Rattle.std.specs.Prelude.{◌≡◌, ◌≢◌, [], false, List as Items, Option as Maybe, Some, true, slice_get, IfOk, IfSome, IsTrue, OnOk};
+ghost use Rattle.cheap_moves.specs.Hopes.{AreHopes, HasHopes, HopeAdded, IsClass, class_of, marked};
+ghost use Rattle.cheap_moves.specs.Leads.{AreLeads};
+ghost use Rattle.fare_law.specs.declared.flights.Flight.{Flight as DatedFlight};
+ghost use Rattle.fare_law.specs.Lists.{OnFirst, OnLast};
+ghost use Rattle.fare_law.specs.Parts.{Numbers};
+ghost use Rattle.flight_paths.specs.Plans.{HasPlan};
+
+use crate::MoveSearch;
+use crate::bounds::ResidualBounds;
+use crate::fares::is_within;
+use crate::leads::Lead;
+use fare_book::Book;
+use fare_law::{Carrier, Flight, Mem, Place};
+use flight_paths::{Ends, Path, Position};
+use indexmap::IndexMap;
+use outlines::Outline;
+use schedule_book::Schedule;
+use std::alloc::Global;
+use std::hash::Hash;
+
+/// What a path has in common with others: where it leads, its end, the days of its first and its last flight, and
+/// the carrier of its first. A fare's carrier is that of the first flight.
+#[derive(Clone, Copy, PartialEq, Eq, Hash, Debug)]
+pub struct PathClass {
+    pub after: Option<Position>,
+    pub end: Place,
+    pub first: i32,
+    pub last: i32,
+    pub carrier: Carrier,
+}
+
+/// The ends and the classes of paths that have an outline with a total within a limit.
+#[derive(Drop)]
+pub struct Hopes {
+    pub ends: IndexMap<Place, bool>,
+    pub classes: IndexMap<PathClass, bool>,
+}
+
+impl Ends for Hopes {
+    ghost wanted = { λ s place. marked ⟦<Place as PartialEq>⟧.eq s.ends place };
+
+    fn wants(&self, place: Place) -> bool {
+        self.ends.get(&place).copied().unwrap_or(false)
+    }
+}
+
+/// The ends and the classes that moves within the limit have.
+pub fn hopes_of<B: ResidualBounds>(
+    alloc: Global,
+    search: &MoveSearch<'_, B>,
+    leads: &[Lead],
+) -> Result<Hopes, Mem>
+    requires { AreLeads search.now.book.now search.now.request.now search.now.residual.now (B.bound search.now.bounds.now) leads.now }
+    ensures { IfOk result (AreHopes ⟦<Place as PartialEq>⟧.eq ⟦<PathClass as PartialEq>⟧.eq search.now.book.now search.now.request.now search.now.residual.now (B.bound search.now.bounds.now) search.now.limit) }
+{
+    within(alloc, leads, search.limit)
+}
+
+/// The ends and the classes of the leads that are within the limit.
+fn within(alloc: Global, leads: &[Lead], limit: Option<u128>) -> Result<Hopes, Mem>
+    ensures { IfOk result (HasHopes ⟦<Place as PartialEq>⟧.eq ⟦<PathClass as PartialEq>⟧.eq limit leads.now) }
+{
+    let mut hopes = Hopes {
+        ends: IndexMap::new(alloc),
+        classes: IndexMap::new(alloc),
+    };
+    for lead in leads {
+        add_lead(&mut hopes, lead, limit)?;
+    }
+    Ok(hopes)
+}
+
+/// Adds the end and the class of a lead, where it is within the limit.
+fn add_lead(hopes: &mut Hopes, lead: &Lead, limit: Option<u128>) -> Result<(), Mem>
+    ensures { OnOk result (HopeAdded ⟦<Place as PartialEq>⟧.eq ⟦<PathClass as PartialEq>⟧.eq limit lead.now hopes.old hopes.new) }
+{
+    if !is_within(limit, lead.total) {
+        return Ok(());
+    }
+    mark(&mut hopes.ends, lead.outline.end)?;
+    mark(&mut hopes.classes, class_of(&lead.outline))
+}
+
+/// Marks a key.
+fn mark<K: Hash + Eq + Copy + Drop>(marks: &mut IndexMap<K, bool>, key: K) -> Result<(), Mem>
+    ensures has { OnOk result (marked K.eq marks.new key ≡ true) }
+    ensures keeps { OnOk result ((other : K) → marked K.eq marks.old other ≡ true → marked K.eq marks.new other ≡ true) }
+{
+    marks.insert(key, true)?;
+    Ok(())
+}
+
+/// The class of the paths that an outline's components may have.
+fn class_of(outline: &Outline) -> PathClass
+    ensures { result ≡ class_of outline.now }
+{
+    PathClass {
+        after: outline.after,
+        end: outline.end,
+        first: outline.first,
+        last: outline.last,
+        carrier: outline.carrier,
+    }
+}
+
+/// Whether it is known that no move on a path is within the limit.
+pub fn is_hopeless(book: &Book, hopes: &Hopes, path: &Path) -> bool
+    ensures { IsTrue result → (fs : Items DatedFlight) → Numbers book.now path.now.flights fs → (x : PathClass) × IsClass x path.now.after fs × (marked ⟦<PathClass as PartialEq>⟧.eq hopes.now.classes x ≡ false) }
+{
+    match class_over(book, path) {
+        Some(class) => !has(hopes, &class),
+        None => false,
+    }
+}
+
+/// Whether some lead within the limit has this class.
+fn has(hopes: &Hopes, class: &PathClass) -> bool
+    ensures { result ≡ marked ⟦<PathClass as PartialEq>⟧.eq hopes.now.classes class.now }
+{
+    hopes.classes.get(class).copied().unwrap_or(false)
+}
+
+/// The class of a path.
+fn class_over(book: &Book, path: &Path) -> Option<PathClass>
+    ensures { IfSome result (λ x. (fs : Items DatedFlight) → Numbers book.now path.now.flights fs → IsClass x path.now.after fs) }
+{
+    let all = schedule_of(book).flights();
+    let first = first_flight(all, path.flights.as_slice())?;
+    let last = last_flight(all, path.flights.as_slice())?;
+    Some(PathClass {
+        after: path.after,
+        end: last.to,
+        first: first.day,
+        last: last.day,
+        carrier: first.carrier,
+    })
+}
+
+/// The flight of the first of some numbers.
+fn first_flight(all: &[Flight], numbers: &[u32]) -> Option<Flight>
+    ensures { IfSome result (λ f. OnFirst (λ n. slice_get all.now n ≡ Some f) numbers.now) }
+{
+    match numbers {
+        [first, ..] => flight_of(all, *first),
+        [] => None,
+    }
+}
+
+/// The flight of the last of some numbers.
+fn last_flight(all: &[Flight], numbers: &[u32]) -> Option<Flight>
+    ensures { IfSome result (λ f. OnLast (λ n. slice_get all.now n ≡ Some f) numbers.now) }
+{
+    match numbers {
+        [.., last] => flight_of(all, *last),
+        [] => None,
+    }
+}
+
+/// The flight of this number, if there is one.
+fn flight_of(all: &[Flight], number: u32) -> Option<Flight>
+    ensures { result ≡ slice_get all.now number }
+{
+    all.get(number as usize).copied()
+}
+
+/// The places and the flights of a book.
+pub fn schedule_of(book: &Book) -> &Schedule
+    ensures { HasPlan book.now result.now }
+{
+    book.timetable().schedule()
+}

@@ -1,0 +1,182 @@
+//! The outlines of a position by which moves of a residual count, with their least totals.
+ghost use Rattle.std.specs.Prelude.{◌≡◌, ◌≤◌, ◌+◌, ℕ, false, true, IfOk, OnOk};
+ghost use Rattle.cheap_moves.specs.Leads.{AreLeads, IsUpTo, LeadAdded, LeastAs, LeastOf};
+ghost use Rattle.component_table.specs.Tables.{IsTable};
+ghost use Rattle.fare_law.specs.Days.{IsCalendarDay};
+ghost use Rattle.fare_law.specs.Limits.{IsRequest};
+ghost use Rattle.open_unit.specs.Ranges.{PieceInRanges};
+ghost use Rattle.outlines.specs.Outcomes.{EntryWithin};
+ghost use Rattle.outlines.specs.Outlines.{piece_of};
+
+use crate::MoveSearch;
+use crate::bounds::{ResidualBounds, rest_after};
+use fare_book::copied_rule;
+use fare_law::{ArrayVec, Basis, Fare, FareKey, List, Mem, Piece, Place, Role};
+use outlines::{Entry, Outline};
+use residual_keys::next_after;
+use rule_unit::rules_stay_in_range;
+use std::alloc::Global;
+
+/// An outline of a residual's position, and a total that no move by a component of it is below.
+#[derive(Clone, Copy, PartialEq, Eq, Debug)]
+pub struct Lead {
+    pub outline: Outline,
+    pub total: u128,
+}
+
+/// The outlines of the table of a residual's position by which moves count, each with its least total.
+pub fn leads_of<B: ResidualBounds>(
+    alloc: Global,
+    search: &MoveSearch<'_, B>,
+    table: &[Entry],
+) -> Result<List<Lead>, Mem>
+    requires request { IsRequest search.now.request.now }
+    requires table { IsTable search.now.book.now search.now.request.now search.now.residual.now.at table.now }
+    ensures { IfOk result (AreLeads search.now.book.now search.now.request.now search.now.residual.now (B.bound search.now.bounds.now)) }
+{
+    let mut leads = List::new(alloc);
+    for entry in table {
+        add_entry(&mut leads, search, entry)?;
+    }
+    Ok(leads)
+}
+
+/// Adds an entry of the table to the leads, where moves count by it.
+fn add_entry<B: ResidualBounds>(
+    leads: &mut List<Lead>,
+    search: &MoveSearch<'_, B>,
+    entry: &Entry,
+) -> Result<(), Mem>
+    requires request { IsRequest search.now.request.now }
+    requires within { EntryWithin entry.now }
+    ensures { OnOk result (LeadAdded search.now.request.now search.now.residual.now (B.bound search.now.bounds.now) entry.now leads.old leads.new) }
+{
+    let residual = search.residual;
+    let piece = piece_of(residual.at.place, search.request.sale, entry);
+    match least_total(search, entry, &piece) {
+        Some(total) => leads.push(Lead {
+            outline: entry.outline,
+            total,
+        }),
+        None => Ok(()),
+    }
+}
+
+/// The least total of the moves by an entry's component, in whatever role and slot.
+fn least_total<B: ResidualBounds>(
+    search: &MoveSearch<'_, B>,
+    entry: &Entry,
+    piece: &Piece,
+) -> Option<u128>
+    requires piece { piece.now ≡ piece_of search.now.residual.now.at.place search.now.request.now.sale entry.now.rule entry.now.outline }
+    requires in_ranges { PieceInRanges piece.now }
+    ensures { LeastOf search.now.request.now search.now.residual.now (B.bound search.now.bounds.now) entry.now result }
+{
+    if entry.outline.reverse {
+        least_closing(search, entry, piece)
+    } else {
+        least_forward(search, entry, piece)
+    }
+}
+
+/// The least total where the entry's fare is filed in reverse.
+fn least_closing<B: ResidualBounds>(
+    search: &MoveSearch<'_, B>,
+    entry: &Entry,
+    piece: &Piece,
+) -> Option<u128>
+    requires piece { piece.now ≡ piece_of search.now.residual.now.at.place search.now.request.now.sale entry.now.rule entry.now.outline }
+    requires in_ranges { PieceInRanges piece.now }
+    requires reverse { entry.now.outline.reverse ≡ true }
+    ensures { LeastOf search.now.request.now search.now.residual.now (B.bound search.now.bounds.now) entry.now result }
+{
+    search.residual.keeps();
+    lesser(
+        total_as(search, entry, piece, Role::Closes, 0),
+        total_as(search, entry, piece, Role::Closes, 1),
+    )
+}
+
+/// The least total where the entry's fare is filed forward.
+fn least_forward<B: ResidualBounds>(
+    search: &MoveSearch<'_, B>,
+    entry: &Entry,
+    piece: &Piece,
+) -> Option<u128>
+    requires piece { piece.now ≡ piece_of search.now.residual.now.at.place search.now.request.now.sale entry.now.rule entry.now.outline }
+    requires in_ranges { PieceInRanges piece.now }
+    requires forward { entry.now.outline.reverse ≡ false }
+    ensures { LeastOf search.now.request.now search.now.residual.now (B.bound search.now.bounds.now) entry.now result }
+{
+    search.residual.keeps();
+    let begun = lesser(
+        total_as(search, entry, piece, Role::Alone, 0),
+        total_as(search, entry, piece, Role::Opens, 0),
+    );
+    let gone_on = lesser(
+        total_as(search, entry, piece, Role::GoesOn, 0),
+        total_as(search, entry, piece, Role::GoesOn, 1),
+    );
+    lesser(begun, gone_on)
+}
+
+/// The lesser of two totals, where there is one.
+fn lesser(one: Option<u128>, other: Option<u128>) -> Option<u128>
+    ensures one { (n : ℕ) → IsUpTo one n → IsUpTo result n }
+    ensures other { (n : ℕ) → IsUpTo other n → IsUpTo result n }
+{
+    match (one, other) {
+        (Some(least), Some(total)) => Some(if least <= total { least } else { total }),
+        (Some(least), None) => Some(least),
+        (None, total) => total,
+    }
+}
+
+/// The total of the move by an entry's component in a role and slot. None where there is none that counts.
+fn total_as<B: ResidualBounds>(
+    search: &MoveSearch<'_, B>,
+    entry: &Entry,
+    piece: &Piece,
+    role: Role,
+    slot: u8,
+) -> Option<u128>
+    requires piece { piece.now ≡ piece_of search.now.residual.now.at.place search.now.request.now.sale entry.now.rule entry.now.outline }
+    requires in_ranges { PieceInRanges piece.now }
+    ensures { LeastAs search.now.request.now search.now.residual.now (B.bound search.now.bounds.now) entry.now role slot result }
+{
+    let next = next_after(search.residual, entry.outline.after, piece, role, slot)?;
+    let rest = rest_after(search.bounds, &next)?;
+    Some(u128::from(entry.price) + u128::from(rest))
+}
+
+/// What a component of an entry is to a unit and to a ticket: it begins at this place and is sold on this day.
+fn piece_of(begin: Place, sale: i32, entry: &Entry) -> Piece
+    requires sale { IsCalendarDay sale }
+    requires within { EntryWithin entry.now }
+    ensures piece { result ≡ piece_of begin sale entry.now.rule entry.now.outline }
+    ensures in_ranges { PieceInRanges result }
+{
+    rules_stay_in_range();
+    let outline = entry.outline;
+    Piece {
+        begin,
+        end: outline.end,
+        fare: Fare {
+            key: FareKey {
+                carrier: outline.carrier,
+                from: begin,
+                to: outline.end,
+                basis: Basis(ArrayVec::new()),
+            },
+            class: 0,
+            kind: outline.kind,
+            amount: 0,
+            rule: outline.number,
+        },
+        rule: copied_rule(&entry.rule),
+        reverse: outline.reverse,
+        first_day: outline.first,
+        last_day: outline.last,
+        sale,
+    }
+}
