@@ -1,5 +1,6 @@
 -- Tables and lists that are kept, found and added.
 use Rattle.std.proofs.Common.{◌≡◌, ◌∙◌, ℕ, true, zero, suc, ◌<◌, ◌≤◌, List, [], ◌∷◌, ◌++◌, length, slice_get, get_or, Option, Some, sym, ap, subst, arith}
+use Rattle.component_table.specs.Tables.{IsTable}
 use Rattle.fare_law.specs.declared.requests.Request.{Request}
 use Rattle.fare_law.specs.Book.{Book}
 use Rattle.fare_law.specs.Lists.{Each}
@@ -96,3 +97,10 @@ four_at b q r ts us place t f1 f2 f3 f4 law few h s is e one two three four =
     let same : t ≡ s.table = is ∙ got_is ts place t s.table s.stands in
     let found = table_is b q ts place t h (s.table, s.stands) is in
     four_are b q r ts place t f1 f2 f3 f4 law few found.0 (ap (λ (x : PositionTable). x.at) same ∙ s.position) found.1 one two three (subst (λ xs. UnitGiven q xs place r 1 f3 f4) e four)
+
+-- the table of a position, at the place where it stands
+pub table_there : (b : Book) (q : Request) (ts : List PositionTable) (at : Position) (n : ℕ) (t : PositionTable) → Each (IsListed b q) ts → TableAt ts at n → t ≡ get_or ts n t → IsTable b q at t.entries
+table_there b q ts at n t h s is =
+    let same : t ≡ s.table = is ∙ got_is ts n t s.table s.stands in
+    let table = (got_each (IsListed b q) ts n s.table h s.stands).table in
+    subst (λ (x : PositionTable). IsTable b q at x.entries) (sym same) (subst (λ a. IsTable b q a s.table.entries) s.position table)

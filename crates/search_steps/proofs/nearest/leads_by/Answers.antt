@@ -2,7 +2,7 @@ use Rattle.std.proofs.Common.{ap, subst, sym}
 use Rattle.component_table.specs.Tables.{IsTable}
 use Rattle.residual_keys.specs.Residuals.{State}
 use Rattle.search_steps.specs.Tables.{TableAt}
-use Rattle.search_steps.proofs.TableFacts.{table_there}
+use Rattle.search_steps.proofs.Kept.{table_there}
 use Rattle.search_steps.proofs.nearest.leads_by.Goals as goal
 
 pub leads_of-requires-clause-table : goal.leads_of-requires-clause-table
@@ -10,7 +10,7 @@ leads_of-requires-clause-table g c =
     let b = c.args.case.now.book.now in
     let q = c.args.case.now.request.now in
     let x = c.args.residual.now in
-    let ts = c.find.new.self.kept.items in
-    let table = table_there b q ts c.find.new.self.network x.at c.in_ok-place.place c.index-table.result.now c.in_ok-place.ensures.right
-    (subst (λ a. TableAt ts a c.in_ok-place.place) (ap (λ (s : State). s.at) c.residual.view_is) c.in_ok-place.ensures.found) c.index-table.ensures in
+    let place = c.in_ok-place.place in
+    let at = subst (λ a. TableAt c.find.new.self.kept.items a place) (ap (λ (s : State). s.at) c.residual.view_is) c.in_ok-place.ensures.found in
+    let table = table_there b q c.find.new.self.kept.items x.at place c.index-table.result.now c.in_ok-place.ensures.right.tables at c.index-table.ensures in
     subst (IsTable b q x.at) (sym c.as_slice.ensures) table
