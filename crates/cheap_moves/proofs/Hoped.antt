@@ -1,5 +1,5 @@
 -- The ends and the classes on which moves within a limit may be.
-use Rattle.std.proofs.Common.{◌≡◌, ◌⊎◌, ℕ, suc, ◌+◌, ◌-◌, ◌≤◌, ◌<◌, Bool, true, false, List, [], ◌∷◌, length, take, get_or, slice_get, MatchOption, MatchBool, All, Option, Some, None, IfSome, refl, sym, ap, subst, ◌∙◌, inl, inr, arith}
+use Rattle.std.proofs.Common.{◌≡◌, ℕ, suc, ◌+◌, ◌-◌, ◌≤◌, ◌<◌, Bool, true, false, List, [], ◌∷◌, length, take, get_or, slice_get, MatchOption, MatchBool, All, Option, Some, None, IfSome, refl, sym, ap, subst, ◌∙◌, inl, inr, arith}
 use Rattle.std.proofs.lemmas.List.Elements.{All-head}
 use Rattle.cheap_moves.specs.declared.hopes.Hopes.{Hopes}
 use Rattle.cheap_moves.specs.declared.hopes.PathClass.{PathClass}
@@ -16,7 +16,7 @@ use Rattle.fare_law.specs.declared.names.Place.{Place}
 use Rattle.fare_law.specs.declared.requests.Request.{Request}
 use Rattle.fare_law.specs.declared.rules.TransferRule.{TransferRule}
 use Rattle.fare_law.specs.Book.{Book}
-use Rattle.fare_law.specs.Lists.{IsIn, OnFirst, OnLast}
+use Rattle.fare_law.specs.Lists.{OnFirst, OnLast}
 use Rattle.fare_law.specs.Parts.{Numbers, transfers}
 use Rattle.flight_paths.specs.declared.positions.Path.{Path}
 use Rattle.flight_paths.specs.declared.positions.Position.{Position}

@@ -1,8 +1,7 @@
 -- Leads of the entries of a table, and of the moves that count.
-use Rattle.std.proofs.Common.{◌≡◌, ◌⊎◌, ℕ, suc, ◌+◌, ◌≤◌, ◌<◌, true, false, List, [], ◌∷◌, ◌++◌, length, take, get_or, Option, Some, None, refl, sym, subst, ◌∙◌, inl, inr, arith}
+use Rattle.std.proofs.Common.{◌≡◌, ℕ, ◌+◌, ◌≤◌, ◌<◌, true, false, List, [], ◌∷◌, ◌++◌, length, take, get_or, Option, Some, None, refl, sym, subst, ◌∙◌, inl, inr, arith}
 use Rattle.cheap_moves.specs.declared.leads.Lead.{Lead}
-use Rattle.cheap_moves.specs.Leads.{AreLeads, EntryLeaves, HasEntry, IsLed, IsUpTo, LeadAdded, LeastAs, LeastOf}
-use Rattle.cheap_moves.specs.Within.{rest_of}
+use Rattle.cheap_moves.specs.Leads.{AreLeads, EntryLeaves, HasEntry, IsUpTo, LeadAdded, LeastAs, LeastOf}
 use Rattle.cheap_moves.proofs.Joining.{one_added}
 use Rattle.cheap_moves.proofs.Looking.{clash, places}
 use Rattle.component_table.specs.Tables.{IsTable}
@@ -18,10 +17,9 @@ use Rattle.outlines.specs.declared.outline.Outline.{Outline}
 use Rattle.outlines.specs.Outcomes.{HasRule}
 use Rattle.outlines.specs.Outlines.{Outlined, Outlines, piece_of}
 use Rattle.outlines.proofs.ByOutline.{rule_live, tells_all, written}
-use Rattle.residual_keys.specs.declared.residual.Chosen.{Chosen}
 use Rattle.residual_keys.specs.declared.residual.Next.{Next}
 use Rattle.residual_keys.specs.Residuals.{State, closes}
-use Rattle.residual_keys.specs.Steps.{IsChosen, Leaves}
+use Rattle.residual_keys.specs.Steps.{Leaves}
 use Rattle.residual_keys.proofs.Adding.{in_left, in_right}
 use Rattle.residual_keys.proofs.OneNext.{direction, some_one}
 

@@ -1,5 +1,5 @@
 -- The moves of a residual, path by path.
-use Rattle.std.proofs.Common.{◌≡◌, ◌⊎◌, ℕ, ◌+◌, ◌≤◌, ◌<◌, Bool, true, false, List, [], ◌∷◌, length, map, take, get_or, slice_get, MatchBool, Option, Some, None, refl, sym, ap, subst, ◌∙◌, inl, inr, arith}
+use Rattle.std.proofs.Common.{◌≡◌, ◌⊎◌, ℕ, ◌+◌, ◌≤◌, ◌<◌, Bool, true, false, List, [], ◌∷◌, length, map, take, get_or, slice_get, Option, Some, refl, sym, ap, subst, ◌∙◌, inl, inr, arith}
 use Rattle.cheap_moves.specs.declared.component.Flown.{Flown}
 use Rattle.cheap_moves.specs.Making.{IsFlown, IsOver, IsWithinFiled, IsWithinOn, Of}
 use Rattle.cheap_moves.specs.Within.{CountsWithin, IsMoveWithin}
@@ -7,22 +7,20 @@ use Rattle.cheap_moves.proofs.Joining.{differs_before, of_more}
 use Rattle.component_table.specs.declared.markets.Market.{Market}
 use Rattle.component_table.specs.declared.markets.MarketKey.{MarketKey}
 use Rattle.component_table.specs.Markets.{AreMarkets, IsMarket, StandsAt}
-use Rattle.fare_book.specs.Keeping.{Limited, NoFare}
+use Rattle.fare_book.specs.Keeping.{Limited}
 use Rattle.fare_groups.proofs.Grouped.{each_in}
-use Rattle.fare_law.specs.declared.fares.FareKey.{FareKey}
 use Rattle.fare_law.specs.declared.flights.Flight.{Flight}
 use Rattle.fare_law.specs.declared.moves.Move.{Move}
 use Rattle.fare_law.specs.declared.moves.Role.{Role}
 use Rattle.fare_law.specs.declared.moves.Role.TheVariants.{Alone, Opens, GoesOn, Closes}
 use Rattle.fare_law.specs.declared.names.Place.{Place}
 use Rattle.fare_law.specs.declared.requests.Request.{Request}
-use Rattle.fare_law.specs.Book.{Book, live_fare}
-use Rattle.fare_law.specs.Lists.{AllDifferent, IsIn, OnFirst, OnLast}
+use Rattle.fare_law.specs.Book.{Book}
+use Rattle.fare_law.specs.Lists.{AllDifferent, IsIn}
 use Rattle.flight_paths.specs.declared.positions.Path.{Path}
 use Rattle.flight_paths.specs.Heads.{AreReached, EndWanted}
 use Rattle.flight_paths.specs.Positions.{Flies}
 use Rattle.open_unit.specs.declared.units.OpenUnit.{OpenUnit}
-use Rattle.outlines.proofs.ByOutline.{path_begins}
 use Rattle.residual_keys.specs.declared.residual.Chosen.{Chosen}
 use Rattle.residual_keys.specs.Gathered.{Adds, IsPathOf}
 use Rattle.residual_keys.specs.Residuals.{State, UnitStep, closes}
@@ -32,7 +30,6 @@ use Rattle.residual_keys.proofs.OneNext.{flies_one, numbers_one}
 use Rattle.residual_keys.proofs.PathByPath.{read_in}
 use Rattle.residual_keys.proofs.Runs.{flies_numbers}
 use Rattle.residual_keys.proofs.Sheeted.{got_in}
-use Rattle.residual_keys.proofs.StepFacts.{moves_key}
 use Rattle.residual_keys.proofs.StepTaken.{slice_known, whole}
 
 clash : {b : Bool} → b ≡ true → b ≡ false → ⊥

@@ -1,5 +1,5 @@
 -- The ends and the classes of paths on which a move may be within a limit.
-use Rattle.std.specs.Prelude.{◌≡◌, ℕ, Bool, true, false, List, Option, Some, unwrap_or}
+use Rattle.std.specs.Prelude.{◌≡◌, ℕ, Bool, true, false, List, Option, unwrap_or}
 use Rattle.cheap_moves.specs.declared.hopes.Hopes.{Hopes}
 use Rattle.cheap_moves.specs.declared.hopes.PathClass.{PathClass}
 use Rattle.cheap_moves.specs.declared.leads.Lead.{Lead}

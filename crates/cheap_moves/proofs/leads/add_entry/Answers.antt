@@ -1,4 +1,4 @@
-use Rattle.std.proofs.Common.{subst, sym}
+use Rattle.std.proofs.Common.{subst}
 use Rattle.cheap_moves.proofs.LeadMoves.{lead_had, lead_not}
 use Rattle.cheap_moves.proofs.Looking.{on_ok}
 use Rattle.cheap_moves.specs.Leads.{LeastOf}

@@ -1,9 +1,7 @@
 use Rattle.std.proofs.Common.{◌≡◌, ◌+◌, [], refl, sym, subst, ◌∙◌}
 use Rattle.cheap_moves.specs.Hopes.{marked}
 use Rattle.fare_law.specs.contracts.names.PlacePartialEq.TheImpl as place
-use Rattle.fare_law.specs.Book.{Book}
 use Rattle.flight_paths.specs.Heads.{AreReached, TailsTo}
-use Rattle.flight_paths.specs.Plans.{HasPlan}
 use Rattle.cheap_moves.proofs.paths.hoped_paths.Goals as goal
 
 pub visit_paths-requires-clause-tails : goal.visit_paths-requires-clause-tails
