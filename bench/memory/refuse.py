@@ -12,7 +12,7 @@ from survey import Survey, ran, serves
 from worked import two_desks_texts, worked
 
 OUT_OF_MEMORY = 5
-ROOM_STEP = 64 * 1024
+ROOM_STEP = 16 * 1024
 
 
 def judged(got, wholes, what, case):
@@ -49,7 +49,7 @@ def each_allocation(program, library, done, name, words, case, wholes):
 
 def less_room(program, done):
     """A search with an address space from the least in which the program starts to the first in which it ends."""
-    case = ran(program, ["make", "--seed", "1", "--size", "30"], b"")[0]
+    case = ran(program, ["make", "--seed", "1", "--size", "60"], b"")[0]
     usage, whole = ran(program, [], b""), ran(program, ["search"], case)
 
     def within(words, given, steps):
@@ -57,7 +57,7 @@ def less_room(program, done):
 
     least = next(steps for steps in range(1, 100000) if within([], b"", steps) == usage)
     most = next(steps for steps in range(least, 100000, 16) if within(["search"], case, steps) == whole)
-    return Survey(done, "memory-room").run(most - least, lambda number: judged(within(["search"], case, least + number), [whole], f"room of {least + number} times 64 KB", case))
+    return Survey(done, "memory-room").run(most - least, lambda number: judged(within(["search"], case, least + number), [whole], f"room of {least + number} times 16 KB", case))
 
 
 def main():
