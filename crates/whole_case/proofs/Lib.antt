@@ -6,3 +6,6 @@ pub mod CaseSteps
 pub mod OneOutcome
 pub mod OneCase
 pub mod RightRequests
+pub mod EachLine
+pub mod ServeSteps
+pub mod OneServe

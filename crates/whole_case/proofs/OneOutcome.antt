@@ -82,7 +82,7 @@ one_allowed b line request (Ok u) (Err refusal) p (why, j, e) = absurd (none_som
 one_allowed b line request (Err refusal) (Ok u) (why, j, e) p = absurd (none_some why (sym p ∙ j))
 one_allowed b line request (Err one) (Err other) (why, j, e) (reason, k, h) = ap Err (e ∙ ap (λ w. refused_at line (BadRequest w)) (some_same why reason (sym j ∙ k)) ∙ sym h)
 
-one_request : (b : Book) (line : TextLine) → IsOne (request_in b line)
+pub one_request : (b : Book) (line : TextLine) → IsOne (request_in b line)
 one_request b line =
     one_then (spelled_in line) (λ request. allowed_in b line.line request >>= (λ u. done request)) (one_told (request_of line.bytes) (λ fault. at_line line.line (request_reason fault)))
     (λ request. one_then (allowed_in b line.line request) (λ u. done request) (one_allowed b line.line request) (λ u. one_done request))
@@ -120,7 +120,7 @@ module _ (k : Known) where
       one_then (flights_of places rows) (λ flights. seats_apart seats >>= (λ u. done (timetable_with places seats flights))) (one_flights places rows)
       (λ flights. one_then (seats_apart seats) (λ u. done (timetable_with places seats flights)) (one_seats seats) (λ u. one_done (timetable_with places seats flights)))
 
-  one_opening : (places : List PlaceRow) (rows : List FlightRow) (seats : List SeatRow) → IsOne (opening_of places rows seats)
+  pub one_opening : (places : List PlaceRow) (rows : List FlightRow) (seats : List SeatRow) → IsOne (opening_of places rows seats)
   one_opening places rows seats = one_then (timetable_of places rows seats) (λ timetable. done (opening timetable)) (one_timetable places rows seats) (λ timetable. one_done (opening timetable))
 
   -- ---- the filings
@@ -139,7 +139,7 @@ module _ (k : Known) where
   one_filed [] b = one_done b
   one_filed (line ∷ lines) b = one_then (next b line) (λ more. filed more lines) (one_next b line) (λ more. one_filed lines more)
 
-  one_version : (opening : Book) (lines : List TextLine) (at : Option ℕ) → IsOne (filed_version opening lines at)
+  pub one_version : (opening : Book) (lines : List TextLine) (at : Option ℕ) → IsOne (filed_version opening lines at)
   one_version opening lines at = one_then (filed opening lines) (λ last. done (version (kept at (length lines)) last)) (one_filed lines opening) (λ last. one_done (version (kept at (length lines)) last))
 
   -- ---- the whole

@@ -34,7 +34,7 @@ ranged : (low high n : ℕ) → IsInRange low high n → within low high n ≡ t
 ranged low high n h = and_from _ _ (le-leb _ _ h.0) (le-leb _ _ h.1)
 
 -- the number of tickets is judged by itself
-right_with : (places : List Place) (q : Request) (best : Option ℕ) → IfSome best (IsInRange 1 1000) → judged places q ≡ None → judged places (with_best best q) ≡ None
+pub right_with : (places : List Place) (q : Request) (best : Option ℕ) → IfSome best (IsInRange 1 1000) → judged places q ≡ None → judged places (with_best best q) ≡ None
 right_with places q None h e = e
 right_with places q (Some best) h e =
     let a = tested (within 1 6 (length q.slices)) Slices _ e in

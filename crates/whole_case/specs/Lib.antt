@@ -8,3 +8,4 @@ pub mod Calendars
 pub mod Tickets
 pub mod Certificates
 pub mod Cases
+pub mod ServeCases

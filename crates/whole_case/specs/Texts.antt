@@ -5,7 +5,7 @@ use Rattle.fare_law.specs.declared.filings.BookWhy.TheVariants as book
 use Rattle.fare_law.specs.declared.requests.Why.{Why}
 use Rattle.fare_law.specs.declared.requests.Why.TheVariants as request
 use Rattle.whole_case.specs.declared.refusals.Reason.{Reason}
-use Rattle.whole_case.specs.declared.refusals.Reason.TheVariants.{NoEnd, UnknownSection, Order, BadRow, TooMany, AfterEnd, PlaceTwice, UnknownPlace, SamePlace, BadPeriod, ArrivesBefore, Twice, Syntax, Shape, ActionShape, ActionRule, ActionRefused, BadRequest, NotTwo, Span, Ticket, Count, NoVersion}
+use Rattle.whole_case.specs.declared.refusals.Reason.TheVariants.{NoEnd, UnknownSection, Order, BadRow, TooMany, AfterEnd, PlaceTwice, UnknownPlace, SamePlace, BadPeriod, ArrivesBefore, Twice, Syntax, Shape, ActionShape, ActionRule, ActionRefused, BadRequest, NotTwo, Span, Ticket, Script, Count, NoVersion}
 use Rattle.whole_case.specs.declared.refusals.Refusal.{Refusal}
 use Rattle.whole_case.specs.declared.refusals.RuleWhy.{RuleWhy}
 use Rattle.whole_case.specs.declared.refusals.RuleWhy.TheVariants as rule
@@ -58,6 +58,7 @@ reason_text (BadRequest why) = codes "BadRequest " ++ request_text why
 reason_text NotTwo = codes "NotTwo"
 reason_text Span = codes "Span"
 reason_text Ticket = codes "Ticket"
+reason_text Script = codes "Script"
 reason_text Count = codes "Count"
 reason_text NoVersion = codes "NoVersion"
 

@@ -13,7 +13,7 @@ use std::alloc::Global;
 use std::sync::Arc;
 
 /// The filing of a line, within its limits.
-fn filing_in(alloc: Global, line: &TextLine) -> Result<Filing, LoadFault>
+pub fn filing_in(alloc: Global, line: &TextLine) -> Result<Filing, LoadFault>
     ensures filing { Reads result (Filings.filing_in line.now) }
     ensures limits { IfOk result IsFiling }
 {

@@ -1,7 +1,8 @@
 //! Whole cases: from bytes to the case's book and its request, or the first refusal, by stages, with
 //! its line and its reason. The stages are the form of the lines, the places and flights, the seats,
-//! the filings, each read and then taken by the book, the request, then what a calendar asks of it, the
-//! ticket of a verdict or the certificate of a check, and last the version asked for.
+//! the filings, each read and then taken by the book, the later filings of a serving run, which are only read, the
+//! request or requests, then what a calendar asks of it, the ticket of a verdict, the script of a serving run or the
+//! certificate of a check, and last the version asked for.
 #![tactic(auto)]
 
 mod asked;
@@ -15,7 +16,11 @@ mod reasons;
 mod refusals;
 mod requests;
 mod rows;
+mod scripts;
 mod search;
+mod serve;
+mod serve_laws;
+mod serve_lines;
 mod spans;
 mod texts;
 mod tickets;
@@ -29,5 +34,7 @@ pub use laws::{
 };
 pub use refusals::{LoadFault, Reason, Refusal, RuleWhy};
 pub use search::{SearchCase, load_search_case};
+pub use serve::{ServeCase, load_serve_case};
+pub use serve_laws::{one_serve_case, spelled_asks_are_right};
 pub use texts::refusal_text;
 pub use verdict::{VerdictCase, load_verdict_case};

@@ -61,6 +61,8 @@ pub enum Reason {
     /// A line of a ticket isn't of its form, is a flight before any component or a fifth flight of one,
     /// or is a nineteenth component.
     Ticket,
+    /// A line of a script isn't of its form, or names more than there is; at line 0 there is no line.
+    Script,
     /// A certificate has fewer or more answers or rows than it says.
     Count,
     /// There is no version of the number that is asked for.

@@ -54,7 +54,7 @@ fn knows(book: &Book, place: Place) -> bool
 }
 
 /// The request of a line, which breaks no limit in the book.
-fn request_in(alloc: Global, book: &Book, line: &TextLine) -> Result<Request, LoadFault>
+pub fn request_in(alloc: Global, book: &Book, line: &TextLine) -> Result<Request, LoadFault>
     ensures { Reads result (Requests.request_in book.now line.now) }
 {
     let request = spelled_in(alloc, line)?;

@@ -41,6 +41,7 @@ fn reason_text(alloc: Global, reason: Reason) -> Result<String, Mem>
         Reason::NotTwo => name(alloc, "NotTwo"),
         Reason::Span => name(alloc, "Span"),
         Reason::Ticket => name(alloc, "Ticket"),
+        Reason::Script => name(alloc, "Script"),
         Reason::Count => name(alloc, "Count"),
         Reason::NoVersion => name(alloc, "NoVersion"),
     }
