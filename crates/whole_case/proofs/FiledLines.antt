@@ -1,6 +1,7 @@
 -- Filings one after another: up to a line, and on from there.
-use Rattle.std.proofs.Common.{◌≡◌, ◌≤◌, ◌<◌, ◌+◌, ◌-◌, ℕ, suc, Option, List, [], ◌∷◌, ◌++◌, length, take, drop, get_or, Result, Ok, Err, refl, sym, ap, subst, ◌∙◌, append_assoc, append-nil, add-one, drop-cons, inl, inr, arith}
-use Rattle.std.proofs.lemmas.List.{drop_all, take_all}
+use Rattle.std.proofs.Common.{◌≡◌, ◌≤◌, ◌<◌, ◌+◌, ◌-◌, ℕ, suc, Option, List, [], ◌∷◌, ◌++◌, length, take, drop, get_or, eqb, true, Result, Ok, Err, refl, sym, ap, subst, ◌∙◌, append_assoc, append-nil, add-one, drop-cons, inl, inr, arith}
+use borrow.Author.Tests.{eqb-true}
+use Rattle.std.proofs.lemmas.List.{drop_all}
 use Rattle.std.proofs.Math.Seq.{take-append_seam}
 use Rattle.fare_law.specs.declared.filings.Filing.{Filing}
 use Rattle.fare_law.specs.declared.rows.TextLine.{TextLine}
@@ -73,30 +74,13 @@ filed_stop start lines b i line Mem lt e n h = tt
 pub filed_end : (start : Book) (lines : List TextLine) (b : Book) (i : ℕ) → length lines ≤ i → GoesOn start lines b i → filed start lines (Ok b)
 filed_end start lines b i le h = h (Ok b) (subst (λ ls. filed b ls (Ok b)) (sym (drop_all i lines le)) refl)
 
--- ---- a first line, and the others
-pub empty_is : (lines : List TextLine) → length lines < 1 → lines ≡ []
+-- ---- all the lines
+pub empty_is : (lines : List TextLine) → eqb (length lines) 0 ≡ true → lines ≡ []
 empty_is [] h = refl
-empty_is (line ∷ lines) h = absurd (omega (arith, h))
-
-pub opens : (lines : List TextLine) (line : TextLine) → 1 ≤ length lines → line ≡ get_or lines 0 line → lines ≡ line ∷ drop 1 lines
-opens lines line some e = here lines 0 line some ∙ ap (λ x. x ∷ drop 1 lines) (sym e)
-
-pub others : (lines : List TextLine) → take (length lines - 1) (drop 1 lines) ≡ drop 1 lines
-others [] = refl
-others (line ∷ lines) = take_all (length (line ∷ lines) - 1) lines (omega arith)
+empty_is (line ∷ lines) h = absurd (omega (arith, eqb-true (length (line ∷ lines)) 0 h))
 
 pub none_taken : (b : Book) (lines : List TextLine) → lines ≡ [] → are_taken b lines (Ok tt)
 none_taken b lines e = subst (λ ls. are_taken b ls (Ok tt)) (sym e) (b, refl, refl)
-
-pub rest_stops : (b : Book) (lines : List TextLine) (line : TextLine) (rest : List TextLine) (m : Book) (fault : LoadFault) → lines ≡ line ∷ rest → next b line (Ok m) → Reads (Err fault) (filed m rest) → Reads (Err fault) (are_taken b lines)
-rest_stops b lines line rest m fault e n f = subst (λ ls. Reads (Err fault) (are_taken b ls)) (sym e) (by fault f)
-  where
-    by : (fault : LoadFault) → Reads (Err fault) (filed m rest) → Reads (Err fault) (are_taken b (line ∷ rest))
-    by (Refused refusal) f = inl (inr (m, n, f))
-    by Mem f = tt
-
-pub all_taken : (b : Book) (lines : List TextLine) (line : TextLine) (rest : List TextLine) (m last : Book) → lines ≡ line ∷ rest → next b line (Ok m) → filed m rest (Ok last) → are_taken b lines (Ok tt)
-all_taken b lines line rest m last e n f = subst (λ ls. are_taken b ls (Ok tt)) (sym e) (last, (m, n, f), refl)
 
 -- ---- the version that is kept
 module _ (b : Book) (lines front rest : List TextLine) (at : Option ℕ) (split : lines ≡ front ++ rest) where

@@ -6,7 +6,7 @@ ghost use Rattle.whole_case.specs.Stages.{Reads};
 
 use crate::reasons::{of_filing, refused_at};
 use crate::{LoadFault, Reason};
-use fare_book::{Book, BookFault};
+use fare_book::{Book, BookFault, OpenBook};
 use fare_filing::read_filing;
 use fare_law::{Filing, TextLine};
 use std::alloc::Global;
@@ -24,12 +24,12 @@ pub fn filing_in(alloc: Global, line: &TextLine) -> Result<Filing, LoadFault>
 }
 
 /// The book that takes the filing of a line.
-fn taken(alloc: Global, book: &Book, line: u32, filing: Filing) -> Result<Book, LoadFault>
+fn taken(alloc: Global, book: OpenBook, line: u32, filing: Filing) -> Result<OpenBook, LoadFault>
     requires { IsFiling filing }
-    ensures { Reads result (Filings.taken book.now line filing) }
+    ensures { Reads result (Filings.taken book line filing) }
 {
     let filing = Arc::new(alloc, filing)?;
-    match book.with(alloc, filing) {
+    match book.take(alloc, filing) {
         Ok(next) => Ok(next),
         Err(BookFault::Refused(refused)) => Err(refused_at(
             line,
@@ -43,33 +43,39 @@ fn taken(alloc: Global, book: &Book, line: u32, filing: Filing) -> Result<Book, 
 }
 
 /// The book that the filing of one line leaves.
-fn next(alloc: Global, book: &Book, line: &TextLine) -> Result<Book, LoadFault>
-    ensures { Reads result (Filings.next book.now line.now) }
+fn next(alloc: Global, book: OpenBook, line: &TextLine) -> Result<OpenBook, LoadFault>
+    ensures { Reads result (Filings.next book line.now) }
 {
     let filing = filing_in(alloc, line)?;
     taken(alloc, book, line.line, filing)
+}
+
+/// The open book that the filings of these lines leave.
+fn all_taken(alloc: Global, book: OpenBook, lines: &[TextLine]) -> Result<OpenBook, LoadFault>
+    ensures { Reads result (Filings.filed book lines.now) }
+{
+    let mut book = book;
+    for line in lines {
+        book = next(alloc, book, line)?;
+    }
+    Ok(book)
 }
 
 /// The book that the filings of these lines leave.
 pub fn filed(alloc: Global, book: Book, lines: &[TextLine]) -> Result<Book, LoadFault>
     ensures { Reads result (Filings.filed book lines.now) }
 {
-    let mut book = book;
-    for line in lines {
-        book = next(alloc, &book, line)?;
-    }
-    Ok(book)
+    let book = all_taken(alloc, OpenBook::of(alloc, book), lines)?;
+    Ok(book.close(alloc)?)
 }
 
 /// Whether a book takes the filings of these lines one after another.
 pub fn judged(alloc: Global, book: &Book, lines: &[TextLine]) -> Result<(), LoadFault>
     ensures { Reads result (Filings.are_taken book.now lines.now) }
 {
-    match lines {
-        [] => Ok(()),
-        [first, rest @ ..] => {
-            let _last = filed(alloc, next(alloc, book, first)?, rest)?;
-            Ok(())
-        }
+    if lines.is_empty() {
+        return Ok(());
     }
+    let _last = all_taken(alloc, OpenBook::copy_of(alloc, book)?, lines)?;
+    Ok(())
 }

@@ -1,18 +1,14 @@
--- Each line leads on to the next one, as the lemmas on lines one by one say.
+-- The book that is opened is the one that is closed.
+use Rattle.std.proofs.Common.{Err, subst}
 use Rattle.std.proofs.lemmas.Result.{err_from_is_err_and}
-use Rattle.whole_case.proofs.FiledLines.{filed_end, filed_more, filed_start, filed_stop}
+use Rattle.fare_law.specs.Book.{Book}
+use Rattle.whole_case.specs.Filings.{filed}
+use Rattle.whole_case.specs.Stages.{Reads}
 use Rattle.whole_case.proofs.filings.filed.Goals as goal
-
-pub loop-line-init : goal.loop-line-init
-loop-line-init c = filed_start c.args.book c.args.lines.now
 
 pub returns-in_err-book : goal.returns-in_err-book
 returns-in_err-book c =
+    let lines = c.args.lines.now in
+    let fault = c.in_err-book.field-0.0 in
     let p = err_from_is_err_and c.from_residual.result c.from_residual.ensures.1 in
-    rw (p.1, p.2) (filed_stop c.args.book c.args.lines.now c.loop-line.book c.loop-line.line-index c.line-item.result c.in_err-book.field-0.0 c.loop-line-test.true c.line-item.is c.in_err-book.ensures c.loop-line.invariant)
-
-pub loop-line-preserved : goal.loop-line-preserved
-loop-line-preserved c = filed_more c.args.book c.args.lines.now c.loop-line.book c.in_ok-book.book c.loop-line.line-index c.line-item.result c.loop-line-test.true c.line-item.is c.in_ok-book.ensures c.loop-line.invariant
-
-pub returns : goal.returns
-returns c = filed_end c.args.book c.args.lines.now c.loop-line.book c.loop-line.line-index c.loop-line-test.false c.loop-line.invariant
+    rw (p.1, p.2) (subst (λ b. Reads {A = Book} (Err fault) (filed b lines)) c.of.ensures c.in_err-book.ensures)

@@ -7,5 +7,5 @@ use Rattle.whole_case.proofs.filings.taken.Goals as goal
 
 pub returns-in-Ok : goal.returns-in-Ok
 returns-in-Ok c =
-    let b = c.args.book.now in
+    let b = c.args.book in
     subst (λ (filing : Filing). ((at : ℕ) (why : BookWhy) → Fault b filing at why → ⊥) × (c.in-Ok.next ≡ with_filing b filing)) c.in_ok-filing.ensures.ok (c.in-Ok.ensures.right, c.in-Ok.ensures.value)
