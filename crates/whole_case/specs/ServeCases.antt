@@ -3,7 +3,6 @@
 use Rattle.std.specs.Prelude.{◌≡◌, ◌≤◌, ℕ, List, [], ◌∷◌, length, Option, None, Ok, Err}
 use Rattle.case_text.specs.declared.kinds.CaseKind.TheVariants.{Serve}
 use Rattle.fare_law.specs.Book.{Book}
-use Rattle.fare_law.specs.declared.filings.Filing.{Filing}
 use Rattle.fare_law.specs.declared.requests.Request.{Request}
 use Rattle.fare_law.specs.declared.rows.TextLine.{TextLine}
 use Rattle.script_text.specs.Script.{FaultAt, SpellsScript}
