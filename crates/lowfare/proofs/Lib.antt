@@ -8,6 +8,7 @@ pub mod MakeOwes
 pub mod DoneOrRefused
 pub mod CalendarOwes
 pub mod VerdictOwes
+pub mod ServeOwes
 pub mod Owing
 pub mod Due
 pub mod Unread
@@ -18,4 +19,5 @@ pub mod MakeMakes
 pub mod Summing
 pub mod CalendarMakes
 pub mod VerdictMakes
+pub mod ServeMakes
 pub mod CheckMakes

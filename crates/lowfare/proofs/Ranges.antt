@@ -70,7 +70,7 @@ make_ranged : (t : GivenTexts) → AreRanged (make_of t)
 make_ranged t = if_ranged _ _ None (then_ranged (required 0 4294967295 t.seed) _ (λ seed _. then_ranged (required 1 100 t.size) _ (λ size e. size_range t.size size e))) tt
 
 serve_ranged : (t : GivenTexts) → AreRanged (serve_of t)
-serve_ranged t = if_ranged _ _ None (then_ranged (best_of t.best) _ (λ best _. then_ranged (budget_of t.budget) _ (λ budget _. tt))) tt
+serve_ranged t = if_ranged _ _ None (then_ranged (best_of t.best) _ (λ best e. then_ranged (budget_of t.budget) _ (λ budget _. best_range t.best best e))) tt
 
 calendar_ranged : (t : GivenTexts) → AreRanged (calendar_of t)
 calendar_ranged t =

@@ -2,7 +2,7 @@
 use Rattle.std.specs.Prelude.{◌≡◌, ◌⊎◌, ◌<◌, ℕ, List, length, Option, Some}
 use Rattle.fare_io.specs.Counts.{Rose}
 use Rattle.lowfare.specs.Inputs.{Gets, most_bytes}
-use Rattle.lowfare.specs.Lines.{AreLine, AskForInput, Asks}
+use Rattle.lowfare.specs.Lines.{AreLine, AskForInput, Asks, Carried}
 use Rattle.lowfare.specs.Makes.{Owes}
 use Rattle.lowfare.specs.declared.status.Status.{Status}
 use Rattle.lowfare.specs.declared.status.Status.TheVariants.{Usage, OutOfMemory, TooLong}
@@ -19,7 +19,7 @@ abbrev pub IsOr : Status → Status → Type 0
 IsOr status due = (status ≡ due) ⊎ (status ≡ OutOfMemory)
 
 -- The status is the one that is due: to words that are no command line, to more bytes than the limit, and to the bytes of a command's input.
-pub record IsComplete (status : Status) (words : List (List ℕ)) (left : Option (List ℕ)) : Type 0 where
-  pub usage : (AreLine words → ⊥) → IsOr status Usage
-  pub long : (bytes : List ℕ) → AskForInput words → left ≡ Some bytes → most_bytes < length bytes → IsOr status TooLong
-  pub owed : (c : Command) (bytes : List ℕ) (due : Status) → Asks words c → Gets c left bytes → Owes c bytes due → IsOr status due
+pub record IsComplete (carries : Carried) (status : Status) (words : List (List ℕ)) (left : Option (List ℕ)) : Type 0 where
+  pub usage : (AreLine carries words → ⊥) → IsOr status Usage
+  pub long : (bytes : List ℕ) → AskForInput carries words → left ≡ Some bytes → most_bytes < length bytes → IsOr status TooLong
+  pub owed : (c : Command) (bytes : List ℕ) (due : Status) → Asks carries words c → Gets c left bytes → Owes c bytes due → IsOr status due

@@ -9,6 +9,7 @@ pub mod Checked
 pub mod Made
 pub mod Calendars
 pub mod Verdicts
+pub mod Servings
 pub mod Makes
 pub mod Says
 pub mod Complete

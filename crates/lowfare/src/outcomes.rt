@@ -1,7 +1,7 @@
 //! What commands make of their input.
 ghost use Rattle.std.specs.Prelude.{◌≡◌, ◌≤◌, codes, length, IfOk};
 ghost use Rattle.lowfare.specs.Inputs.{most_bytes};
-ghost use Rattle.lowfare.specs.Lines.{HasRange, IsBuilt};
+ghost use Rattle.lowfare.specs.Lines.{HasRange, IsRun};
 ghost use Rattle.lowfare.specs.Makes.{IsEnd, Makes};
 ghost use Rattle.whole_case.specs.Texts as Texts;
 
@@ -24,9 +24,9 @@ pub(crate) struct Outcome {
     pub text: List<u8>,
 }
 
-/// What a command makes of the bytes of its input.
+/// What a command makes of the bytes of its input, any but `serve`.
 pub(crate) fn outcome_of(alloc: Global, command: &Command, bytes: &[u8]) -> Result<Outcome, Mem>
-    requires built { IsBuilt command.now }
+    requires run { IsRun command.now }
     requires range { HasRange command.now }
     requires fits { length bytes.now ≤ most_bytes }
     ensures makes { IfOk result (λ o. Makes command.now bytes.now o.status o.text) }

@@ -1,8 +1,10 @@
-//! The program: the words and the standard streams go to the top call, whose status it ends with.
+//! The program: the words and the standard streams go to the top call that carries their command, and it ends with its
+//! status.
 #![tactic(auto)]
 
 use fare_io::{StdSink, StdSource};
-use lowfare::run;
+use fare_law::{Mem, NoGate};
+use lowfare::{is_serve, run, serve};
 use std::env;
 use std::io::ErrorKind;
 use std::process::ExitCode;
@@ -23,7 +25,12 @@ fn main(rt: HostRuntime) -> ExitCode {
     };
     let mut source = StdSource::new(rt.stdin());
     let mut sink = StdSink::new(rt.stdout());
-    let status = run(rt.alloc(), words.as_slice(), &mut source, &mut sink);
+    let (alloc, words) = (rt.alloc(), words.as_slice());
+    let status = match is_serve(alloc, words) {
+        Ok(true) => serve(&rt, alloc, words, &mut source, &mut sink, &NoGate),
+        Ok(false) => run(alloc, words, &mut source, &mut sink),
+        Err(Mem) => return ExitCode::from(OUT_OF_MEMORY),
+    };
     ExitCode::from(status.number())
 }
 

@@ -5,4 +5,8 @@
 #[cfg(test)]
 mod crossings;
 #[cfg(test)]
+mod desks;
+#[cfg(test)]
+mod runs;
+#[cfg(test)]
 mod versions;

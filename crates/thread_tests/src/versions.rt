@@ -15,13 +15,13 @@ use std::alloc::Global;
 use std::sync::{Arc, Wait};
 use std::test::Fail;
 
-const LON: Place = Place(*b"LON");
+pub const LON: Place = Place(*b"LON");
 
-const NYC: Place = Place(*b"NYC");
+pub const NYC: Place = Place(*b"NYC");
 
-const QX: Carrier = Carrier(*b"QX");
+pub const QX: Carrier = Carrier(*b"QX");
 
-const PLACES: [PlaceRow; 2] = [
+pub const PLACES: [PlaceRow; 2] = [
     PlaceRow {
         line: 2,
         place: LON,
@@ -44,7 +44,7 @@ pub fn opening(alloc: Global) -> Result<Book, Fail> {
 }
 
 /// The key of the fare QX LON NYC with this basis of one letter.
-fn key(letter: u8) -> FareKey
+pub fn key(letter: u8) -> FareKey
     requires { (65 ≤ letter) × (letter ≤ 90) }
     ensures { IsFareKey result }
 {
@@ -59,7 +59,7 @@ fn key(letter: u8) -> FareKey
 }
 
 /// A filing of one action.
-fn filing(alloc: Global, action: Action) -> Result<Arc<Filing>, Mem>
+pub fn filing(alloc: Global, action: Action) -> Result<Arc<Filing>, Mem>
     requires { IsAction action }
     ensures { IfOk result (λ filing. IsFiling (arc_value filing)) }
 {
@@ -69,7 +69,7 @@ fn filing(alloc: Global, action: Action) -> Result<Arc<Filing>, Mem>
 }
 
 /// The filing that puts the fare of basis Y.
-fn put(alloc: Global) -> Result<Arc<Filing>, Mem>
+pub fn put(alloc: Global) -> Result<Arc<Filing>, Mem>
     ensures { IfOk result (λ filing. IsFiling (arc_value filing)) }
 {
     let fare = Fare {

@@ -1,4 +1,5 @@
 use Rattle.std.proofs.Common.{ℕ, List, refl, rules, sym, subst}
+use Rattle.lowfare.specs.Lines.{IsRun}
 use Rattle.lowfare.specs.Makes.{Makes}
 use Rattle.lowfare.specs.declared.status.Status.TheVariants.{Usage, TooLong}
 use Rattle.lowfare.proofs.Due.{complete}
@@ -8,28 +9,28 @@ use Rattle.lowfare.proofs.program.run.Goals as goal
 -- the words are no command line
 pub returns-in-Err-Usage-clause-says : goal.returns-in-Err-Usage-clause-says
 returns-in-Err-Usage-clause-says g c =
-    told Usage c.finish.result _ _ _ _ _ _ _ _ _ _ _ _ (search rules, refl, refl) c.finish.ensures.whole c.finish.ensures.front c.finish.ensures.cause
+    told IsRun Usage c.finish.result _ _ _ _ _ _ _ _ _ _ _ _ (search rules, refl, refl) c.finish.ensures.whole c.finish.ensures.front c.finish.ensures.cause
 
 pub returns-in-Err-Usage-clause-complete : goal.returns-in-Err-Usage-clause-complete
 returns-in-Err-Usage-clause-complete g c =
-    complete c.one_status_is_owed.ensures _ _ _ _ _ _ _ _ _ _ _ _ (returns-in-Err-Usage-clause-says g c)
+    complete IsRun c.one_status_is_owed.ensures _ _ _ _ _ _ _ _ _ _ _ _ (returns-in-Err-Usage-clause-says g c)
 
 -- too many bytes came
 pub returns-in-Err-TooLong-clause-says : goal.returns-in-Err-TooLong-clause-says
 returns-in-Err-TooLong-clause-says g c =
-    told TooLong c.finish-in-Err-TooLong.result _ _ _ _ _ _ _ _ _ _ _ _ ((c.in-Ok.command, c.in-Ok.ensures.line, search rules), search rules, refl)
+    told IsRun TooLong c.finish-in-Err-TooLong.result _ _ _ _ _ _ _ _ _ _ _ _ ((c.in-Ok.command, c.in-Ok.ensures.line, search rules), search rules, refl)
     c.finish-in-Err-TooLong.ensures.whole c.finish-in-Err-TooLong.ensures.front c.finish-in-Err-TooLong.ensures.cause
 
 pub returns-in-Err-TooLong-clause-complete : goal.returns-in-Err-TooLong-clause-complete
 returns-in-Err-TooLong-clause-complete g c =
-    complete c.one_status_is_owed.ensures _ _ _ _ _ _ _ _ _ _ _ _ (returns-in-Err-TooLong-clause-says g c)
+    complete IsRun c.one_status_is_owed.ensures _ _ _ _ _ _ _ _ _ _ _ _ (returns-in-Err-TooLong-clause-says g c)
 
 -- the command made this of its input
 pub returns-in-Ok-outcome_of-clause-says : goal.returns-in-Ok-outcome_of-clause-says
 returns-in-Ok-outcome_of-clause-says g c =
     let o = c.in-Ok-outcome_of.made in
-    told o.status c.finish-in-Ok-outcome_of.result _ _ _ _ _ _ _ _ _ _ _ _
-    (due_of o.status _ _ _ _ c.in-Ok-outcome_of.ensures.ends (record {
+    told IsRun o.status c.finish-in-Ok-outcome_of.result _ _ _ _ _ _ _ _ _ _ _ _
+    (due_of IsRun o.status _ _ _ _ c.in-Ok-outcome_of.ensures.ends (record {
       command = c.in-Ok.command;
       asked = c.in-Ok.ensures.line;
       bytes = c.in-Ok-input_of.bytes;
@@ -40,4 +41,4 @@ returns-in-Ok-outcome_of-clause-says g c =
 
 pub returns-in-Ok-outcome_of-clause-complete : goal.returns-in-Ok-outcome_of-clause-complete
 returns-in-Ok-outcome_of-clause-complete g c =
-    complete c.one_status_is_owed.ensures _ _ _ _ _ _ _ _ _ _ _ _ (returns-in-Ok-outcome_of-clause-says g c)
+    complete IsRun c.one_status_is_owed.ensures _ _ _ _ _ _ _ _ _ _ _ _ (returns-in-Ok-outcome_of-clause-says g c)

@@ -1,0 +1,20 @@
+use Rattle.std.proofs.Common.{◌≡◌, IfOk, rules}
+use Rattle.whole_case.specs.ServeCases.{serve_case}
+use Rattle.whole_case.specs.Texts.{refusal_text}
+use Rattle.program_words.specs.declared.commands.Command.TheVariants.{Serve}
+use Rattle.lowfare.specs.Makes.{Makes}
+use Rattle.lowfare.proofs.ServeMakes.{served_made}
+use Rattle.lowfare.proofs.Refusing.{refused_ends}
+use Rattle.lowfare.proofs.service.case_served.Goals as goal
+
+-- the bytes spell no case
+pub returns-in-Err-Refused-clause-makes : goal.returns-in-Err-Refused-clause-makes
+returns-in-Err-Refused-clause-makes c =
+    let text : IfOk c.refused.result (λ o. o.text ≡ refusal_text c.in-Err-Refused.refusal) = search rules in
+    refused_ends (serve_case c.args.best c.args.bytes.now) (Makes (Serve c.args.best c.args.budget) c.args.bytes.now) (λ t h. h)
+    c.refused.result c.in-Err-Refused.field-0 c.in-Err-Refused.refusal c.in-Err-Refused.ensures.case c.in-Err-Refused.field-0-is c.refused.ensures.status text
+
+-- the run is told
+pub returns-in-Ok-clause-makes : goal.returns-in-Ok-clause-makes
+returns-in-Ok-clause-makes c =
+    served_made c.args.best c.args.budget c.args.bytes.now c.served_case.result c.in-Ok.found c.in-Ok.ensures.case c.served_case.ensures.status c.served_case.ensures.text
