@@ -1,5 +1,5 @@
 -- What the command `search` makes of the bytes of its input.
-use Rattle.std.specs.Prelude.{◌≡◌, ℕ, List, ◌++◌, length, codes, decimal, Option}
+use Rattle.std.specs.Prelude.{◌≡◌, ℕ, List, ◌++◌, length, codes, decimal, Ok, Option}
 use Rattle.answer_text.specs.Answer.{AnswerText}
 use Rattle.certificate.specs.CertOf.{CertOf}
 use Rattle.certificate.specs.Checks.{Checks}
@@ -8,9 +8,17 @@ use Rattle.certificate_text.specs.CertText.{CertText}
 use Rattle.fare_law.specs.Best.{Best}
 use Rattle.fare_law.specs.declared.tickets.Ticket.{Ticket}
 use Rattle.lowfare.specs.Cases.{ExceedsBudget, FitsBudget}
+use Rattle.lowfare.specs.Checked.{MeetsChecks}
+use Rattle.whole_case.specs.Cases.{search_case}
 use Rattle.whole_case.specs.declared.search.SearchCase.{SearchCase}
 
--- The text is the version, the answer of the best tickets of the case, and the certificate of the search, which meets the checks.
+-- Whatever bytes spell this case, with a section of this text before their last line they spell a case that a check says yes to.
+abbrev pub IsAccepted : SearchCase → List ℕ → Type 0
+IsAccepted found proof =
+    (best at : Option ℕ) (front : List ℕ) → search_case best at (front ++ codes "\n#end\n") (Ok found) → MeetsChecks best at (front ++ (codes "\n#certificate\n" ++ (proof ++ codes "#end\n")))
+
+-- The text is the version, the answer of the best tickets of the case, and the certificate of the search, which meets the
+-- checks: with its text added to it, the case is one that a check says yes to.
 pub record TellsBest (found : SearchCase) (text : List ℕ) : Type 0 where
   pub tickets : List Ticket
   pub best : Best found.book found.request tickets
@@ -21,6 +29,7 @@ pub record TellsBest (found : SearchCase) (text : List ℕ) : Type 0 where
   pub meets : Checks certificate found.book found.request
   pub proof : List ℕ
   pub written : CertText certificate proof
+  pub accepted : IsAccepted found proof
   pub whole : text ≡ codes "version " ++ (decimal (length found.book.entries) ++ (codes "\n" ++ (answer ++ proof)))
 
 -- The bytes spell a case within the budget, and the text tells its best tickets.

@@ -1,6 +1,6 @@
 //! The command `search`: the best tickets of a case, with the certificate of their search.
 ghost use Rattle.std.specs.Int.{IsInRange};
-ghost use Rattle.std.specs.Prelude.{◌≡◌, ◌≤◌, length, IfOk, IfSome};
+ghost use Rattle.std.specs.Prelude.{◌≡◌, ◌≤◌, ◌<◌, ◌^◌, length, IfOk, IfSome};
 ghost use Rattle.lowfare.specs.Inputs.{most_bytes};
 ghost use Rattle.lowfare.specs.Makes.{IsEnd, Makes};
 ghost use Rattle.lowfare.specs.Answered.{HasAnswer};
@@ -14,6 +14,7 @@ use crate::outcomes::{Outcome, refused, too_large};
 use answer_text::push_answer_text;
 use certificate_text::push_cert_text;
 use fare_law::{List, Mem};
+use search_check::search_is_accepted;
 use search_core::Answer;
 use std::alloc::Global;
 use whole_case::SearchCase;
@@ -42,11 +43,13 @@ pub(crate) fn searched(
 
 /// The version of a case, the answer and the certificate.
 fn done(alloc: Global, found: &SearchCase, answer: &Answer, budget: u32) -> Result<Outcome, Mem>
-    requires { HasAnswer budget found.now answer.now }
+    requires fits { budget < 2 ^ 32 }
+    requires answer { HasAnswer budget found.now answer.now }
     ensures status { IfOk result (λ o. o.status ≡ Status.Done) }
     ensures text { IfOk result (λ o. TellsBest found.now o.text) }
 {
     tell_limits(&found.book, &found.request);
+    search_is_accepted(found);
     let number = answer.number;
     let mut text = format!(in alloc; "version {number}\n")?.into_bytes();
     push_answer_text(&mut text, &found.book, answer.tickets.as_slice())?;
