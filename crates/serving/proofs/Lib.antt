@@ -1,7 +1,7 @@
+pub mod FilingSteps
 pub mod LineSteps
-pub mod NextSteps
-pub mod RepliesTold
 pub mod Replays
+pub mod RepliesTold
 pub mod SearchSteps
 pub mod TellerSteps
 pub mod WholeRun

@@ -1,5 +1,5 @@
 use Rattle.std.specs.Arc.{arc_value}
-use Rattle.serving.proofs.NextSteps.{none_refused}
+use Rattle.serving.proofs.FilingSteps.{none_refused}
 use Rattle.serving.proofs.versions.filed_on.Goals as goal
 
 pub unreachable-requires : goal.unreachable-requires
