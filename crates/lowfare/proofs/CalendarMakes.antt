@@ -1,5 +1,5 @@
 -- What a calendar makes of its bytes, from what its parts give.
-use Rattle.std.proofs.Common.{◌≡◌, ◌++◌, ℕ, List, [], ◌∷◌, Option, None, Some, Result, Ok, Err, IfOk, Bool, true, false, codes, decimal, length, refl, sym, ap, subst, ◌∙◌, append_assoc}
+use Rattle.std.proofs.Common.{◌≡◌, ◌++◌, ℕ, List, [], ◌∷◌, Option, None, Some, Result, Ok, IfOk, Bool, true, false, codes, decimal, length, refl, sym, ap, ◌∙◌, append_assoc}
 use Rattle.answer_text.specs.Lines.{Adds}
 use Rattle.fare_calendar.specs.CalendarText.{CalendarText}
 use Rattle.fare_calendar.specs.Calendars.{HasCause, IsCalendar, spans_fit}

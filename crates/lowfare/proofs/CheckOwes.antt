@@ -1,5 +1,5 @@
 -- What a check makes it owes, and of one input it owes one status.
-use Rattle.std.proofs.Common.{◌≡◌, ◌⊎◌, ℕ, List, Option, Ok, Err, refl, sym, subst, ◌∙◌, inl, inr}
+use Rattle.std.proofs.Common.{◌≡◌, ◌⊎◌, ℕ, List, Option, Ok, refl, sym, subst, ◌∙◌, inl, inr}
 use Rattle.certificate.specs.Checks.{Checks, OneFailure}
 use Rattle.certificate.specs.declared.parts.Certificate.{Certificate}
 use Rattle.fare_law.specs.Book.{Book}

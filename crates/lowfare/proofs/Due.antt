@@ -1,5 +1,5 @@
 -- A call whose counts didn't rise has the status that is due.
-use Rattle.std.proofs.Common.{◌≡◌, ◌⊎◌, ◌≤◌, ◌<◌, ℕ, List, length, Option, Some, refl, sym, ap, subst, ◌∙◌, inl, inr, arith}
+use Rattle.std.proofs.Common.{◌≡◌, ◌⊎◌, ◌<◌, ℕ, List, length, Option, Some, refl, sym, ap, subst, ◌∙◌, inl, inr, arith}
 use Rattle.fare_io.specs.Streams.{ReadsPast, ReadsWhole}
 use Rattle.lowfare.specs.Complete.{IsComplete, NoneRose}
 use Rattle.lowfare.specs.Inputs.{Gets, IsInput, most_bytes}

@@ -8,7 +8,6 @@ use Rattle.whole_case.specs.Texts.{refusal_text}
 use Rattle.whole_case.specs.declared.refusals.Refusal.{Refusal}
 use Rattle.whole_case.specs.declared.search.SearchCase.{SearchCase}
 use Rattle.lowfare.specs.Answered.{ComesTo}
-use Rattle.lowfare.specs.Cases.{ExceedsBudget, FitsBudget}
 use Rattle.lowfare.specs.Inputs.{most_bytes}
 use Rattle.lowfare.specs.Made.{MakesCase, SumsUp, default_budget}
 use Rattle.lowfare.specs.declared.case_search.Searched.{Searched}

@@ -1,5 +1,5 @@
 -- What `make` makes it owes, and it owes one status.
-use Rattle.std.proofs.Common.{◌≡◌, ℕ, List, Bool, true, false, None, refl, sym, ◌∙◌, inl, inr}
+use Rattle.std.proofs.Common.{◌≡◌, ℕ, List, Bool, true, false, None, refl, sym, ◌∙◌}
 use Rattle.case_maker.specs.MadeCase.{made_case}
 use Rattle.whole_case.specs.Cases.{search_case}
 use Rattle.whole_case.specs.Stages.{IsOne}

@@ -1,5 +1,5 @@
 -- A case that is refused, from what its reader gives.
-use Rattle.std.proofs.Common.{◌≡◌, ℕ, List, Result, Ok, Err, IfOk, subst}
+use Rattle.std.proofs.Common.{◌≡◌, ℕ, List, Result, Err, IfOk, subst}
 use Rattle.fare_law.specs.declared.mem.Mem.{Mem}
 use Rattle.whole_case.specs.Stages.{Reads, Stage}
 use Rattle.whole_case.specs.Texts.{refusal_text}

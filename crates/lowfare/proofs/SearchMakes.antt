@@ -1,5 +1,5 @@
 -- What a search makes of its bytes, from what its parts give.
-use Rattle.std.proofs.Common.{◌≡◌, ℕ, List, Option, None, Some, Result, Err, IfOk, codes, sym, subst, ◌∙◌}
+use Rattle.std.proofs.Common.{◌≡◌, ℕ, List, Option, None, Some, Result, IfOk, codes, sym, subst, ◌∙◌}
 use Rattle.fare_law.specs.Book.{Book}
 use Rattle.fare_law.specs.Requests.{judged, known_places}
 use Rattle.fare_law.specs.declared.mem.Mem.{Mem}

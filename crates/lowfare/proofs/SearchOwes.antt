@@ -1,5 +1,5 @@
 -- What a search makes it owes, and of one input it owes one status.
-use Rattle.std.proofs.Common.{◌≡◌, ◌⊎◌, ℕ, List, Option, Ok, Err, refl, sym, subst, ◌∙◌, inl, inr}
+use Rattle.std.proofs.Common.{◌≡◌, ◌⊎◌, ℕ, List, Option, Ok, refl, sym, subst, ◌∙◌, inl, inr}
 use Rattle.residual_keys.specs.Searches.{ReachesMoreThan}
 use Rattle.whole_case.specs.Cases.{search_case}
 use Rattle.whole_case.specs.Stages.{IsOne}

@@ -1,5 +1,5 @@
 -- What a verdict makes of its bytes, from what its parts give.
-use Rattle.std.proofs.Common.{◌≡◌, ◌≢◌, ◌↔◌, ◌++◌, ℕ, List, [], Option, None, Some, Result, Ok, IfOk, codes, decimal, sum_by, refl, sym, subst, ◌∙◌, inl, inr}
+use Rattle.std.proofs.Common.{◌≡◌, ◌≢◌, ◌↔◌, ◌++◌, ℕ, List, [], Option, None, Some, Result, Ok, IfOk, codes, decimal, sum_by, refl, sym, ◌∙◌, inl, inr}
 use Rattle.fare_law.specs.Best.{Costs}
 use Rattle.fare_law.specs.Lawful.{Lawful}
 use Rattle.fare_law.specs.Parts.{price_of}

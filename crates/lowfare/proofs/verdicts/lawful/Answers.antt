@@ -1,4 +1,4 @@
-use Rattle.std.proofs.Common.{◌≡◌, ◌++◌, codes, decimal, rules, sym}
+use Rattle.std.proofs.Common.{◌≡◌, ◌++◌, codes, decimal, rules}
 use Rattle.lowfare.proofs.VerdictMakes.{has_price, tells_lawful}
 use Rattle.lowfare.proofs.verdicts.lawful.Goals as goal
 
