@@ -1,5 +1,5 @@
-//! Tests of what threads share: what a watch sees of a clerk's filings, and that books, watches, receipts, clerks and stores
-//! of nodes may cross to other threads. Nothing stands on this crate.
+//! Tests of what threads share: what a watch sees of a clerk's filings, what desks find while filings come, and that books,
+//! watches, receipts, clerks and stores of nodes may cross to other threads. Nothing stands on this crate.
 #![tactic(auto)]
 
 #[cfg(test)]
@@ -8,5 +8,7 @@ mod crossings;
 mod desks;
 #[cfg(test)]
 mod runs;
+#[cfg(test)]
+mod served;
 #[cfg(test)]
 mod versions;
