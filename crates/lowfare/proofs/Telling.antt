@@ -36,7 +36,7 @@ pub is_accepted : (found : SearchCase) (c : Certificate) (budget : ℕ) → IsCa
     → (proof : List ℕ) → CertText c proof → IsAccepted found proof
 is_accepted found c budget law fits few made proof written = λ best at front spelled.
     let r = law best at budget (front ++ codes "\n#end\n") (front ++ (codes "\n#certificate\n" ++ (proof ++ codes "#end\n"))) c spelled fits few made
-              (record { front = front; proof = proof; text = written; search = refl; check = refl }) in
+    (record { front = front; proof = proof; text = written; search = refl; check = refl }) in
     record { found = with_certificate found c; spelled = r.0; meets = r.1 }
 
 pub tells_best : (found : SearchCase) (a : Answer) (head mid text : List ℕ) → IsAnswer found.book found.request a → Checks a.certificate found.book found.request → head ≡ codes "version " ++ (decimal a.number ++ codes "\n")
