@@ -10,3 +10,4 @@ pub mod KnownGraph
 pub mod RunsRead
 pub mod RootNode
 pub mod Answered
+pub mod SettledNodes

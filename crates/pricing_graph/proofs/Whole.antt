@@ -4,7 +4,6 @@ use Rattle.fare_book.specs.Keeping.{Limited}
 use Rattle.fare_law.specs.declared.fares.FareKind.{FareKind}
 use Rattle.fare_law.specs.declared.fares.FareKind.TheVariants.{O, R, S}
 use Rattle.fare_law.specs.declared.flights.Flight.{Flight}
-use Rattle.fare_law.specs.declared.market.OfferKey.{OfferKey}
 use Rattle.fare_law.specs.declared.moves.Move.{Move}
 use Rattle.fare_law.specs.declared.requests.Request.{Request}
 use Rattle.fare_law.specs.declared.requests.Slice.{Slice}
@@ -23,7 +22,6 @@ use Rattle.graph_walk.specs.Steps.{ExceedsIf}
 use Rattle.graph_walk.specs.Walks.{AreLeast, AreReached, Costs, LeastBy, Reached, states}
 use Rattle.graph_walk.proofs.RowFacts.{each_in, in_each}
 use Rattle.graph_walk.proofs.Ending.{exceeds_if}
-use Rattle.residual_keys.specs.AskedKeys.{KeyOf, Keys}
 use Rattle.residual_keys.specs.Residuals.{Moves, State, no_part}
 use Rattle.residual_keys.specs.Searches.{Least, Reached as ReachedByMoves}
 use Rattle.pricing_graph.specs.Graphs.{AreFound, IsTooLarge, fault_as}
@@ -47,10 +45,6 @@ are_found b q root nodes is h = record { once = h.once; are = is (states nodes) 
 pub are_least : (b : Book) (q : Request) (nodes : List (State × Option ℕ)) → ((x : State) (bound : Option ℕ) → LeastBy (Costs (leads_of b q) (Some x)) bound → Least b q x bound)
     → AreLeast (leads_of b q) nodes → Each (λ node. Least b q node.0 node.1) nodes
 are_least b q nodes is h = in_each (λ node. Least b q node.0 node.1) nodes (λ node i. is node.0 node.1 (each_in (λ r. LeastBy (Costs (leads_of b q) (Some r.0)) r.1) node nodes h i))
-
-pub are_settled : (b : Book) (q : Request) (Settled : OfferKey → Type 0) (found : List State) → AreFound b q found → Each (λ x. (key : OfferKey) → KeyOf b q x key → Settled key) found
-    → (key : OfferKey) → Keys b q key → Settled key
-are_settled b q Settled found are all key k = each_in (λ x. (o : OfferKey) → KeyOf b q x o → Settled o) k.0 found all ((are.are k.0).1 k.1) key k.2
 
 pub too_large : (b : Book) (q : Request) (root : State) (budget : ℕ) (fault : WalkFault) → IsRoot b q root → ExceedsIf (Reached (leads_of b q) root) budget fault → ExceedsIf (ReachedByMoves b q) budget fault
 too_large b q root budget fault is h = exceeds_if (Reached (leads_of b q) root) (ReachedByMoves b q) budget fault (λ x r. (reached_is b q root x is).0 r) h

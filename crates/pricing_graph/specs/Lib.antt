@@ -3,3 +3,4 @@ pub mod NodeSteps
 pub mod DrawnRuns
 pub mod NodesHold
 pub mod Givers
+pub mod Settled

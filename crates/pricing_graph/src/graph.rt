@@ -13,6 +13,7 @@ ghost use Rattle.search_steps.specs.Keys.{live, state};
 
 use crate::GraphFault;
 use crate::rows::reached_rows;
+use crate::settling::settle_nodes;
 use fare_component::OfferSource;
 use indexmap::IndexMap;
 use residual_keys::{Residual, one_size};
@@ -49,7 +50,9 @@ impl Graph {
         one_size();
         let mut rows = reached_rows(alloc, budget, steps)?;
         steps.put_in_order(&mut rows)?;
-        Ok(Graph { rows })
+        let graph = Graph { rows };
+        settle_nodes(alloc, &graph, steps)?;
+        Ok(graph)
     }
 
     /// How many residuals there are.

@@ -11,6 +11,7 @@ mod graph;
 mod laws;
 mod moving;
 mod rows;
+mod settling;
 
 pub use drawn::DrawnRun;
 pub use fault::GraphFault;

@@ -1,11 +1,9 @@
 //! The rows of a graph, as the walk finds them.
-ghost use Rattle.std.specs.Prelude.{◌≡◌, ◌≤◌, length, IfErr, IfOk, OnOk};
-ghost use Rattle.fare_component.specs.Keys.{Asked, asked};
-ghost use Rattle.fare_law.specs.declared.market.OfferKey.{OfferKey};
+ghost use Rattle.std.specs.Prelude.{◌≡◌, ◌≤◌, length, IfErr, IfOk};
+ghost use Rattle.fare_component.specs.Keys.{Asked};
 ghost use Rattle.fare_law.specs.Limits.{IsRequest};
 ghost use Rattle.graph_walk.specs.Steps.{AreLive, rows_of};
 ghost use Rattle.pricing_graph.specs.Graphs.{AreRows, IsTooLarge, fault_as};
-ghost use Rattle.residual_keys.specs.AskedKeys.{Keys};
 ghost use Rattle.search_steps.specs.Cases.{IsSameCase};
 ghost use Rattle.search_steps.specs.Keys.{live, state};
 
@@ -29,7 +27,6 @@ pub fn reached_rows<O: OfferSource>(
     ensures live { IfOk result (λ rows. AreLive (live steps.new) rows.entries) }
     ensures few { IfOk result (λ rows. length rows.entries ≤ budget) }
     ensures large { IfErr result (IsTooLarge steps.old.case.book.now steps.old.case.request.now budget) }
-    ensures settled { OnOk result ((key : OfferKey) → Keys steps.old.case.book.now steps.old.case.request.now key → O.settled steps.new.offers.now (asked key)) }
     ensures same_offers { steps.new.offers.ghost_name ≡ steps.old.offers.ghost_name }
     ensures case { IsSameCase steps.old steps.new }
     ensures base { O.base steps.new.offers.now ≡ O.base steps.old.offers.now }

@@ -1,30 +1,27 @@
 -- The landed runs, reached states and least prices are the walk's.
-use Rattle.std.proofs.Common.{◌≡◌, ◌↔◌, ◌∙◌, ℕ, suc, ◌+◌, ◌≤◌, ◌<◌, List, [], ◌∷◌, ◌++◌, length, Option, Some, None, refl, sym, ap, subst, inl, inr, ⊎_elim, arith, slice_get, take, get_or, map, IfSome}
-use Rattle.std.proofs.Math.Seq.{take-suc}
-use Rattle.std.proofs.lemmas.List.{map-append}
+use Rattle.std.proofs.Common.{◌≡◌, ◌↔◌, ℕ, ◌+◌, ◌≤◌, ◌<◌, List, [], ◌∷◌, ◌++◌, length, Option, Some, None, refl, sym, ap, subst, ⊎_elim, arith, slice_get, IfSome}
 use Rattle.graph_walk.specs.declared.outcome.Outcome.{Outcome}
-use Rattle.graph_walk.specs.Steps.{AreOutcomes, LeadToLive}
+use Rattle.graph_walk.specs.Steps.{LeadToLive}
 use Rattle.fare_law.specs.declared.flights.Flight.{Flight}
 use Rattle.fare_law.specs.declared.moves.Move.{Move}
 use Rattle.fare_law.specs.declared.requests.Request.{Request}
 use Rattle.fare_law.specs.declared.tickets.Piece.{Piece}
 use Rattle.fare_law.specs.Book.{Book}
-use Rattle.fare_law.specs.Lists.{Each, IsIn}
+use Rattle.fare_law.specs.Lists.{IsIn}
 use Rattle.fare_law.specs.Parts.{price_of}
 use Rattle.flight_paths.specs.declared.positions.Position.{Position}
 use Rattle.flight_paths.specs.Positions.{before_slice}
 use Rattle.open_unit.specs.declared.units.OpenUnit.{OpenUnit}
-use Rattle.residual_keys.specs.declared.residual.Chosen.{Chosen}
 use Rattle.residual_keys.specs.declared.residual.Next.{Next}
 use Rattle.residual_keys.specs.declared.residual.Next.TheVariants.{At, Done}
 use Rattle.residual_keys.specs.Residuals.{State, Moves, Run, LeadsFrom, begins, part_with, no_part}
 use Rattle.residual_keys.specs.Searches.{Reached as LandedReached, Least}
 use Rattle.residual_keys.specs.Short.{MoveGoesOn, ReachedFits}
-use Rattle.residual_keys.specs.Steps.{AreMoves, IsChosen, left_at}
+use Rattle.residual_keys.specs.Steps.{IsChosen, left_at}
 use Rattle.graph_walk.specs.Walks.{AreReached, Reached, Costs, IsShort, LeastBy}
 use Rattle.graph_walk.specs.Walks.Reached.{here, further}
 use Rattle.graph_walk.specs.Walks.Costs.{over, goes}
-use Rattle.search_steps.specs.Leads.{AsFound, outcome_as, state_of, next_of, leads_of, level_of, IsRoot, MovesCostLess}
+use Rattle.search_steps.specs.Leads.{next_of, leads_of, level_of, IsRoot, MovesCostLess}
 
 -- a move that goes on, and one that ends
 pub move_on : (b : Book) (q : Request) (x : State) (m : Move) (fs : List Flight) (p : Piece) (at : Position) (us : List OpenUnit) → Moves b q x m fs p (Some at) us
@@ -154,41 +151,6 @@ short_is b q root is six goes_on fits low = record {
 pub found_is : (b : Book) (q : Request) (root : State) (found : List State) → IsRoot b q root → AreReached (leads_of b q) root found → (x : State) → IsIn x found ↔ LandedReached b q x
 found_is b q root found is h x = let r = reached_is b q root x is in (λ i. r.0 ((h.are x).0 i), λ l. (h.are x).1 (r.1 l))
 
--- moves that were found, as outcomes
-pub found_more : (found : List Chosen) (i : ℕ) (c : Chosen) (os os' : List (Outcome State)) → i < length found → c ≡ get_or found i c → AsFound (take i found) os → os' ≡ os ++ outcome_as c ∷ [] → AsFound (take (i + 1) found) os'
-found_more found i c os os' h is a e =
-    let next : suc i ≡ i + 1 = omega arith in
-    let front : take (i + 1) found ≡ take i found ++ c ∷ [] = ap (λ (n : ℕ). take n found) (sym next) ∙ (take-suc found i c h ∙ ap (λ z. take i found ++ z ∷ []) (sym is)) in
-    e ∙ (ap (λ l. l ++ outcome_as c ∷ []) a ∙ sym (ap (map outcome_as) front ∙ map-append outcome_as (take i found) (c ∷ [])))
-
 pub live_more : {K : Type 0} (live : K → Type 0) (os : List (Outcome K)) (o : Outcome K) → LeadToLive live os → IfSome o.next live → LeadToLive live (os ++ o ∷ [])
 live_more live [] o all h = (h, tt)
 live_more live (z ∷ os) o all h = (all.0, live_more live os o all.1 h)
-
-next_again : (next : Next) → next_of (state_of next) ≡ next
-next_again Done = refl
-next_again (At x) = refl
-
-state_again : (next : Option State) → state_of (next_of next) ≡ next
-state_again None = refl
-state_again (Some x) = refl
-
-chosen_in : (c : Chosen) (chosen : List Chosen) → IsIn c chosen → IsIn (outcome_as c) (map outcome_as chosen)
-chosen_in c [] h = h
-chosen_in c (d ∷ ds) (inl e) = inl (ap outcome_as e)
-chosen_in c (d ∷ ds) (inr h) = inr (chosen_in c ds h)
-
-attained : (b : Book) (q : Request) (x : State) (chosen : List Chosen) → ((c : Chosen) → IsIn c chosen → IsChosen b q x c) → Each (λ o. leads_of b q x o.next o.price) (map outcome_as chosen)
-attained b q x [] all = tt
-attained b q x (c ∷ cs) all = (
-  (c.mv, subst (λ n. IsChosen b q x (record { mv = c.mv; price = c.price; next = n })) (sym (next_again c.next)) (all c (inl refl))),
-  attained b q x cs (λ d h. all d (inr h)),
-)
-
-pub moves_are : (b : Book) (q : Request) (x : State) (chosen : List Chosen) (os : List (Outcome State)) → AreMoves b q x chosen → AsFound chosen os → AreOutcomes (leads_of b q) x os
-moves_are b q x chosen os m a = subst (AreOutcomes (leads_of b q) x) (sym a) (record {
-  attained = attained b q x chosen (λ c i. (m.are c).0 i);
-  covered = λ next price l.
-      let c : Chosen = record { mv = l.0; price = price; next = next_of next } in
-      (outcome_as c, chosen_in c chosen ((m.are c).1 l.1), state_again next, omega arith);
-})

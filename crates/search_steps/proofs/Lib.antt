@@ -9,3 +9,4 @@ pub mod Given
 pub mod Kept
 pub mod Shorter
 pub mod UnitRanges
+pub mod SameKeys

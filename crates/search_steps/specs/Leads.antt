@@ -1,12 +1,11 @@
 -- The moves of a state as a walk has them: what they leave, and at what price.
-use Rattle.std.specs.Prelude.{◌≡◌, ℕ, ◌+◌, ◌*◌, ◌<◌, List, [], map, slice_get, Option, Some, None}
+use Rattle.std.specs.Prelude.{◌≡◌, ℕ, ◌+◌, ◌*◌, ◌<◌, [], slice_get, Option, Some, None}
 use Rattle.fare_law.specs.declared.moves.Move.{Move}
 use Rattle.fare_law.specs.declared.requests.Request.{Request}
 use Rattle.fare_law.specs.Book.{Book}
 use Rattle.residual_keys.specs.declared.residual.Chosen.{Chosen}
 use Rattle.residual_keys.specs.declared.residual.Next.{Next}
 use Rattle.residual_keys.specs.declared.residual.Next.TheVariants.{At, Done}
-use Rattle.graph_walk.specs.declared.outcome.Outcome.{Outcome}
 use Rattle.residual_keys.specs.Residuals.{State, no_part}
 use Rattle.residual_keys.specs.Steps.{IsChosen}
 use Rattle.flight_paths.specs.Positions.{before_slice}
@@ -25,13 +24,6 @@ leads_of b q x next price = (m : Move) × IsChosen b q x (record { mv = m; price
 
 abbrev pub level_of : State → ℕ
 level_of x = 3 * x.at.slice + x.at.leg
-
--- one outcome for each move that was found
-abbrev pub outcome_as : Chosen → Outcome State
-outcome_as c = record { next = state_of c.next; price = c.price }
-
-abbrev pub AsFound : List Chosen → List (Outcome State) → Type 0
-AsFound chosen outcomes = outcomes ≡ map outcome_as chosen
 
 -- the state in which a search begins
 abbrev pub IsRoot : Book → Request → State → Type 0

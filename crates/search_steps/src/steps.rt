@@ -1,10 +1,8 @@
 //! The steps of a search.
-ghost use Rattle.std.specs.Prelude.{◌≡◌, map, IfOk, OnOk};
-ghost use Rattle.fare_component.specs.Keys.{Asked, asked};
-ghost use Rattle.fare_law.specs.declared.market.OfferKey.{OfferKey};
+ghost use Rattle.std.specs.Prelude.{◌≡◌, map, IfOk};
+ghost use Rattle.fare_component.specs.Keys.{Asked};
 ghost use Rattle.fare_law.specs.Limits.{IsRequest};
 ghost use Rattle.graph_walk.specs.Steps.{AreOutcomes, KeepsStates, LeadToLive, TellsStates, outcomes_of};
-ghost use Rattle.residual_keys.specs.AskedKeys.{KeyOf};
 ghost use Rattle.search_steps.specs.Cases.{IsSameCase};
 ghost use Rattle.search_steps.specs.Keys.{live, state};
 ghost use Rattle.search_steps.specs.Leads.{leads_of};
@@ -12,7 +10,6 @@ ghost use Rattle.search_steps.specs.LeastMoves.{AreLeastMoves, BoundBy, LeaveLiv
 
 use crate::laws::residuals_tell;
 use crate::least::{counted_moves, first_of};
-use crate::outcomes::outcomes_of_moves;
 use crate::{Bounds, Case, Key, LeastMove, TabledCase};
 use fare_book::Book;
 use fare_component::OfferSource;
@@ -95,26 +92,18 @@ impl<'a, O: OfferSource> SearchSteps<'a, O> {
     }
 
     /// What the moves of a residual leave, at their prices: each outcome is a move, and for each move
-    /// one leaves the same at no higher price. After `Ok` what the keys of the residual ask for is
-    /// settled with the source of offers.
+    /// one leaves the same at no higher price. The source of offers stays as it is.
     pub fn outcomes(&mut self, alloc: Global, key: Key) -> Result<Vec<Outcome<Key>>, Mem>
         requires request { IsRequest self.old.case.request.now }
         requires live { live self.old key }
         ensures outcomes { IfOk result (λ v. AreOutcomes (leads_of self.old.case.book.now self.old.case.request.now) (state self.old key) (outcomes_of (state self.new) v.items)) }
         ensures live { IfOk result (λ v. LeadToLive (live self.new) v.items) }
-        ensures asked { OnOk result ((k : OfferKey) → KeyOf self.old.case.book.now self.old.case.request.now (state self.old key) k → O.settled self.new.offers.now (asked k)) }
         ensures keeps { KeepsStates (live self.old) (live self.new) (state self.old) (state self.new) }
         ensures same_offers { self.new.offers.ghost_name ≡ self.old.offers.ghost_name }
         ensures case { IsSameCase self.old self.new }
-        ensures base { O.base self.new.offers.now ≡ O.base self.old.offers.now }
-        ensures stays { (a : Asked) → O.settled self.old.offers.now a → O.settled self.new.offers.now a }
+        ensures offers { self.new.offers.now ≡ self.old.offers.now }
     {
-        if self.offers.settles_all() {
-            return self.case.outcomes(alloc, &key.residual);
-        }
-        let case = self.case.case();
-        let found = moves(alloc, case.book, case.request, &key.residual, self.offers)?;
-        outcomes_of_moves(alloc, found.as_slice())
+        self.case.outcomes(alloc, &key.residual)
     }
 
     /// The moves of a residual that count under bounds, the first `wanted` of them by total and code:
@@ -138,9 +127,7 @@ impl<'a, O: OfferSource> SearchSteps<'a, O> {
     {
         order_laws();
         let case = self.case.case();
-        if usize::from(key.residual.at.slice) < case.request.slices.len()
-            && self.offers.settles_all()
-        {
+        if usize::from(key.residual.at.slice) < case.request.slices.len() {
             return self.case.least_moves(alloc, &key.residual, bounds, wanted);
         }
         let found = moves(alloc, case.book, case.request, &key.residual, self.offers)?;

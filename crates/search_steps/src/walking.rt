@@ -1,10 +1,8 @@
 //! The steps of a search as those of a walk.
 ghost use Rattle.std.proofs.Common.{◌∙◌, refl};
-ghost use Rattle.std.specs.Prelude.{◌≡◌};
-ghost use Rattle.fare_component.specs.Keys.{Asked, asked};
-ghost use Rattle.fare_law.specs.declared.market.OfferKey.{OfferKey};
+ghost use Rattle.std.specs.Prelude.{◌≡◌, ⊤};
+ghost use Rattle.fare_component.specs.Keys.{Asked};
 ghost use Rattle.fare_law.specs.Limits.{IsRequest};
-ghost use Rattle.residual_keys.specs.AskedKeys.{KeyOf};
 ghost use Rattle.residual_keys.specs.Residuals.{State as Left};
 ghost use Rattle.search_steps.specs.Cases.{IsSameCase};
 ghost use Rattle.search_steps.specs.Keys.{live, state};
@@ -25,7 +23,7 @@ impl<'a, O: OfferSource> Steps<Key, Case<'a>> for SearchSteps<'a, O> {
 
     ghost level = { level_of };
 
-    ghost known = { λ c s x. (key : OfferKey) → KeyOf c.book.now c.request.now x key → O.settled s.offers.now (asked key) };
+    ghost known = { λ _ _ _. ⊤ };
 
     ghost later = { λ s t. IsSameCase s t × (t.offers.ghost_name ≡ s.offers.ghost_name) × (O.base t.offers.now ≡ O.base s.offers.now) × ((a : Asked) → O.settled s.offers.now a → O.settled t.offers.now a) };
 
@@ -52,5 +50,5 @@ impl<'a, O: OfferSource> Steps<Key, Case<'a>> for SearchSteps<'a, O> {
 
     ghost fitting = { λ c s t l f. (f.0, l.0.book ∙ f.1, l.0.request ∙ f.2) };
 
-    ghost stays = { λ c s t x l k. λ key of. l.3 (asked key) (k key of) };
+    ghost stays = { λ _ _ _ _ _ _. tt };
 }

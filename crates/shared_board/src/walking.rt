@@ -9,7 +9,7 @@ use pricing_graph::{Graph, GraphFault};
 use search_steps::SearchSteps;
 use std::alloc::Global;
 
-/// Walks the residuals that are reached, up to the budget, and so takes each node that the search needs.
+/// Walks the residuals that are reached and, where they are within the budget, takes each node that the search needs.
 pub fn walk_all<O: OfferSource>(alloc: Global, board: &Board, offers: &mut O) -> Result<(), Mem>
     requires { IsRequest board.now.request }
     ensures { O.base offers.new ≡ O.base offers.old }

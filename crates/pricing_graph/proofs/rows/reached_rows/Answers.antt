@@ -1,13 +1,10 @@
 use Rattle.std.proofs.Common.{◌≤◌, length, sym, subst, arith}
 use Rattle.fare_law.specs.Limits.{IsRequest}
-use Rattle.fare_component.specs.Keys.{asked}
 use Rattle.graph_walk.specs.Steps.{rows_of}
-use Rattle.graph_walk.specs.Walks.{states}
-use Rattle.residual_keys.specs.AskedKeys.{Keys}
 use Rattle.search_steps.specs.Keys.{residual_of}
 use Rattle.search_steps.specs.Leads.{IsRoot}
 use Rattle.pricing_graph.specs.Graphs.{AreRows, IsTooLarge, fault_as}
-use Rattle.pricing_graph.proofs.Whole.{are_found, are_least, are_settled, large_as, low_moves, root_of, said_of, too_large}
+use Rattle.pricing_graph.proofs.Whole.{are_found, are_least, large_as, low_moves, root_of, said_of, too_large}
 use Rattle.pricing_graph.proofs.rows.reached_rows.Goals as goal
 
 pub walk-requires-clause-short : goal.walk-requires-clause-short
@@ -32,18 +29,6 @@ returns-in-Ok-clause-rows g c =
       are_found b q c.in_ok-root.root.residual nodes (λ found h. c.reached_states_are_reached.ensures.reached b q c.in_ok-root.root.residual found is h) c.in-Ok.ensures.reached,
       are_least b q nodes (λ x bound h. c.least_prices_are_least.ensures b q x bound h) c.in-Ok.ensures.least,
     )
-
-pub returns-in-Ok-clause-settled : goal.returns-in-Ok-clause-settled
-returns-in-Ok-clause-settled g c =
-    let b = c.case-case.result.book.now in
-    let q = c.case-case.result.request.now in
-    let request : IsRequest q = subst IsRequest (sym c.case-case.ensures.request) c.requires in
-    let some : 1 ≤ length q.slices = let n = request.count in omega (arith, n) in
-    let is : IsRoot b q c.in_ok-root.root.residual = subst (IsRoot b q) (sym c.in_ok-root.ensures.state) (root_of b q c.root-root.result some c.root-root.ensures.root) in
-    let nodes = rows_of residual_of c.in-Ok.rows.entries in
-    let found = are_found b q c.in_ok-root.root.residual nodes (λ found h. c.reached_states_are_reached.ensures.reached b q c.in_ok-root.root.residual found is h) c.in-Ok.ensures.reached in
-    said_of (λ b q. (key : _) → Keys b q key → g.O.OfferSource.settled c.walk.new.steps.offers.now (asked key)) b c.args.steps.now.case.book.now q c.args.steps.now.case.request.now c.case-case.ensures.book c.case-case.ensures.request
-    (are_settled b q (λ key. g.O.OfferSource.settled c.walk.new.steps.offers.now (asked key)) (states nodes) found c.in-Ok.ensures.known)
 
 pub returns-in-Err-clause-large : goal.returns-in-Err-clause-large
 returns-in-Err-clause-large g c =

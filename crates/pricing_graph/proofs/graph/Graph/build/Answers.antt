@@ -1,13 +1,21 @@
-use Rattle.std.proofs.Common.{arith}
+use Rattle.std.proofs.Common.{◌∙◌, length, arith}
+use Rattle.graph_walk.specs.Steps.{rows_of}
 use Rattle.residual_keys.proofs.SortedWords.{same_length}
 use Rattle.search_steps.specs.Keys.{IsKey, residual_of}
 use Rattle.search_steps.proofs.RowsInOrder.{still_each}
+use Rattle.pricing_graph.specs.Settled.{AreSettledBefore}
+use Rattle.pricing_graph.proofs.Keyed.{as_many_rows}
 use Rattle.pricing_graph.proofs.Reordered.{graph_of, within_budget}
+use Rattle.pricing_graph.proofs.SettledNodes.{all_settled}
+use Rattle.pricing_graph.proofs.Whole.{said_of}
 use Rattle.pricing_graph.proofs.graph.Graph.build.Goals as goal
 
 pub returns-clause-graph : goal.returns-clause-graph
 returns-clause-graph g c =
     graph_of c.args.steps.now.case.book.now c.args.steps.now.case.request.now residual_of c.in_ok-rows.rows.entries c.put_in_order.new.rows.entries c.in_ok-put_in_order.ensures.same c.in_ok-rows.ensures.rows c.in_ok-put_in_order.ensures.order
+
+pub settle_nodes-requires-clause-live : goal.settle_nodes-requires-clause-live
+settle_nodes-requires-clause-live g c = still_each (λ r. IsKey r.0) c.in_ok-rows.rows.entries c.put_in_order.new.rows.entries c.in_ok-put_in_order.ensures.same c.in_ok-rows.ensures.live
 
 pub returns-clause-live : goal.returns-clause-live
 returns-clause-live g c = still_each (λ r. IsKey r.0) c.in_ok-rows.rows.entries c.put_in_order.new.rows.entries c.in_ok-put_in_order.ensures.same c.in_ok-rows.ensures.live
@@ -19,7 +27,19 @@ pub returns-clause-fits : goal.returns-clause-fits
 returns-clause-fits g c =
     within_budget c.args.steps.now.case.book.now c.args.steps.now.case.request.now residual_of c.in_ok-rows.rows.entries c.put_in_order.new.rows.entries c.in_ok-put_in_order.ensures.same c.args.budget c.one_size.ensures.more (returns-clause-graph g c) c.in_ok-rows.ensures.few
 
-pub invariant_of-result : goal.invariant_of-result
-invariant_of-result g c = record {
+pub returns-clause-settled : goal.returns-clause-settled
+returns-clause-settled g c =
+    let old = c.args.steps.now in
+    let new = c.settle_nodes.new.steps in
+    let es = c.put_in_order.new.rows.entries in
+    let nodes = rows_of residual_of es in
+    let rows = c.in_ok-rows.ensures in
+    let kept = c.in_ok-settle_nodes.ensures in
+    let Settled = g.O.OfferSource.settled new.offers.now in
+    all_settled old.case.book.now old.case.request.now nodes Settled (length es) (returns-clause-graph g c) (as_many_rows residual_of es)
+    (said_of (λ b q. AreSettledBefore b q Settled nodes (length es)) new.case.book.now old.case.book.now new.case.request.now old.case.request.now (kept.case.book ∙ rows.case.book) (kept.case.request ∙ rows.case.request) kept.settled)
+
+pub invariant_of-graph : goal.invariant_of-graph
+invariant_of-graph g c = record {
   small = let few = c.in_ok-rows.ensures.few in let fits = c.ranges.budget.fits in omega (arith, same_length c.in_ok-rows.rows.entries c.put_in_order.new.rows.entries c.in_ok-put_in_order.ensures.same, few, fits);
 }
