@@ -5,6 +5,8 @@ ghost use Rattle.component_table.specs.Reaches.{IsEndAt, IsKnown, IsReach};
 
 use crate::filed::{Filed, filed_at};
 use crate::markets::{MarketKey, Markets};
+use crate::recent::{Recent, spot_of};
+use crate::same::{same_carrier, same_place};
 use fare_book::Book;
 use fare_law::{Carrier, Mem, Place};
 use indexmap::IndexMap;
@@ -33,6 +35,8 @@ pub struct Reach {
     pub ends: Vec<End>,
     /// Where an end may stand, by the letters of its place and carrier.
     pub places: IndexMap<u64, usize>,
+    /// Where an end may stand that was asked for before.
+    pub recent: Recent,
 }
 
 impl EndKey {
@@ -40,7 +44,7 @@ impl EndKey {
     fn is(self, other: EndKey) -> bool
         ensures { IsTrue result ↔ (self ≡ other) }
     {
-        self.place.is(other.place) && self.carrier.is(other.carrier)
+        same_place(self.place, other.place) && same_carrier(self.carrier, other.carrier)
     }
 
     /// The letters, as one number.
@@ -62,6 +66,7 @@ impl Reach {
             markets,
             ends: Vec::new(alloc),
             places: IndexMap::new(alloc),
+            recent: Recent::new(),
         }
     }
 
@@ -71,7 +76,13 @@ impl Reach {
         ensures reach { IsReach book.now from self.new }
         ensures end { IfOk result (IsEndAt book.now from key self.new.markets.kept.items) }
     {
-        if let Some(end) = known(self.ends.as_slice(), &self.places, key) {
+        let spot = spot_of(key.letters());
+        if let Some(end) = known(self.ends.as_slice(), self.recent.get(spot), key) {
+            return Ok(end);
+        }
+        let found = self.places.get(&key.letters()).copied();
+        self.recent.put(spot, found.unwrap_or(self.ends.len()));
+        if let Some(end) = known(self.ends.as_slice(), found, key) {
             return Ok(end);
         }
         self.add(alloc, book, from, key)
@@ -98,11 +109,10 @@ impl Reach {
     }
 }
 
-/// An end, if it is known.
-fn known(ends: &[End], places: &IndexMap<u64, usize>, key: EndKey) -> Option<End>
+/// An end, if it stands at a place.
+fn known(ends: &[End], found: Option<usize>, key: EndKey) -> Option<End>
     ensures { IfSome result (IsKnown ends.now key) }
 {
-    let at = places.get(&key.letters()).copied()?;
-    let end = *ends.get(at)?;
-    if end.key.is(key) { Some(end) } else { None }
+    let end = ends.get(found?)?;
+    if end.key.is(key) { Some(*end) } else { None }
 }

@@ -1,5 +1,5 @@
 //! What is known of the flights of a path.
-ghost use Rattle.std.specs.Prelude.{◌≡◌, ◌≢◌, ◌≤◌, [], All, IfNone, IfSome, List as Items, length, slice_get};
+ghost use Rattle.std.specs.Prelude.{◌≡◌, ◌≢◌, ◌≤◌, [], All, IfNone, IfSome, List as Items, length, option_copied, slice_get};
 ghost use Rattle.component_table.specs.Tables.{BeginsWith, EndsAt};
 ghost use Rattle.fare_law.specs.declared.flights.Flight.{Flight as DatedFlight};
 ghost use Rattle.fare_law.specs.Limits.{IsFlight};
@@ -18,10 +18,10 @@ pub fn schedule_of(book: &Book) -> &Schedule
 }
 
 /// The flight of this number, if there is one.
-pub fn flight_of(all: &[Flight], number: u32) -> Option<Flight>
-    ensures { result ≡ slice_get all.now number }
+pub fn flight_of(all: &[Flight], number: u32) -> Option<&Flight>
+    ensures { option_copied result ≡ slice_get all.now number }
 {
-    all.get(number as usize).copied()
+    all.get(number as usize)
 }
 
 /// Where the last of the flights of these numbers arrives. None where there is no number, or the last is that of
@@ -66,7 +66,7 @@ pub fn flights_of(book: &Book, numbers: &[u32]) -> Option<ArrayVec<Flight, 4>>
     let mut flights = ArrayVec::new();
     for number in numbers {
         match flight_of(all, *number) {
-            Some(flight) => flights.push(flight),
+            Some(flight) => flights.push(*flight),
             None => return None,
         }
     }

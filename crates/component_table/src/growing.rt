@@ -2,6 +2,8 @@
 ghost use Rattle.std.specs.Prelude.{◌≡◌, ◌↔◌, ◌≤◌, [], IfSome, IsTrue, OnOk, Some, slice_get};
 ghost use Rattle.component_table.specs.Tables.{HasAt, IsBelow, Lowered};
 
+use crate::recent::{Recent, mixed, spot_of};
+use crate::same::{same_carrier, same_place};
 use fare_law::{FareKind, Flight, Mem, Place, Rule, Shared};
 use flight_paths::Position;
 use indexmap::IndexMap;
@@ -15,8 +17,7 @@ pub struct ClassKey {
     range: u64,
     places: u64,
     ends: u64,
-    first: i32,
-    last: i32,
+    days: u64,
 }
 
 impl ClassKey {
@@ -28,10 +29,21 @@ impl ClassKey {
             range: range_of(after),
             places: places_of(after),
             ends: u64::from_le_bytes([a, b, c, d, e, u8::from(reverse), 0, 0]),
-            first: first.day,
-            last: last.day,
+            days: days_of(first.day, last.day),
         }
     }
+
+    /// The spot of the class.
+    fn spot(&self) -> usize {
+        spot_of(mixed(mixed(mixed(self.range, self.ends), self.places), self.days))
+    }
+}
+
+/// The days on which the first and the last flight depart, as one number.
+fn days_of(first: i32, last: i32) -> u64 {
+    let [a, b, c, d] = first.to_le_bytes();
+    let [e, f, g, h] = last.to_le_bytes();
+    u64::from_le_bytes([a, b, c, d, e, f, g, h])
 }
 
 /// The range of a position, as one number.
@@ -61,6 +73,8 @@ pub struct Growing {
     pub entries: Vec<Entry>,
     /// Where the slots of a class may begin.
     pub classes: IndexMap<ClassKey, usize>,
+    /// Where a class may stand that was asked for before.
+    pub recent: Recent,
     /// Where an entry may stand.
     pub slots: Vec<usize>,
 }
@@ -73,6 +87,7 @@ impl Growing {
         Growing {
             entries: Vec::new(alloc),
             classes: IndexMap::new(alloc),
+            recent: Recent::new(),
             slots: Vec::new(alloc),
         }
     }
@@ -81,9 +96,15 @@ impl Growing {
     pub fn class(&mut self, key: ClassKey, count: usize) -> Result<usize, Mem>
         ensures { self.new.entries.items ≡ self.old.entries.items }
     {
-        if let Some(begin) = self.classes.get(&key) {
+        let spot = key.spot();
+        if let Some(begin) = begin_at(&self.classes, self.recent.get(spot), &key) {
+            return Ok(begin);
+        }
+        if let Some((at, _, begin)) = self.classes.get_full(&key) {
+            self.recent.put(spot, at);
             return Ok(*begin);
         }
+        self.recent.put(spot, self.classes.len());
         let begin = self.slots.len();
         self.classes.insert(key, begin)?;
         add_slots(&mut self.slots, count)?;
@@ -155,6 +176,16 @@ impl Growing {
     }
 }
 
+/// Where the slots of a class begin, if it stands at a place.
+fn begin_at(
+    classes: &IndexMap<ClassKey, usize>,
+    found: Option<usize>,
+    key: &ClassKey,
+) -> Option<usize> {
+    let (known, begin) = classes.get_index(found?)?;
+    if known == key { Some(*begin) } else { None }
+}
+
 /// Adds slots that tell no place.
 fn add_slots(slots: &mut Vec<usize>, count: usize) -> Result<(), Mem> {
     for _ in 0..count {
@@ -198,10 +229,10 @@ pub fn same_outline(one: &Outline, other: &Outline) -> bool
     ensures { IsTrue result ↔ (one.now ≡ other.now) }
 {
     same_after(&one.after, &other.after)
-        && one.end.is(other.end)
+        && same_place(one.end, other.end)
         && one.first == other.first
         && one.last == other.last
-        && one.carrier.is(other.carrier)
+        && same_carrier(one.carrier, other.carrier)
         && one.number == other.number
         && same_kind(one.kind, other.kind)
         && one.reverse == other.reverse
@@ -233,7 +264,7 @@ pub fn same_position(one: &Position, other: &Position) -> bool
 {
     one.slice == other.slice
         && one.leg == other.leg
-        && one.place.is(other.place)
+        && same_place(one.place, other.place)
         && same_via(&one.via, &other.via)
         && one.lo == other.lo
         && one.hi == other.hi
@@ -243,7 +274,7 @@ fn same_via(one: &Option<Place>, other: &Option<Place>) -> bool
     ensures { IsTrue result ↔ (one.now ≡ other.now) }
 {
     match (one, other) {
-        (Some(one), Some(other)) => one.is(*other),
+        (Some(one), Some(other)) => same_place(*one, *other),
         (None, None) => true,
         _ => false,
     }

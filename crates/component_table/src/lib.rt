@@ -12,6 +12,8 @@ mod markets;
 mod masks;
 mod narrowing;
 mod networks;
+mod recent;
+mod same;
 mod scenes;
 mod tables;
 mod visiting;

@@ -65,7 +65,7 @@ impl Masks {
     {
         let all = schedule_of(book).flights();
         match flight_of(all, number) {
-            Some(flight) => self.add(book, request, number, &flight),
+            Some(flight) => self.add(book, request, number, flight),
             None => Ok(0),
         }
     }

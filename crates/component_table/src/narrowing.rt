@@ -1,11 +1,13 @@
 //! The tails that end where a fare is filed from a place or to it.
-ghost use Rattle.std.specs.Prelude.{◌≡◌, ℕ, false, true, IfOk, unwrap_or};
+ghost use Rattle.std.specs.Prelude.{◌≡◌, ℕ, false, true, IfOk, IfSome, OnOk, Some, unwrap_or};
 ghost use Rattle.component_table.specs.Networks.{AreTailsOver};
 ghost use Rattle.component_table.specs.Tails.{AreTailsFrom, HasNoFares, KnowsEnds};
 ghost use Rattle.fare_law.specs.declared.requests.Request.{Request as Asked};
 ghost use Rattle.indexmap.specs.IndexMap.{get};
 
 use crate::gathering::schedule_of;
+use crate::recent::{Recent, spot_of};
+use crate::same::same_place;
 use fare_book::Book;
 use fare_law::{Flight, List, Mem, Place};
 use flight_paths::{Ends, Path, tails_to};
@@ -16,13 +18,58 @@ use std::alloc::Global;
 #[derive(Drop)]
 struct FareEnds {
     known: IndexMap<Place, bool>,
+    /// Where an end may stand there.
+    recent: Recent,
+}
+
+impl FareEnds {
+    /// What is known of an end.
+    fn get(&self, place: Place) -> Option<bool>
+        ensures { result ≡ get ⟦<Place as PartialEq>⟧.eq self.now.known place }
+    {
+        match known_at(&self.known, self.recent.get(spot(place)), place) {
+            Some(wanted) => Some(wanted),
+            None => self.known.get(&place).copied(),
+        }
+    }
+
+    /// Makes an end known that wasn't.
+    fn add(&mut self, book: &Book, from: Place, place: Place) -> Result<(), Mem>
+        requires { KnowsEnds ⟦<Place as PartialEq>⟧.eq book.now from self.old.known }
+        ensures { OnOk result (KnowsEnds ⟦<Place as PartialEq>⟧.eq book.now from self.new.known) }
+    {
+        if self.get(place).is_some() {
+            return Ok(());
+        }
+        self.recent.put(spot(place), self.known.len());
+        self.known.insert(place, has_fare(book, from, place))?;
+        Ok(())
+    }
+}
+
+/// The spot of a place.
+fn spot(place: Place) -> usize {
+    let [a, b, c] = place.0;
+    spot_of(u64::from_le_bytes([a, b, c, 0, 0, 0, 0, 0]))
+}
+
+/// What is known of an end, if it stands at a place.
+fn known_at(known: &IndexMap<Place, bool>, found: Option<usize>, place: Place) -> Option<bool>
+    ensures { IfSome result (λ wanted. get ⟦<Place as PartialEq>⟧.eq known.now place ≡ Some wanted) }
+{
+    let (end, wanted) = known.get_index(found?)?;
+    if same_place(*end, place) {
+        Some(*wanted)
+    } else {
+        None
+    }
 }
 
 impl Ends for FareEnds {
     ghost wanted = { λ s place. unwrap_or (get ⟦<Place as PartialEq>⟧.eq s.known place) true };
 
     fn wants(&self, place: Place) -> bool {
-        self.known.get(&place).copied().unwrap_or(true)
+        self.get(place).unwrap_or(true)
     }
 }
 
@@ -35,30 +82,25 @@ pub fn fare_tails(
 ) -> Result<List<Path>, Mem>
     ensures { IfOk result (λ some. (q : Asked) (slice : ℕ) → AreTailsOver book.now q.slices slice tails.now → AreTailsFrom book.now q from slice some) }
 {
-    let known = ends_of(alloc, book, from, tails)?;
-    let ends = FareEnds { known };
+    let ends = ends_of(alloc, book, from, tails)?;
     tails_to(alloc, schedule_of(book), tails, &ends)
 }
 
 /// The ends of tails, each with whether a fare is filed from a place to it or back.
-fn ends_of(
-    alloc: Global,
-    book: &Book,
-    from: Place,
-    tails: &[Path],
-) -> Result<IndexMap<Place, bool>, Mem>
-    ensures { IfOk result (KnowsEnds ⟦<Place as PartialEq>⟧.eq book.now from) }
+fn ends_of(alloc: Global, book: &Book, from: Place, tails: &[Path]) -> Result<FareEnds, Mem>
+    ensures { IfOk result (λ ends. KnowsEnds ⟦<Place as PartialEq>⟧.eq book.now from ends.known) }
 {
     let flights = schedule_of(book).flights();
-    let mut known = IndexMap::new(alloc);
+    let mut ends = FareEnds {
+        known: IndexMap::new(alloc),
+        recent: Recent::new(),
+    };
     for tail in tails {
         if let Some(place) = end_of(flights, tail) {
-            if known.get(&place).is_none() {
-                known.insert(place, has_fare(book, from, place))?;
-            }
+            ends.add(book, from, place)?;
         }
     }
-    Ok(known)
+    Ok(ends)
 }
 
 /// Where a tail ends.

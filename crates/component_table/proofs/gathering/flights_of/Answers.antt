@@ -1,4 +1,4 @@
-use Rattle.std.proofs.Common.{◌+◌, get_or, slice_get, take, ap, subst, sym, ◌∙◌, arith}
+use Rattle.std.proofs.Common.{◌+◌, get_or, option_copied, slice_get, take, ap, subst, sym, ◌∙◌, arith}
 use Rattle.std.proofs.lemmas.List.{take_all}
 use Rattle.component_table.proofs.Collected.{not_both, number_known, numbers_long, numbers_next, taken_long}
 use Rattle.fare_law.specs.Book.{flight_at}
@@ -22,7 +22,7 @@ returns-in-None-clause-none c = λ fs m.
     let i = c.loop-number.number-index in
     let n = get_or ns i 0 in
     let k = number_known b ns fs i m c.loop-number-test.true in
-    not_both (flight_at b n) k.0 k.1 (ap (λ l. slice_get l n) (c.schedule_of.ensures.flights ∙ sym c.flights-all.ensures.flights) ∙ sym c.flight_of.ensures ∙ c.in-None.is)
+    not_both (flight_at b n) k.0 k.1 (ap (λ l. slice_get l n) (c.schedule_of.ensures.flights ∙ sym c.flights-all.ensures.flights) ∙ sym c.flight_of.ensures ∙ ap option_copied c.in-None.is)
 
 pub loop-number-preserved : goal.loop-number-preserved
 loop-number-preserved c =
@@ -30,9 +30,9 @@ loop-number-preserved c =
     let ns = c.args.numbers.now in
     let i = c.loop-number.number-index in
     let n = get_or ns i 0 in
-    let f = c.in-Some.flight in
+    let f = c.in-Some.flight.now in
     subst (Numbers b (take (i + 1) ns)) (sym c.push.ensures)
-    (numbers_next b ns c.loop-number.flights i f c.loop-number-test.true c.loop-number.invariant (ap (λ l. slice_get l n) (c.schedule_of.ensures.flights ∙ sym c.flights-all.ensures.flights) ∙ sym c.flight_of.ensures ∙ c.in-Some.is))
+    (numbers_next b ns c.loop-number.flights i f c.loop-number-test.true c.loop-number.invariant (ap (λ l. slice_get l n) (c.schedule_of.ensures.flights ∙ sym c.flights-all.ensures.flights) ∙ sym c.flight_of.ensures ∙ ap option_copied c.in-Some.is))
 
 pub returns-clause-some : goal.returns-clause-some
 returns-clause-some c =
