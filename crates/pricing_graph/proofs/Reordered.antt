@@ -1,47 +1,23 @@
 -- Rows in order are the nodes of the graph.
-use Rattle.std.proofs.Common.{◌≡◌, ◌↔◌, ℕ, suc, ◌≤◌, ◌<◌, List, [], ◌∷◌, length, zero, Option, Some, option_map, slice_get, refl, sym, ap, subst, inl, inr, arith}
+use Rattle.std.proofs.Common.{◌≡◌, ◌↔◌, ℕ, suc, ◌≤◌, ◌<◌, List, [], ◌∷◌, length, zero, Option, Some, option_map, slice_get, refl, ap, arith}
 use Rattle.std.specs.List.Sorted.{IsPermutation}
 use Rattle.fare_law.specs.declared.requests.Request.{Request}
 use Rattle.fare_law.specs.Book.{Book}
-use Rattle.fare_law.specs.Lists.{Each, EachPair, IsIn}
+use Rattle.fare_law.specs.Lists.{EachPair}
 use Rattle.graph_walk.specs.Steps.{rows_of}
 use Rattle.graph_walk.specs.Walks.{states}
 use Rattle.residual_keys.specs.ResidualOrder.{StateBefore}
 use Rattle.residual_keys.specs.Residuals.{State}
 use Rattle.residual_keys.specs.Searches.{IsSize, Least, ReachesMoreThan}
-use Rattle.residual_keys.proofs.SortedWords.{same_elements, same_length}
-use Rattle.search_steps.proofs.RowsInOrder.{still_each}
+use Rattle.residual_keys.proofs.SortedWords.{same_length}
+use Rattle.search_steps.proofs.RowsInOrder.{from_nodes, same_states, still_each, to_nodes}
 use Rattle.pricing_graph.specs.Graphs.{AreRows, IsGraph}
 
 module _ {K X : Type 0} (f : K → X) where
-  in_states : (x : X) (es : List (K × Option ℕ)) → IsIn x (states (rows_of f es)) → (e : K × Option ℕ) × IsIn e es × (x ≡ f e.0)
-  in_states x [] i = absurd i
-  in_states x (e ∷ es) (inl s) = (e, inl refl, s)
-  in_states x (e ∷ es) (inr i) = let r = in_states x es i in (r.0, inr r.1, r.2)
-
-  to_states : (e : K × Option ℕ) (es : List (K × Option ℕ)) → IsIn e es → IsIn (f e.0) (states (rows_of f es))
-  to_states e [] i = absurd i
-  to_states e (d ∷ es) (inl s) = inl (ap (λ z. f z.0) s)
-  to_states e (d ∷ es) (inr i) = inr (to_states e es i)
-
-  pub same_states : (x : X) (es fs : List (K × Option ℕ)) → IsPermutation es fs → IsIn x (states (rows_of f es)) ↔ IsIn x (states (rows_of f fs))
-  same_states x es fs p = (
-    λ i. let r = in_states x es i in subst (λ z. IsIn z (states (rows_of f fs))) (sym r.2) (to_states r.0 fs ((same_elements r.0 es fs p).0 r.1)),
-    λ i. let r = in_states x fs i in subst (λ z. IsIn z (states (rows_of f es))) (sym r.2) (to_states r.0 es ((same_elements r.0 es fs p).1 r.1)),
-  )
-
   pub ordered_states : (R : X → X → Type 0) (es : List (K × Option ℕ)) → EachPair (λ d e. R (f d.0) (f e.0)) es → EachPair R (states (rows_of f es))
   ordered_states R [] h = tt
   ordered_states R (e ∷ []) h = tt
   ordered_states R (d ∷ e ∷ es) h = (h.0, ordered_states R (e ∷ es) h.1)
-
-  from_nodes : (P : X × Option ℕ → Type 0) (es : List (K × Option ℕ)) → Each P (rows_of f es) → Each (λ e. P (f e.0, e.1)) es
-  from_nodes P [] h = tt
-  from_nodes P (e ∷ es) h = (h.0, from_nodes P es h.1)
-
-  to_nodes : (P : X × Option ℕ → Type 0) (es : List (K × Option ℕ)) → Each (λ e. P (f e.0, e.1)) es → Each P (rows_of f es)
-  to_nodes P [] h = tt
-  to_nodes P (e ∷ es) h = (h.0, to_nodes P es h.1)
 
   pub as_many : (es : List (K × Option ℕ)) → length (states (rows_of f es)) ≡ length es
   as_many [] = refl

@@ -9,7 +9,7 @@ ghost use Rattle.search_steps.specs.Keys.{live, state};
 
 use crate::GraphFault;
 use fare_component::OfferSource;
-use graph_walk::{WalkFault, walk};
+use graph_walk::WalkFault;
 use indexmap::IndexMap;
 use residual_keys::root;
 use rule_route::limits_are_met;
@@ -39,8 +39,7 @@ pub fn reached_rows<O: OfferSource>(
     case.book.limits();
     let root = root(case.book, case.request);
     let root = steps.key_of(root)?;
-    steps.keys_tell();
-    match walk(alloc, &case, root, budget, steps) {
+    match steps.reached(alloc, root, budget) {
         Ok(rows) => Ok(rows),
         Err(fault) => Err(fault_of(fault, budget)),
     }

@@ -1,4 +1,2 @@
-mod KeyFacts
-mod Numbers
-mod Placed
-mod RowFacts
+pub mod KeyFacts
+pub mod Numbers

@@ -1,11 +1,10 @@
--- Residuals by the numbers of their parts.
-use Rattle.std.specs.Prelude.{◌≡◌, ◌⊎◌, ◌<◌, ℕ, Bool, zero, suc, List, [], ◌∷◌, length, slice_get, Option, Some, None, option_map}
+-- Residuals by the numbers of their positions and open units.
+use Rattle.std.specs.Prelude.{◌≡◌, ◌⊎◌, ◌<◌, ℕ, Bool, zero, suc, List, [], ◌∷◌, length, slice_get, Option, Some, None, option_map, unwrap_or}
 use Rattle.fare_law.specs.Lists.{AllDifferent, Each}
 use Rattle.flight_paths.specs.declared.positions.Position.{Position}
 use Rattle.open_unit.specs.declared.units.OpenUnit.{OpenUnit}
 use Rattle.open_unit.specs.Ranges.{UnitInRanges}
 use Rattle.indexmap.specs.IndexSet.{insert_key}
-use Rattle.residual_keys.specs.declared.parts.TicketPart.{TicketPart}
 use Rattle.residual_keys.specs.Kept.{PartKept}
 use Rattle.residual_keys.specs.Residuals.{State}
 use Rattle.residual_table.specs.declared.key.ResidualKey.{ResidualKey}
@@ -14,18 +13,15 @@ use Rattle.residual_table.specs.declared.key.ResidualKey.{ResidualKey}
 pub record Tables : Type 0 where
   pub positions : List Position
   pub units : List OpenUnit
-  pub parts : List TicketPart
 
 abbrev pub no_tables : Tables
-no_tables = record { positions = []; units = []; parts = [] }
+no_tables = record { positions = []; units = [] }
 
 -- Each element stands once, and lies in its ranges.
 pub record AreTables (t : Tables) : Type 0 where
   pub positions : AllDifferent t.positions
   pub units : AllDifferent t.units
-  pub parts : AllDifferent t.parts
   pub units_kept : Each UnitInRanges t.units
-  pub parts_kept : Each PartKept t.parts
 
 infixl 10 ◌>>=◌
 abbrev pub ◌>>=◌ : {A B : Type 0} → Option A → (A → Option B) → Option B
@@ -46,23 +42,22 @@ units_of us (suc m) (suc n) = do
 abbrev pub IsAdded : {X : Type 0} → (X → X → Bool) → List X → X → List X → Type 0
 IsAdded eq old x new = (new ≡ insert_key eq old x) ⊎ (new ≡ old)
 
--- the residual that a key stands for
-abbrev pub residual_of : Tables → ResidualKey → Option State
-residual_of t k = do
-  at ← slice_get t.positions k.position
-  units ← units_of t.units k.first k.second
-  part ← slice_get t.parts k.part
-  Some (record { at = at; units = units; part = part })
+-- The key stands for the residual.
+pub record StandsFor (t : Tables) (k : ResidualKey) (x : State) : Type 0 where
+  pub at : slice_get t.positions k.position ≡ Some x.at
+  pub units : units_of t.units k.first k.second ≡ Some x.units
+  pub part : k.part ≡ x.part
+  pub kept : PartKept x.part
 
--- an open unit's slot in a key, or that of none
-abbrev pub IsSlot : List OpenUnit → ℕ → Option OpenUnit → Type 0
-IsSlot us n None = n ≡ 0
-IsSlot us n (Some u) = (m : ℕ) × (n ≡ suc m) × (slice_get us m ≡ Some u)
+-- the slot of an element, or of none
+abbrev pub IsSlot : {X : Type 0} → List X → ℕ → Option X → Type 0
+IsSlot xs n None = n ≡ 0
+IsSlot xs n (Some x) = (m : ℕ) × (n ≡ suc m) × (slice_get xs m ≡ Some x)
 
--- a slot of none, or of an open unit of the table
-abbrev pub HasSlot : List OpenUnit → ℕ → Type 0
-HasSlot us zero = Unit {0}
-HasSlot us (suc m) = m < length us
+-- a slot of none, or of an element of the table
+abbrev pub HasSlot : {X : Type 0} → List X → ℕ → Type 0
+HasSlot xs zero = Unit {0}
+HasSlot xs (suc m) = m < length xs
 
 -- each number goes on to stand for what it stands for
 abbrev pub KeepsNumbers : {X : Type 0} → List X → List X → Type 0
@@ -71,12 +66,19 @@ KeepsNumbers {X} old new = (n : ℕ) (x : X) → slice_get old n ≡ Some x → 
 pub record Grows (old new : Tables) : Type 0 where
   pub positions : KeepsNumbers old.positions new.positions
   pub units : KeepsNumbers old.units new.units
-  pub parts : KeepsNumbers old.parts new.parts
 
 -- the key stands for a residual
 abbrev pub IsLive : Tables → ResidualKey → Type 0
-IsLive t k = (x : State) × (residual_of t k ≡ Some x)
+IsLive t k = (x : State) × StandsFor t k x
 
 -- each key that stands for a residual goes on to stand for it
 abbrev pub KeepsResiduals : Tables → Tables → Type 0
-KeepsResiduals old new = (k : ResidualKey) (x : State) → residual_of old k ≡ Some x → residual_of new k ≡ Some x
+KeepsResiduals old new = (k : ResidualKey) (x : State) → StandsFor old k x → StandsFor new k x
+
+-- what stands where a key stands for no residual
+abbrev pub nowhere : Position
+nowhere = record { slice = 0; leg = 0; place = record { 0 = [] }; via = None; lo = 0; hi = 0 }
+
+-- the residual of a key that stands for one
+abbrev pub residual_at : Tables → ResidualKey → State
+residual_at t k = record { at = unwrap_or (slice_get t.positions k.position) nowhere; units = unwrap_or (units_of t.units k.first k.second) []; part = k.part }

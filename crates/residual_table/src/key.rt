@@ -1,6 +1,7 @@
 //! Keys of residuals.
+use residual_keys::TicketPart;
 
-/// A residual by the numbers of its parts.
+/// A residual by the numbers of its position and of its open units.
 #[derive(Clone, Copy, PartialEq, Eq, Hash, Debug)]
 pub struct ResidualKey {
     /// The number of its position.
@@ -9,6 +10,5 @@ pub struct ResidualKey {
     pub first: u32,
     /// The same of the other one.
     pub second: u32,
-    /// The number of its ticket part.
-    pub part: u32,
+    pub part: TicketPart,
 }

@@ -1,8 +1,7 @@
 //! Keys of residuals, and the numbers of what they consist of.
 ghost use Rattle.std.specs.Prelude.{◌≡◌, ◌<◌, IfOk, IfSome, Some, slice_get};
 ghost use Rattle.open_unit.specs.Ranges.{UnitInRanges};
-ghost use Rattle.residual_keys.specs.Kept.{PartKept};
-ghost use Rattle.residual_table.specs.Keys.{Grows, IsSlot, residual_of};
+ghost use Rattle.residual_table.specs.Keys.{Grows, IsSlot, StandsFor};
 
 use crate::adding::add;
 use crate::key::ResidualKey;
@@ -11,7 +10,7 @@ use crate::parts::ResidualParts;
 use fare_law::Mem;
 use flight_paths::Position;
 use open_unit::OpenUnit;
-use residual_keys::{Residual, TicketPart};
+use residual_keys::Residual;
 
 /// Each call gives a number to what has none. It answers `Mem` only for want of memory or of a number: a table has
 /// 4,294,967,295. Each number goes on to stand for what it stood for, whatever the answer.
@@ -19,6 +18,7 @@ impl ResidualParts {
     /// The number of a position.
     pub fn position(&mut self, at: Position) -> Result<u32, Mem>
         ensures number { IfOk result (λ n. slice_get self.new.positions n ≡ Some at) }
+        ensures small { IfOk result (λ n. n < 4294967295) }
         ensures grows { Grows self.old self.new }
     {
         parts_tell();
@@ -36,18 +36,22 @@ impl ResidualParts {
         add(&mut self.units, *unit)
     }
 
-    /// The number of a ticket part.
-    pub fn part(&mut self, part: &TicketPart) -> Result<u32, Mem>
-        requires { PartKept part.now }
-        ensures number { IfOk result (λ n. slice_get self.new.parts n ≡ Some part.now) }
+    /// The slot of a position, or of none: one more than its number, or 0.
+    pub fn position_slot(&mut self, at: &Option<Position>) -> Result<u32, Mem>
+        ensures slot { IfOk result (λ n. IsSlot self.new.positions n at.now) }
         ensures grows { Grows self.old self.new }
     {
-        parts_tell();
-        add(&mut self.parts, *part)
+        match at {
+            None => Ok(0),
+            Some(at) => {
+                let number = self.position(*at)?;
+                Ok(number + 1)
+            }
+        }
     }
 
-    /// What a key has for an open unit, or for none.
-    fn slot(&mut self, unit: &Option<OpenUnit>) -> Result<u32, Mem>
+    /// The slot of an open unit, or of none.
+    pub fn unit_slot(&mut self, unit: &Option<OpenUnit>) -> Result<u32, Mem>
         requires { IfSome unit.now UnitInRanges }
         ensures slot { IfOk result (λ n. IsSlot self.new.units n unit.now) }
         ensures grows { Grows self.old self.new }
@@ -63,18 +67,18 @@ impl ResidualParts {
 
     /// The key of a residual.
     pub fn key(&mut self, residual: &Residual) -> Result<ResidualKey, Mem>
-        ensures stands { IfOk result (λ k. residual_of self.new k ≡ Some residual.now) }
+        ensures stands { IfOk result (λ k. StandsFor self.new k residual.now) }
         ensures grows { Grows self.old self.new }
     {
+        residual.keeps();
         let position = self.position(residual.at)?;
-        let first = self.slot(&residual.unit1)?;
-        let second = self.slot(&residual.unit2)?;
-        let part = self.part(&residual.part)?;
+        let first = self.unit_slot(&residual.unit1)?;
+        let second = self.unit_slot(&residual.unit2)?;
         Ok(ResidualKey {
             position,
             first,
             second,
-            part,
+            part: residual.part,
         })
     }
 }

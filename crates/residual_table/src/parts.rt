@@ -5,16 +5,14 @@ ghost use Rattle.residual_table.specs.Keys.{no_tables};
 use flight_paths::Position;
 use indexmap::IndexSet;
 use open_unit::OpenUnit;
-use residual_keys::TicketPart;
 use std::alloc::Global;
 use std::marker::Model;
 
-/// The positions, open units and ticket parts of residuals, each once, by numbers from 0 in the order in which they came.
+/// The positions and open units of residuals, each once, by numbers from 0 in the order in which they came.
 #[derive(Drop)]
 pub struct ResidualParts {
     pub(crate) positions: IndexSet<Position>,
     pub(crate) units: IndexSet<OpenUnit>,
-    pub(crate) parts: IndexSet<TicketPart>,
 }
 
 impl Model for ResidualParts {
@@ -22,9 +20,9 @@ impl Model for ResidualParts {
 
     ghost Value = { Tables };
 
-    ghost view = { λ t. record { positions = t.positions.keys; units = t.units.keys; parts = t.parts.keys } };
+    ghost view = { λ t. record { positions = t.positions.keys; units = t.units.keys } };
 
-    ghost invariant = { λ t. AreTables (record { positions = t.positions.keys; units = t.units.keys; parts = t.parts.keys }) };
+    ghost invariant = { λ t. AreTables (record { positions = t.positions.keys; units = t.units.keys }) };
 }
 
 impl ResidualParts {
@@ -35,7 +33,6 @@ impl ResidualParts {
         ResidualParts {
             positions: IndexSet::new(alloc),
             units: IndexSet::new(alloc),
-            parts: IndexSet::new(alloc),
         }
     }
 }

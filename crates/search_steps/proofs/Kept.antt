@@ -12,6 +12,7 @@ use Rattle.outlines.specs.Marks.{IsList, IsOfUnit, ListsAreOutcomes}
 use Rattle.outlines.specs.Outcomes.{AreOutcomes, Grows}
 use Rattle.residual_keys.proofs.LeastOne.{weaken}
 use Rattle.residual_keys.specs.Residuals.{State}
+use Rattle.residual_table.specs.Keys.{KeepsNumbers}
 use Rattle.search_steps.specs.declared.tables.PositionTable.{PositionTable}
 use Rattle.search_steps.specs.declared.tables.UnitTable.{UnitTable}
 use Rattle.search_steps.specs.Giving.{GivenBy, LeftBy, OpenedBy, UnitBy, UnitGiven}
@@ -23,6 +24,10 @@ still_got : {X : Type 0} (xs ys : List X) (n : ℕ) (x : X) → slice_get xs n �
 still_got [] ys n x e = absurd (cc)
 still_got (y ∷ xs) ys zero x e = e
 still_got (y ∷ xs) ys (suc n) x e = still_got xs ys n x e
+
+-- one more at the end
+pub keeps_pushed : {X : Type 0} (old new : List X) (x : X) → new ≡ old ++ x ∷ [] → KeepsNumbers old new
+keeps_pushed old new x is n y e = ap (λ xs. slice_get xs n) is ∙ still_got old (x ∷ []) n y e
 
 pub got_within : {X : Type 0} (xs : List X) (n : ℕ) (x : X) → slice_get xs n ≡ Some x → n < length xs
 got_within [] n x e = absurd (cc)
@@ -104,3 +109,10 @@ table_there b q ts at n t h s is =
     let same : t ≡ s.table = is ∙ got_is ts n t s.table s.stands in
     let table = (got_each (IsListed b q) ts n s.table h s.stands).table in
     subst (λ (x : PositionTable). IsTable b q at x.entries) (sym same) (subst (λ a. IsTable b q a s.table.entries) s.position table)
+
+-- the table of a position is at it
+pub table_there_at : (ts : List PositionTable) (at : Position) (n : ℕ) (t : PositionTable) → TableAt ts at n → t ≡ get_or ts n t → t.at ≡ at
+table_there_at ts at n t s is = ap (λ (x : PositionTable). x.at) (is ∙ got_is ts n t s.table s.stands) ∙ s.position
+
+pub keeps_then : {X : Type 0} (xs ys zs : List X) → KeepsNumbers xs ys → zs ≡ ys → KeepsNumbers xs zs
+keeps_then xs ys zs h e n x g = ap (λ us. slice_get us n) e ∙ h n x g

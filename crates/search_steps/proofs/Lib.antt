@@ -10,3 +10,6 @@ pub mod Kept
 pub mod Shorter
 pub mod UnitRanges
 pub mod SameKeys
+pub mod LeftByNumber
+pub mod ListsByNumber
+pub mod RowsByNumber

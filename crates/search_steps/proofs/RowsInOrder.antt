@@ -1,13 +1,14 @@
 -- Rows that are sorted by their keys stand in the order of their residuals. Given on to the crates above.
-use Rattle.std.proofs.Common.{◌≡◌, ◌↔◌, ◌⊎◌, ℕ, suc, ◌+◌, Bool, true, false, List, [], ◌∷◌, map, get_or, IsTrue, Option, ap, subst, arith, inl, inr}
+use Rattle.std.proofs.Common.{◌≡◌, ◌↔◌, ◌⊎◌, ℕ, suc, sym, ◌+◌, Bool, true, false, List, [], ◌∷◌, map, get_or, IsTrue, Option, refl, ap, subst, arith, inl, inr}
 use Rattle.std.specs.declared.cmp.Ordering.{Ordering}
 use Rattle.std.specs.declared.cmp.Ordering.TheVariants.{Less as Lower}
 use Rattle.std.specs.List.{IsDistinct}
 use Rattle.std.specs.List.Sorted.{IsPermutation}
 use Rattle.std.specs.Ordering.{is_lt}
 use Rattle.std.proofs.lemmas.Map.Keys.{IsDistinct-head, IsDistinct-tail}
-use Rattle.fare_law.specs.Lists.{Each, EachPair}
-use Rattle.graph_walk.specs.Steps.{AreLive}
+use Rattle.fare_law.specs.Lists.{Each, EachPair, IsIn}
+use Rattle.graph_walk.specs.Steps.{AreLive, rows_of}
+use Rattle.graph_walk.specs.Walks.{states}
 use Rattle.residual_keys.specs.ResidualOrder.{StateBefore}
 use Rattle.residual_keys.specs.Residuals.{State}
 use Rattle.residual_keys.proofs.LeastOne.{in_each}
@@ -50,3 +51,29 @@ module _ (compare : Key → Key → Ordering) (same : Key → Key → Bool) (ord
 -- what holds of each element holds of each in another order
 pub still_each : {X : Type 0} (P : X → Type 0) (old new : List X) → IsPermutation old new → Each P old → Each P new
 still_each P old new p h = each_from P new (λ r i. in_each P r old h ((same_elements r old new p).1 i))
+
+-- rows as those of states
+module _ {K X : Type 0} (f : K → X) where
+  in_states : (x : X) (es : List (K × Option ℕ)) → IsIn x (states (rows_of f es)) → (e : K × Option ℕ) × IsIn e es × (x ≡ f e.0)
+  in_states x [] i = absurd i
+  in_states x (e ∷ es) (inl s) = (e, inl refl, s)
+  in_states x (e ∷ es) (inr i) = let r = in_states x es i in (r.0, inr r.1, r.2)
+
+  to_states : (e : K × Option ℕ) (es : List (K × Option ℕ)) → IsIn e es → IsIn (f e.0) (states (rows_of f es))
+  to_states e [] i = absurd i
+  to_states e (d ∷ es) (inl s) = inl (ap (λ z. f z.0) s)
+  to_states e (d ∷ es) (inr i) = inr (to_states e es i)
+
+  pub same_states : (x : X) (es fs : List (K × Option ℕ)) → IsPermutation es fs → IsIn x (states (rows_of f es)) ↔ IsIn x (states (rows_of f fs))
+  same_states x es fs p = (
+    λ i. let r = in_states x es i in subst (λ z. IsIn z (states (rows_of f fs))) (sym r.2) (to_states r.0 fs ((same_elements r.0 es fs p).0 r.1)),
+    λ i. let r = in_states x fs i in subst (λ z. IsIn z (states (rows_of f es))) (sym r.2) (to_states r.0 es ((same_elements r.0 es fs p).1 r.1)),
+  )
+
+  pub from_nodes : (P : X × Option ℕ → Type 0) (es : List (K × Option ℕ)) → Each P (rows_of f es) → Each (λ e. P (f e.0, e.1)) es
+  from_nodes P [] h = tt
+  from_nodes P (e ∷ es) h = (h.0, from_nodes P es h.1)
+
+  pub to_nodes : (P : X × Option ℕ → Type 0) (es : List (K × Option ℕ)) → Each (λ e. P (f e.0, e.1)) es → Each P (rows_of f es)
+  to_nodes P [] h = tt
+  to_nodes P (e ∷ es) h = (h.0, to_nodes P es h.1)

@@ -6,3 +6,5 @@ pub mod Tables
 pub mod Within
 pub mod Giving
 pub mod Shortening
+pub mod Numbers
+pub mod Placed

@@ -1,17 +1,17 @@
 //! A case with the tables of its positions.
-ghost use Rattle.std.specs.Prelude.{◌≡◌, ◌<◌, IfOk, length, map};
+ghost use Rattle.std.specs.Prelude.{◌≡◌, ◌<◌, ◌≤◌, IfErr, IfOk, length, map};
 ghost use Rattle.fare_law.specs.Limits.{IsRequest};
-ghost use Rattle.graph_walk.specs.Steps.{AreOutcomes, LeadToLive, outcomes_of};
+ghost use Rattle.graph_walk.specs.Steps.{AreLive, AreOutcomes, ExceedsIf, LeadToLive, outcomes_of, rows_of};
+ghost use Rattle.graph_walk.specs.Walks.{AreLeast, AreReached, IsShort, Reached, states};
 ghost use Rattle.search_steps.specs.Keys.{IsKey, residual_of};
-ghost use Rattle.search_steps.specs.Leads.{leads_of};
+ghost use Rattle.search_steps.specs.Leads.{leads_of, level_of};
 ghost use Rattle.search_steps.specs.LeastMoves.{AreLeastMoves, BoundBy, LeaveLive, least_as};
 
-use crate::nearest::least_by;
-use crate::tabled::outcomes_by;
-use crate::tables::Tables;
+use crate::numbered_case::NumberedCase;
 use crate::{Bounds, Case, Key, LeastMove};
 use fare_law::{List, Mem};
-use graph_walk::Outcome;
+use graph_walk::{Outcome, WalkFault};
+use indexmap::IndexMap;
 use residual_keys::Residual;
 use std::alloc::Global;
 use std::marker::Model;
@@ -19,19 +19,15 @@ use std::marker::Model;
 /// A book and a request, with the tables that were found so far. Contracts see the book and the request.
 #[derive(Drop)]
 pub struct TabledCase<'a> {
-    case: Case<'a>,
-    tables: Tables,
+    numbered: NumberedCase<'a>,
 }
 
 impl<'a> Model for TabledCase<'a> {
     ghost use Rattle.search_steps.specs.declared.case.Case.{Case as CaseData};
-    ghost use Rattle.search_steps.specs.Tables.{AreTables};
 
     ghost Value = { CaseData };
 
-    ghost view = { λ t. t.case };
-
-    ghost invariant = { λ t. AreTables t.case.book.now t.case.request.now t.tables };
+    ghost view = { λ t. t.numbered.case };
 }
 
 impl<'a> TabledCase<'a> {
@@ -40,8 +36,7 @@ impl<'a> TabledCase<'a> {
         ensures { result ≡ case.entry }
     {
         TabledCase {
-            case,
-            tables: Tables::new(alloc),
+            numbered: NumberedCase::new(alloc, case),
         }
     }
 
@@ -49,7 +44,7 @@ impl<'a> TabledCase<'a> {
     pub fn case(&self) -> Case<'a>
         ensures { result ≡ self.now }
     {
-        self.case
+        self.numbered.case()
     }
 
     /// The outcomes of a residual, by the table of its position.
@@ -59,9 +54,9 @@ impl<'a> TabledCase<'a> {
         ensures outcomes { IfOk result (λ v. AreOutcomes (leads_of self.old.book.now self.old.request.now) residual.now (outcomes_of residual_of v.items)) }
         ensures live { IfOk result (λ v. LeadToLive IsKey v.items) }
     {
-        let case = self.case;
-        outcomes_by(alloc, &case, &mut self.tables, residual)
+        self.numbered.outcomes(alloc, residual)
     }
+
     /// The moves of a residual that count under bounds, the first `wanted` of them by total and code. Its
     /// slice is one of the request's.
     pub fn least_moves<B: Bounds>(
@@ -77,7 +72,25 @@ impl<'a> TabledCase<'a> {
         ensures least { IfOk result (λ ms. AreLeastMoves self.old.book.now self.old.request.now (BoundBy IsKey residual_of (B.bound bounds.now)) residual.now wanted (map (least_as residual_of) ms)) }
         ensures live { IfOk result (LeaveLive IsKey) }
     {
-        let case = self.case;
-        least_by(alloc, &case, &mut self.tables, residual, bounds, wanted)
+        self.numbered.least_moves(alloc, residual, bounds, wanted)
+    }
+
+    /// All residuals that are reached from one, each once, with the least price of a run from it.
+    pub fn reached(
+        &mut self,
+        alloc: Global,
+        root: &Residual,
+        budget: u32,
+    ) -> Result<IndexMap<Key, Option<u64>>, WalkFault>
+        requires request { IsRequest self.old.request.now }
+        requires short { IsShort (leads_of self.old.book.now self.old.request.now) level_of root.now }
+        ensures same { self.new ≡ self.old }
+        ensures reached { IfOk result (λ rows. AreReached (leads_of self.old.book.now self.old.request.now) root.now (states (rows_of residual_of rows.entries))) }
+        ensures least { IfOk result (λ rows. AreLeast (leads_of self.old.book.now self.old.request.now) (rows_of residual_of rows.entries)) }
+        ensures few { IfOk result (λ rows. length rows.entries ≤ budget) }
+        ensures alive { IfOk result (λ rows. AreLive IsKey rows.entries) }
+        ensures large { IfErr result (ExceedsIf (Reached (leads_of self.old.book.now self.old.request.now) root.now) budget) }
+    {
+        self.numbered.reached(alloc, root, budget)
     }
 }

@@ -2,17 +2,24 @@
 //! least price, and its least moves under bounds. Nothing above knows how moves are found.
 #![tactic(auto)]
 
+mod adding;
 mod bounds;
 mod caching;
 mod case;
 mod giving;
 mod key;
+mod keyed;
 mod laws;
 mod least;
+mod leaving;
 mod nearest;
+mod numbered;
+mod numbered_case;
 mod ordering;
 mod settling;
 mod shortening;
+mod step_lists;
+mod stepping;
 mod steps;
 mod tabled;
 mod tables;
@@ -24,8 +31,11 @@ pub use bounds::Bounds;
 pub use caching::TabledCase;
 pub use case::Case;
 pub use key::Key;
+pub use keyed::Placed;
 pub use laws::{keys_in_order, least_prices_are_least, reached_states_are_reached, residuals_tell};
 pub use least::LeastMove;
+pub use numbered::{PositionSteps, Step, StepLists, UnitSlot, UnitSteps};
+pub use numbered_case::NumberedCase;
 pub use settling::have_same_keys;
 pub use steps::SearchSteps;
 pub use tables::{PositionTable, Tables, UnitKey, UnitTable};

@@ -1,7 +1,8 @@
 //! The least moves of a residual, by what the table of its position lets expect of them.
-ghost use Rattle.std.specs.Prelude.{◌<◌, ◌+◌, IfOk, length, map};
+ghost use Rattle.std.specs.Prelude.{◌≡◌, ◌<◌, ◌+◌, IfOk, length, map};
 ghost use Rattle.cheap_moves.specs.Leads.{AreLeads};
 ghost use Rattle.fare_law.specs.Limits.{IsRequest};
+ghost use Rattle.residual_table.specs.Keys.{KeepsNumbers};
 ghost use Rattle.search_steps.specs.Keys.{IsKey, residual_of};
 ghost use Rattle.search_steps.specs.LeastMoves.{AreLeastMoves, BoundBy, LeaveLive, least_as};
 ghost use Rattle.search_steps.specs.Tables.{AreTables};
@@ -28,6 +29,7 @@ pub fn least_by<B: Bounds>(
     requires known { residual.now.at.slice < length case.now.request.now.slices }
     requires right { AreTables case.now.book.now case.now.request.now tables.old }
     ensures right { AreTables case.now.book.now case.now.request.now tables.new }
+    ensures stays { KeepsNumbers tables.old.kept.items tables.new.kept.items }
     ensures least { IfOk result (λ ms. AreLeastMoves case.now.book.now case.now.request.now (BoundBy IsKey residual_of (B.bound bounds.now)) residual.now wanted (map (least_as residual_of) ms)) }
     ensures live { IfOk result (LeaveLive IsKey) }
 {
@@ -55,6 +57,7 @@ fn leads_by<B: Bounds>(
     requires request { IsRequest case.now.request.now }
     requires right { AreTables case.now.book.now case.now.request.now tables.old }
     ensures right { AreTables case.now.book.now case.now.request.now tables.new }
+    ensures stays { KeepsNumbers tables.old.kept.items tables.new.kept.items }
     ensures leads { IfOk result (AreLeads case.now.book.now case.now.request.now residual.now (λ x. B.bound keyed.now.bounds.now (record { residual = x }))) }
 {
     let at = residual.at;
@@ -83,6 +86,7 @@ fn least_over<B: Bounds>(
     requires leads { AreLeads search.now.book.now search.now.request.now search.now.residual.now (λ x. B.bound search.now.bounds.now.bounds.now (record { residual = x })) leads.now }
     requires right { AreTables search.now.book.now search.now.request.now tables.old }
     ensures right { AreTables search.now.book.now search.now.request.now tables.new }
+    ensures kept { tables.new.kept.items ≡ tables.old.kept.items }
     ensures least { IfOk result (λ ms. AreLeastMoves search.now.book.now search.now.request.now (BoundBy IsKey residual_of (B.bound search.now.bounds.now.bounds.now)) search.now.residual.now wanted (map (least_as residual_of) ms)) }
     ensures live { IfOk result (LeaveLive IsKey) }
 {

@@ -1,11 +1,12 @@
 //! The steps of a search.
-ghost use Rattle.std.specs.Prelude.{◌≡◌, map, IfOk};
+ghost use Rattle.std.specs.Prelude.{◌≡◌, ◌≤◌, length, map, IfErr, IfOk};
 ghost use Rattle.fare_component.specs.Keys.{Asked};
 ghost use Rattle.fare_law.specs.Limits.{IsRequest};
-ghost use Rattle.graph_walk.specs.Steps.{AreOutcomes, KeepsStates, LeadToLive, TellsStates, outcomes_of};
+ghost use Rattle.graph_walk.specs.Steps.{AreLive, AreOutcomes, ExceedsIf, KeepsStates, LeadToLive, TellsStates, outcomes_of, rows_of};
+ghost use Rattle.graph_walk.specs.Walks.{AreLeast, AreReached, IsShort, Reached, states};
 ghost use Rattle.search_steps.specs.Cases.{IsSameCase};
 ghost use Rattle.search_steps.specs.Keys.{live, state};
-ghost use Rattle.search_steps.specs.Leads.{leads_of};
+ghost use Rattle.search_steps.specs.Leads.{leads_of, level_of};
 ghost use Rattle.search_steps.specs.LeastMoves.{AreLeastMoves, BoundBy, LeaveLive, least_as};
 
 use crate::laws::residuals_tell;
@@ -14,7 +15,8 @@ use crate::{Bounds, Case, Key, LeastMove, TabledCase};
 use fare_book::Book;
 use fare_component::OfferSource;
 use fare_law::{List, Mem, Request};
-use graph_walk::Outcome;
+use graph_walk::{Outcome, WalkFault};
+use indexmap::IndexMap;
 use residual_keys::{Residual, moves};
 use std::alloc::Global;
 use ticket_order::order_laws;
@@ -104,6 +106,30 @@ impl<'a, O: OfferSource> SearchSteps<'a, O> {
         ensures offers { self.new.offers.now ≡ self.old.offers.now }
     {
         self.case.outcomes(alloc, &key.residual)
+    }
+
+    /// All residuals that are reached from the root's, each once, with the least price of a run from it.
+    /// The source of offers stays as it is.
+    pub fn reached(
+        &mut self,
+        alloc: Global,
+        root: Key,
+        budget: u32,
+    ) -> Result<IndexMap<Key, Option<u64>>, WalkFault>
+        requires request { IsRequest self.old.case.request.now }
+        requires live { live self.old root }
+        requires short { IsShort (leads_of self.old.case.book.now self.old.case.request.now) level_of (state self.old root) }
+        ensures reached { IfOk result (λ rows. AreReached (leads_of self.old.case.book.now self.old.case.request.now) (state self.old root) (states (rows_of (state self.new) rows.entries))) }
+        ensures least { IfOk result (λ rows. AreLeast (leads_of self.old.case.book.now self.old.case.request.now) (rows_of (state self.new) rows.entries)) }
+        ensures few { IfOk result (λ rows. length rows.entries ≤ budget) }
+        ensures alive { IfOk result (λ rows. AreLive (live self.new) rows.entries) }
+        ensures large { IfErr result (ExceedsIf (Reached (leads_of self.old.case.book.now self.old.case.request.now) (state self.old root)) budget) }
+        ensures keeps { KeepsStates (live self.old) (live self.new) (state self.old) (state self.new) }
+        ensures same_offers { self.new.offers.ghost_name ≡ self.old.offers.ghost_name }
+        ensures case { IsSameCase self.old self.new }
+        ensures offers { self.new.offers.now ≡ self.old.offers.now }
+    {
+        self.case.reached(alloc, &root.residual, budget)
     }
 
     /// The moves of a residual that count under bounds, the first `wanted` of them by total and code:

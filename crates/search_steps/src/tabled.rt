@@ -3,6 +3,7 @@ ghost use Rattle.std.specs.Prelude.{◌≡◌, IfOk, IfSome, OnOk};
 ghost use Rattle.fare_law.specs.Limits.{IsRequest};
 ghost use Rattle.graph_walk.specs.Steps.{AreOutcomes, LeadToLive, outcome_of, outcomes_of};
 ghost use Rattle.outlines.specs.Outcomes.{AreOutcomes as TriedAre};
+ghost use Rattle.residual_table.specs.Keys.{KeepsNumbers};
 ghost use Rattle.search_steps.specs.Giving.{UnitGiven};
 ghost use Rattle.search_steps.specs.Keys.{IsKey, residual_of};
 ghost use Rattle.search_steps.specs.Leads.{leads_of};
@@ -35,6 +36,7 @@ pub fn outcomes_by(
     requires request { IsRequest case.now.request.now }
     requires right { AreTables case.now.book.now case.now.request.now tables.old }
     ensures right { AreTables case.now.book.now case.now.request.now tables.new }
+    ensures stays { KeepsNumbers tables.old.kept.items tables.new.kept.items }
     ensures outcomes { IfOk result (λ v. AreOutcomes (leads_of case.now.book.now case.now.request.now) residual.now (outcomes_of residual_of v.items)) }
     ensures live { IfOk result (λ v. LeadToLive IsKey v.items) }
 {
@@ -52,6 +54,7 @@ fn given_by(
     requires request { IsRequest case.now.request.now }
     requires right { AreTables case.now.book.now case.now.request.now tables.old }
     ensures right { AreTables case.now.book.now case.now.request.now tables.new }
+    ensures stays { KeepsNumbers tables.old.kept.items tables.new.kept.items }
     ensures given { IfOk result (TriedAre case.now.book.now case.now.request.now residual.now) }
 {
     lists_give_outcomes();

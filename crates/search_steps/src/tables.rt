@@ -4,6 +4,7 @@ ghost use Rattle.component_table.specs.Networks.{IsNetwork};
 ghost use Rattle.fare_law.specs.declared.requests.Request.{Request as Asked};
 ghost use Rattle.fare_law.specs.Book.{Book as Version};
 ghost use Rattle.fare_law.specs.Limits.{IsRequest};
+ghost use Rattle.residual_table.specs.Keys.{KeepsNumbers};
 ghost use Rattle.search_steps.specs.Tables.{AreTables, IsListed, TableAt};
 
 use crate::Case;
@@ -75,6 +76,7 @@ impl Tables {
         requires request { IsRequest case.now.request.now }
         requires right { AreTables case.now.book.now case.now.request.now self.old }
         ensures right { AreTables case.now.book.now case.now.request.now self.new }
+        ensures stays { KeepsNumbers self.old.kept.items self.new.kept.items }
         ensures found { IfOk result (TableAt self.new.kept.items at.now) }
     {
         if let Some(place) = known(self.kept.as_slice(), &self.places, at) {

@@ -44,7 +44,12 @@ impl Tables {
     }
 
     /// The list of an open unit, from the table at its place.
-    fn unit_table(&self, alloc: Global, case: &Case, key: &UnitKey) -> Result<UnitTable, Mem>
+    pub(crate) fn unit_table(
+        &self,
+        alloc: Global,
+        case: &Case,
+        key: &UnitKey,
+    ) -> Result<UnitTable, Mem>
         requires request { IsRequest case.now.request.now }
         requires unit { UnitInRanges key.now.unit }
         requires place { HasTable self.now.kept.items key.now.place }

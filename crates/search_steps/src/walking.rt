@@ -1,20 +1,19 @@
-//! The steps of a search as those of a walk.
-ghost use Rattle.std.proofs.Common.{◌∙◌, refl};
+//! A case by numbers, as the steps of a walk.
+ghost use Rattle.std.proofs.Common.{◌∙◌, ap, refl};
 ghost use Rattle.std.specs.Prelude.{◌≡◌, ⊤};
-ghost use Rattle.fare_component.specs.Keys.{Asked};
 ghost use Rattle.fare_law.specs.Limits.{IsRequest};
 ghost use Rattle.residual_keys.specs.Residuals.{State as Left};
-ghost use Rattle.search_steps.specs.Cases.{IsSameCase};
-ghost use Rattle.search_steps.specs.Keys.{live, state};
+ghost use Rattle.residual_table.specs.Keys.{IsLive, residual_at};
+ghost use Rattle.search_steps.specs.declared.case.Case.{Case as CaseData};
 ghost use Rattle.search_steps.specs.Leads.{leads_of, level_of};
 
-use crate::laws::residuals_tell;
-use crate::{Case, Key, SearchSteps};
-use fare_component::OfferSource;
+use crate::Case;
+use crate::numbered_case::NumberedCase;
 use graph_walk::{Outcome, Steps};
+use residual_table::ResidualKey;
 use std::alloc::{AllocError, Global};
 
-impl<'a, O: OfferSource> Steps<Key, Case<'a>> for SearchSteps<'a, O> {
+impl<'a> Steps<ResidualKey, Case<'a>> for NumberedCase<'a> {
     ghost State = { Left };
 
     ghost fits = { λ c s. IsRequest c.request.now × (s.case.book.now ≡ c.book.now) × (s.case.request.now ≡ c.request.now) };
@@ -25,30 +24,31 @@ impl<'a, O: OfferSource> Steps<Key, Case<'a>> for SearchSteps<'a, O> {
 
     ghost known = { λ _ _ _. ⊤ };
 
-    ghost later = { λ s t. IsSameCase s t × (t.offers.ghost_name ≡ s.offers.ghost_name) × (O.base t.offers.now ≡ O.base s.offers.now) × ((a : Asked) → O.settled s.offers.now a → O.settled t.offers.now a) };
+    ghost later = { λ s t. t.case ≡ s.case };
 
-    ghost live = { λ s key. live s key };
+    ghost live = { λ s key. IsLive s.numbers key };
 
-    ghost state = { λ s key. state s key };
+    ghost state = { λ s key. residual_at s.numbers key };
 
     fn outcomes(
         &mut self,
         alloc: Global,
         _context: &Case<'a>,
-        key: Key,
-    ) -> Result<Vec<Outcome<Key>>, AllocError> {
-        residuals_tell();
-        match SearchSteps::outcomes(self, alloc, key) {
+        key: ResidualKey,
+    ) -> Result<Vec<Outcome<ResidualKey>>, AllocError> {
+        let found = self.outcomes_of(alloc, key);
+        self.keys_tell();
+        match found {
             Ok(outcomes) => Ok(outcomes),
             Err(_) => Err(AllocError),
         }
     }
 
-    ghost same = { λ s. (record { book = refl; request = refl }, refl, refl, λ a h. h) };
+    ghost same = { λ s. refl };
 
-    ghost further = { λ s t u a b. (record { book = b.0.book ∙ a.0.book; request = b.0.request ∙ a.0.request }, b.1 ∙ a.1, b.2 ∙ a.2, λ x h. b.3 x (a.3 x h)) };
+    ghost further = { λ s t u a b. b ∙ a };
 
-    ghost fitting = { λ c s t l f. (f.0, l.0.book ∙ f.1, l.0.request ∙ f.2) };
+    ghost fitting = { λ c s t l f. (f.0, ap (λ (k : CaseData). k.book.now) l ∙ f.1, ap (λ (k : CaseData). k.request.now) l ∙ f.2) };
 
     ghost stays = { λ _ _ _ _ _ _. tt };
 }

@@ -1,21 +1,30 @@
-use Rattle.std.proofs.Common.{◌≤◌, length, sym, subst, arith}
+use Rattle.std.proofs.Common.{◌≡◌, ◌∙◌, ◌≤◌, length, sym, subst, arith}
 use Rattle.fare_law.specs.Limits.{IsRequest}
 use Rattle.graph_walk.specs.Steps.{rows_of}
+use Rattle.graph_walk.specs.Walks.{IsShort}
 use Rattle.search_steps.specs.Keys.{residual_of}
-use Rattle.search_steps.specs.Leads.{IsRoot}
+use Rattle.search_steps.specs.Leads.{IsRoot, leads_of, level_of}
 use Rattle.pricing_graph.specs.Graphs.{AreRows, IsTooLarge, fault_as}
 use Rattle.pricing_graph.proofs.Whole.{are_found, are_least, large_as, low_moves, root_of, said_of, too_large}
 use Rattle.pricing_graph.proofs.rows.reached_rows.Goals as goal
 
-pub walk-requires-clause-short : goal.walk-requires-clause-short
-walk-requires-clause-short g c =
+pub reached-requires-clause-request : goal.reached-requires-clause-request
+reached-requires-clause-request g c = subst IsRequest (sym c.key_of.ensures.case.request) c.requires
+
+pub reached-requires-clause-short : goal.reached-requires-clause-short
+reached-requires-clause-short g c =
     let b = c.case-case.result.book.now in
     let q = c.case-case.result.request.now in
     let request : IsRequest q = subst IsRequest (sym c.case-case.ensures.request) c.requires in
     let some : 1 ≤ length q.slices = let n = request.count in omega (arith, n) in
-    let six : length q.slices ≤ 6 = let n = request.count in omega (arith, n) in
     let is : IsRoot b q c.in_ok-root.root.residual = subst (IsRoot b q) (sym c.in_ok-root.ensures.state) (root_of b q c.root-root.result some c.root-root.ensures.root) in
-    c.reached_states_are_reached.ensures.short b q c.in_ok-root.root.residual is six (low_moves b q c.limits.ensures c.limits_are_met.ensures.charged c.limits_are_met.ensures.surcharged)
+    let d = c.key_of.new.self.case.book.now in
+    let r = c.key_of.new.self.case.request.now in
+    let e : b ≡ d = c.case-case.ensures.book ∙ sym c.key_of.ensures.case.book in
+    let f : q ≡ r = c.case-case.ensures.request ∙ sym c.key_of.ensures.case.request in
+    let six : length q.slices ≤ 6 = let n = request.count in omega (arith, n) in
+    said_of (λ b q. IsShort (leads_of b q) level_of c.in_ok-root.root.residual) b d q r e f
+    (c.reached_states_are_reached.ensures.short b q c.in_ok-root.root.residual is six (low_moves b q c.limits.ensures c.limits_are_met.ensures.charged c.limits_are_met.ensures.surcharged))
 
 pub returns-in-Ok-clause-rows : goal.returns-in-Ok-clause-rows
 returns-in-Ok-clause-rows g c =
@@ -24,10 +33,15 @@ returns-in-Ok-clause-rows g c =
     let request : IsRequest q = subst IsRequest (sym c.case-case.ensures.request) c.requires in
     let some : 1 ≤ length q.slices = let n = request.count in omega (arith, n) in
     let is : IsRoot b q c.in_ok-root.root.residual = subst (IsRoot b q) (sym c.in_ok-root.ensures.state) (root_of b q c.root-root.result some c.root-root.ensures.root) in
+    let d = c.key_of.new.self.case.book.now in
+    let r = c.key_of.new.self.case.request.now in
+    let e : b ≡ d = c.case-case.ensures.book ∙ sym c.key_of.ensures.case.book in
+    let f : q ≡ r = c.case-case.ensures.request ∙ sym c.key_of.ensures.case.request in
+    let there = said_of (λ b q. IsRoot b q c.in_ok-root.root.residual) b d q r e f is in
     let nodes = rows_of residual_of c.in-Ok.rows.entries in
-    said_of (λ b q. AreRows b q nodes) b c.args.steps.now.case.book.now q c.args.steps.now.case.request.now c.case-case.ensures.book c.case-case.ensures.request (
-      are_found b q c.in_ok-root.root.residual nodes (λ found h. c.reached_states_are_reached.ensures.reached b q c.in_ok-root.root.residual found is h) c.in-Ok.ensures.reached,
-      are_least b q nodes (λ x bound h. c.least_prices_are_least.ensures b q x bound h) c.in-Ok.ensures.least,
+    said_of (λ b q. AreRows b q nodes) d c.args.steps.now.case.book.now r c.args.steps.now.case.request.now c.key_of.ensures.case.book c.key_of.ensures.case.request (
+      are_found d r c.in_ok-root.root.residual nodes (λ found h. c.reached_states_are_reached.ensures.reached d r c.in_ok-root.root.residual found there h) c.in-Ok.ensures.reached,
+      are_least d r nodes (λ x bound h. c.least_prices_are_least.ensures d r x bound h) c.in-Ok.ensures.least,
     )
 
 pub returns-in-Err-clause-large : goal.returns-in-Err-clause-large
@@ -37,6 +51,11 @@ returns-in-Err-clause-large g c =
     let request : IsRequest q = subst IsRequest (sym c.case-case.ensures.request) c.requires in
     let some : 1 ≤ length q.slices = let n = request.count in omega (arith, n) in
     let is : IsRoot b q c.in_ok-root.root.residual = subst (IsRoot b q) (sym c.in_ok-root.ensures.state) (root_of b q c.root-root.result some c.root-root.ensures.root) in
-    let far = large_as b q c.args.budget c.in-Err.fault (too_large b q c.in_ok-root.root.residual c.args.budget c.in-Err.fault is c.in-Err.ensures.large) in
+    let d = c.key_of.new.self.case.book.now in
+    let r = c.key_of.new.self.case.request.now in
+    let e : b ≡ d = c.case-case.ensures.book ∙ sym c.key_of.ensures.case.book in
+    let f : q ≡ r = c.case-case.ensures.request ∙ sym c.key_of.ensures.case.request in
+    let there = said_of (λ b q. IsRoot b q c.in_ok-root.root.residual) b d q r e f is in
+    let far = large_as d r c.args.budget c.in-Err.fault (too_large d r c.in_ok-root.root.residual c.args.budget c.in-Err.fault there c.in-Err.ensures.large) in
     subst (IsTooLarge c.args.steps.now.case.book.now c.args.steps.now.case.request.now c.args.budget) (sym c.fault_of.ensures)
-    (said_of (λ b q. IsTooLarge b q c.args.budget (fault_as c.args.budget c.in-Err.fault)) b c.args.steps.now.case.book.now q c.args.steps.now.case.request.now c.case-case.ensures.book c.case-case.ensures.request far)
+    (said_of (λ b q. IsTooLarge b q c.args.budget (fault_as c.args.budget c.in-Err.fault)) d c.args.steps.now.case.book.now r c.args.steps.now.case.request.now c.key_of.ensures.case.book c.key_of.ensures.case.request far)

@@ -1,6 +1,5 @@
-use Rattle.std.proofs.Common.{◌≡◌, ◌↔◌, Bool, true, false, ◌&&◌, IsTrue, List, [], ◌∷◌, slice_get, Option, Some, None, refl, ap, arith}
+use Rattle.std.proofs.Common.{◌≡◌, ◌↔◌, Bool, true, false, ◌&&◌, IsTrue, [], ◌∷◌, slice_get, Some, None, ap, arith}
 use Rattle.flight_paths.specs.declared.positions.Position.{Position}
-use Rattle.open_unit.specs.declared.marks.CarrierMark.TheVariants.{NotYet}
 use Rattle.open_unit.specs.declared.units.OpenUnit.{OpenUnit}
 use Rattle.open_unit.specs.contracts.units.OpenUnitPartialEq.TheImpl as unit
 use Rattle.open_unit.specs.Ranges.{UnitInRanges}

@@ -3,7 +3,7 @@ use Rattle.outlines.specs.Outcomes.{Grows}
 use Rattle.residual_keys.specs.Residuals.{State}
 use Rattle.search_steps.specs.Giving.{GivenBy, LeftBy, OpenedBy}
 use Rattle.search_steps.specs.Tables.{TableAt, UnitsKept}
-use Rattle.search_steps.proofs.Kept.{four_at, has_table, still_has, table_is}
+use Rattle.search_steps.proofs.Kept.{four_at, has_table, keeps_then, still_has, table_is}
 use Rattle.search_steps.proofs.tabled.given_by.Goals as goal
 
 pub add_opening-requires : goal.add_opening-requires
@@ -31,3 +31,14 @@ returns-clause-given c =
     let opening = subst (λ xs. Grows (GivenBy (OpenedBy r) xs) c.add_alone.new.found c.add_opening.new.found) c.as_slice-2.ensures c.in_ok-add_opening.ensures in
     four_at b q r ts c.add_unit.new.tables.kept.items place c.index-table.result.now c.add_alone.new.found c.add_opening.new.found c.add_unit.new.found c.add_unit-2.new.found (c.lists_give_outcomes.ensures b q r) c.keeps.ensures.few
     c.in_ok-place.ensures.right.tables at c.index-table.ensures c.add_unit.ensures.kept alone opening c.in_ok-add_unit.ensures.given c.in_ok-add_unit-2.ensures.given
+
+pub returns-in_err-add_unit-clause-stays : goal.returns-in_err-add_unit-clause-stays
+returns-in_err-add_unit-clause-stays c = keeps_then c.args.tables.now.kept.items c.find.new.self.kept.items c.add_unit.new.tables.kept.items c.find.ensures.stays c.add_unit.ensures.kept
+
+pub returns-in_err-add_unit-2-clause-stays : goal.returns-in_err-add_unit-2-clause-stays
+returns-in_err-add_unit-2-clause-stays c =
+    keeps_then c.args.tables.now.kept.items c.add_unit.new.tables.kept.items c.add_unit-2.new.tables.kept.items (keeps_then c.args.tables.now.kept.items c.find.new.self.kept.items c.add_unit.new.tables.kept.items c.find.ensures.stays c.add_unit.ensures.kept) c.add_unit-2.ensures.kept
+
+pub returns-clause-stays : goal.returns-clause-stays
+returns-clause-stays c =
+    keeps_then c.args.tables.now.kept.items c.add_unit.new.tables.kept.items c.add_unit-2.new.tables.kept.items (keeps_then c.args.tables.now.kept.items c.find.new.self.kept.items c.add_unit.new.tables.kept.items c.find.ensures.stays c.add_unit.ensures.kept) c.add_unit-2.ensures.kept

@@ -8,16 +8,13 @@ pub invariant_of-self : goal.invariant_of-self
 invariant_of-self c = record {
   positions = once_added (λ _. Unit {0}) position.ghosts.eq (λ a b h k. c.parts_tell.ensures.positions a b) c.self.inside.positions.keys c.add.new.table.keys c.args.at c.add.ensures.added c.self.invariant.positions (each_any c.self.inside.positions.keys) tt;
   units = c.self.invariant.units;
-  parts = c.self.invariant.parts;
   units_kept = c.self.invariant.units_kept;
-  parts_kept = c.self.invariant.parts_kept;
 }
 
 pub returns-clause-grows : goal.returns-clause-grows
 returns-clause-grows c =
-    let new : Tables = record { positions = c.add.new.table.keys; units = c.self.inside.units.keys; parts = c.self.inside.parts.keys } in
+    let new : Tables = record { positions = c.add.new.table.keys; units = c.self.inside.units.keys } in
     subst (λ old. Grows old new) c.self.view_is (record {
       positions = keeps_added position.ghosts.eq c.self.inside.positions.keys c.add.new.table.keys c.args.at c.add.ensures.added;
       units = λ n x h. h;
-      parts = λ n x h. h;
     })

@@ -10,18 +10,15 @@ pub invariant_of-self : goal.invariant_of-self
 invariant_of-self c = record {
   positions = c.self.invariant.positions;
   units = once_added UnitInRanges unit.ghosts.eq c.parts_tell.ensures.units c.self.inside.units.keys c.add.new.table.keys c.args.unit.now c.add.ensures.added c.self.invariant.units (c.self.invariant.units_kept) c.requires;
-  parts = c.self.invariant.parts;
   units_kept = each_added unit.ghosts.eq UnitInRanges c.self.inside.units.keys c.add.new.table.keys c.args.unit.now c.add.ensures.added (c.self.invariant.units_kept) c.requires;
-  parts_kept = c.self.invariant.parts_kept;
 }
 
 pub returns-clause-grows : goal.returns-clause-grows
 returns-clause-grows c =
-    let new : Tables = record { positions = c.self.inside.positions.keys; units = c.add.new.table.keys; parts = c.self.inside.parts.keys } in
+    let new : Tables = record { positions = c.self.inside.positions.keys; units = c.add.new.table.keys } in
     subst (λ old. Grows old new) c.self.view_is (record {
       positions = λ n x h. h;
       units = keeps_added unit.ghosts.eq c.self.inside.units.keys c.add.new.table.keys c.args.unit.now c.add.ensures.added;
-      parts = λ n x h. h;
     })
 
 pub returns-clause-number : goal.returns-clause-number

@@ -1,5 +1,5 @@
 use Rattle.std.proofs.Common.{arith}
-use Rattle.search_steps.proofs.Kept.{table_last, tables_more, units_stay}
+use Rattle.search_steps.proofs.Kept.{keeps_pushed, table_last, tables_more, units_stay}
 use Rattle.search_steps.proofs.tables.Tables.find.Goals as goal
 
 pub returns-clause-right : goal.returns-clause-right
@@ -17,3 +17,6 @@ returns-clause-right c =
 
 pub returns-clause-found : goal.returns-clause-found
 returns-clause-found c = table_last c.args.self.now.kept.items c.push.new.self.items c.in_ok-table.table _ c.len-place.result c.in_ok-push.ensures.items (omega (arith, c.len-place.ensures)) c.in_ok-table.ensures.at
+
+pub returns-clause-stays : goal.returns-clause-stays
+returns-clause-stays c = keeps_pushed c.args.self.now.kept.items c.push.new.self.items c.in_ok-table.table c.in_ok-push.ensures.items

@@ -1,0 +1,343 @@
+-- Lists of steps: what they give, and that they stay while numbers grow.
+use Rattle.std.proofs.Common.{◌≡◌, ◌≢◌, ◌⊎◌, ◌∙◌, ℕ, suc, ◌<◌, ◌≤◌, ◌+◌, List, [], ◌∷◌, ◌++◌, length, take, get_or, slice_get, Option, Some, None, refl, sym, ap, subst, inl, inr, arith}
+use Rattle.std.proofs.Math.Seq.{take-suc}
+use Rattle.std.proofs.lemmas.List.{take_all}
+use Rattle.fare_law.specs.declared.requests.Request.{Request}
+use Rattle.fare_law.specs.Book.{Book}
+use Rattle.fare_law.specs.Lists.{Each, Matched}
+use Rattle.graph_walk.specs.declared.outcome.Outcome.{Outcome}
+use Rattle.graph_walk.specs.Steps.{AreOutcomes, LeadToLive, outcome_of, outcomes_of}
+use Rattle.open_unit.specs.declared.units.OpenUnit.{OpenUnit}
+use Rattle.outlines.specs.declared.marks.Listed.{Listed}
+use Rattle.outlines.specs.declared.outline.Outcome.{Outcome as Tried}
+use Rattle.outlines.specs.Marks.{IsList, IsOfUnit, ListsAreOutcomes}
+use Rattle.outlines.specs.Outcomes.{AreOutcomes as TriedAre, Grows as Given}
+use Rattle.outlines.proofs.Growing.{grows_like, grows_none, grows_then}
+use Rattle.residual_keys.proofs.Adding.{in_either, in_left, in_right}
+use Rattle.residual_keys.proofs.LeastOne.{weaken}
+use Rattle.residual_keys.specs.Kept.{PartKept}
+use Rattle.residual_keys.specs.Residuals.{State}
+use Rattle.residual_table.specs.declared.key.ResidualKey.{ResidualKey}
+use Rattle.residual_table.specs.Keys.{Grows, HasSlot, IsLive, IsSlot, KeepsNumbers, StandsFor, Tables as Numbers, residual_at}
+use Rattle.residual_table.proofs.KeyFacts.{Slots, has_slots, slot_same, slots, stays}
+use Rattle.residual_table.proofs.KeyFacts.Slots.{neither, one, both}
+use Rattle.search_steps.specs.declared.keyed.Placed.{Placed}
+use Rattle.search_steps.specs.declared.numbered.PositionSteps.{PositionSteps}
+use Rattle.search_steps.specs.declared.numbered.Step.{Step}
+use Rattle.search_steps.specs.declared.numbered.StepLists.{StepLists}
+use Rattle.search_steps.specs.declared.numbered.UnitSteps.{UnitSteps}
+use Rattle.search_steps.specs.declared.tables.PositionTable.{PositionTable}
+use Rattle.search_steps.specs.declared.tables.UnitTable.{UnitTable}
+use Rattle.search_steps.specs.Giving.{GivenBy, OpenedBy, UnitBy, UnitGiven}
+use Rattle.search_steps.specs.Leads.{leads_of}
+use Rattle.search_steps.specs.Numbers.{AddsAll, AddsOne, ArePositionSteps, AreStepLists, AreSteps, AreUnitSteps, IsStep, StepsAt, UnitStandsAt, UnitStepsAt, tried_in, tried_of}
+use Rattle.search_steps.specs.Placed.{AddsFour, AddsOfUnit, ArePlaced, MayStand}
+use Rattle.search_steps.specs.Tables.{AsTried, IsListed, HasTable, IsUnitList, outcome_tried}
+use Rattle.search_steps.proofs.Given.{four_are, opening_not, unit_not}
+use Rattle.search_steps.proofs.LeftByNumber.{at_most_two, no_room}
+use Rattle.search_steps.proofs.Kept.{got_within}
+use Rattle.search_steps.proofs.TableFacts.{each_last, got_each, got_is, last_got, tried_are}
+
+-- the last of a list, and what is matched with it
+matched_last : {X Y : Type 0} (R : X → Y → Type 0) (xs : List X) (ys : List Y) (y : Y) → Matched R xs (ys ++ y ∷ []) → (zs : List X) × (z : X) × (xs ≡ zs ++ z ∷ []) × Matched R zs ys × R z y
+matched_last R [] [] y h = absurd h
+matched_last R (x ∷ []) [] y h = ([], x, refl, tt, h.0)
+matched_last R (x ∷ w ∷ xs) [] y h = absurd h.1
+matched_last R [] (v ∷ ys) y h = absurd h
+matched_last R (x ∷ xs) (v ∷ ys) y h = let r = matched_last R xs ys y h.1 in (x ∷ r.0, r.1, ap (λ l. x ∷ l) r.2, (h.0, r.3), r.4)
+
+matched_none : {X Y : Type 0} (R : X → Y → Type 0) (xs : List X) → Matched R xs [] → xs ≡ []
+matched_none R [] h = refl
+matched_none R (x ∷ xs) h = absurd h
+
+pub matched_more : {X Y : Type 0} (R : X → Y → Type 0) (xs : List X) (ys : List Y) (x : X) (y : Y) → Matched R xs ys → R x y → Matched R (xs ++ x ∷ []) (ys ++ y ∷ [])
+matched_more R [] [] x y h r = (r, tt)
+matched_more R [] (v ∷ ys) x y h r = absurd h
+matched_more R (u ∷ xs) [] x y h r = absurd h
+matched_more R (u ∷ xs) (v ∷ ys) x y h r = (h.0, matched_more R xs ys x y h.1 r)
+
+matched_weaker : {X Y : Type 0} (R S : X → Y → Type 0) → ((x : X) (y : Y) → R x y → S x y) → (xs : List X) (ys : List Y) → Matched R xs ys → Matched S xs ys
+matched_weaker R S f [] [] h = tt
+matched_weaker R S f [] (y ∷ ys) h = absurd h
+matched_weaker R S f (x ∷ xs) [] h = absurd h
+matched_weaker R S f (x ∷ xs) (y ∷ ys) h = (f x y h.0, matched_weaker R S f xs ys h.1)
+
+module _ (P : Listed → Tried → Type 0) where
+  given_last : (list : List Listed) (x : Listed) (a b c : List Tried) → Given (GivenBy P list) a b → Given (P x) b c → Given (GivenBy P (list ++ x ∷ [])) a c
+  given_last list x a b c h k = grows_like (λ o. GivenBy P list o ⊎ P x o) (GivenBy P (list ++ x ∷ [])) a c (grows_then (GivenBy P list) (P x) a b c h k) (λ o. (forth o, back o))
+    where
+      forth : (o : Tried) → GivenBy P list o ⊎ P x o → GivenBy P (list ++ x ∷ []) o
+      forth o (inl t) = (t.0, in_left t.0 list (x ∷ []) t.1, t.2)
+      forth o (inr l) = (x, in_right x list (x ∷ []) (inl refl), l)
+
+      back : (o : Tried) → GivenBy P (list ++ x ∷ []) o → GivenBy P list o ⊎ P x o
+      back o t = elim (in_either t.0 list (x ∷ []) t.1) [
+        | inl l ↦ inl (t.0, l, t.2)
+        | inr l ↦ elim l [ inl same ↦ inr (subst (λ y. P y o) same t.2) | inr n ↦ absurd n ]
+      ]
+
+module _ (P : State → Listed → Tried → Type 0) (k : ResidualKey) where
+  pub adds_none : (old : List (Outcome ResidualKey)) → AddsAll P k [] old old
+  adds_none old t r xs stands are = record {
+    given = subst (λ l. Given (GivenBy (P r) l) (tried_in t old) (tried_in t old)) (sym (matched_none (IsStep t) xs are)) (grows_none (GivenBy (P r) []) (tried_in t old) (λ o h. h.1));
+    live = λ l. l;
+  }
+
+  adds_last : (steps : List Step) (s : Step) (a b c : List (Outcome ResidualKey)) → AddsAll P k steps a b → AddsOne P k s b c → AddsAll P k (steps ++ s ∷ []) a c
+  adds_last steps s a b c h g t r xs stands are =
+      let m = matched_last (IsStep t) xs steps s are in
+      let before = h t r m.0 stands m.3 in
+      let last = g t r m.1 stands m.4 in
+      record {
+        given = subst (λ l. Given (GivenBy (P r) l) (tried_in t a) (tried_in t c)) (sym m.2) (given_last (P r) m.0 m.1 (tried_in t a) (tried_in t b) (tried_in t c) before.given last.given);
+        live = λ l. last.live (before.live l);
+      }
+
+  pub adds_next : (steps : List Step) (i : ℕ) (d : Step) (a b c : List (Outcome ResidualKey)) → i < length steps → AddsAll P k (take i steps) a b → AddsOne P k (get_or steps i d) b c → AddsAll P k (take (i + 1) steps) a c
+  adds_next steps i d a b c lt h g =
+      let next : i + 1 ≡ suc i = omega arith in
+      subst (λ l. AddsAll P k l a c) (sym (ap (λ (n : ℕ). take n steps) next ∙ take-suc steps i d lt)) (adds_last (take i steps) (get_or steps i d) a b c h g)
+
+  pub adds_whole : (steps : List Step) (i : ℕ) (a b : List (Outcome ResidualKey)) → length steps ≤ i → AddsAll P k (take i steps) a b → AddsAll P k steps a b
+  adds_whole steps i a b h adds = subst (λ l. AddsAll P k l a b) (take_all i steps h) adds
+
+-- where there is no room for one more unit
+pub no_opening : (k : ResidualKey) (steps : List Step) (old : List (Outcome ResidualKey)) → k.second ≢ 0 → AddsAll OpenedBy k steps old old
+no_opening k steps old full t r xs stands are = record {
+  given = opening_not r xs (tried_in t old) (no_room t.units k.first k.second r.units (slots t.units k.first k.second r.units stands.units) full);
+  live = λ l. l;
+}
+
+-- what stays while numbers grow
+pub slot_stays : {X : Type 0} (old new : List X) (n : ℕ) (o : Option X) → KeepsNumbers old new → IsSlot old n o → IsSlot new n o
+slot_stays old new n None g i = i
+slot_stays old new n (Some x) g i = (i.0, i.1, g i.0 x i.2)
+
+pub step_stays : (t u : Numbers) → Grows t u → (x : Listed) (s : Step) → IsStep t x s → IsStep u x s
+step_stays t u g x s h = record {
+  after = slot_stays t.positions u.positions s.after x.mark.after g.positions h.after;
+  unit = slot_stays t.units u.units s.unit x.mark.unit g.units h.unit;
+  carrier = h.carrier;
+  ends = h.ends;
+  price = h.price;
+}
+
+pub steps_stay : (t u : Numbers) → Grows t u → (xs : List Listed) (ss : List Step) → AreSteps t xs ss → AreSteps u xs ss
+steps_stay t u g xs ss h = matched_weaker (IsStep t) (IsStep u) (λ x s k. step_stays t u g x s k) xs ss h
+
+pub grows_same : (t : Numbers) → Grows t t
+grows_same t = record { positions = λ n x h. h; units = λ n x h. h }
+
+pub grows_on : (t u v : Numbers) → Grows t u → Grows u v → Grows t v
+grows_on t u v g h = record { positions = λ n x e. h.positions n x (g.positions n x e); units = λ n x e. h.units n x (g.units n x e) }
+
+pub position_stays : (t u : Numbers) (ts us : List PositionTable) → Grows t u → KeepsNumbers ts us → (s : PositionSteps) → ArePositionSteps t ts s → ArePositionSteps u us s
+position_stays t u ts us g keeps s h = record {
+  table = h.table;
+  stands = keeps s.place h.table h.stands;
+  at = g.positions s.position h.table.at h.at;
+  alone = steps_stay t u g h.table.alone s.alone.items h.alone;
+  opening = steps_stay t u g h.table.opening s.opening.items h.opening;
+}
+
+pub unit_stays : (q : Request) (t u : Numbers) (ts us : List PositionTable) → Grows t u → KeepsNumbers ts us → (s : UnitSteps) → AreUnitSteps q t ts s → AreUnitSteps q u us s
+unit_stays q t u ts us g keeps s h = record {
+  table = h.table;
+  stands = keeps s.place h.table h.stands;
+  unit = h.unit;
+  slot = slot_stays t.units u.units s.slot (Some h.unit) g.units h.slot;
+  list = h.list;
+  is = h.is;
+  steps = steps_stay t u g h.list s.steps.items h.steps;
+}
+
+pub positions_stay : (t u : Numbers) (ts us : List PositionTable) (ss : List PositionSteps) → Grows t u → KeepsNumbers ts us → Each (ArePositionSteps t ts) ss → Each (ArePositionSteps u us) ss
+positions_stay t u ts us ss g keeps h = weaken (ArePositionSteps t ts) (ArePositionSteps u us) (position_stays t u ts us g keeps) ss h
+
+pub units_stay_by : (q : Request) (t u : Numbers) (ts us : List PositionTable) (ss : List UnitSteps) → Grows t u → KeepsNumbers ts us → Each (AreUnitSteps q t ts) ss → Each (AreUnitSteps q u us) ss
+units_stay_by q t u ts us ss g keeps h = weaken (AreUnitSteps q t ts) (AreUnitSteps q u us) (unit_stays q t u ts us g keeps) ss h
+
+-- an open unit of a residual has the slot of its key
+some_eq : (x y : OpenUnit) → Some x ≡ Some y → x ≡ y
+some_eq x y e = cc
+
+none_eq : (y : OpenUnit) → None ≡ Some y → ⊥
+none_eq y e = cc
+
+unit_is_first : (us : List OpenUnit) (m n : ℕ) (xs : List OpenUnit) (u v : OpenUnit) → Slots us m n xs → IsSlot us m (Some u) → slice_get xs 0 ≡ Some v → u ≡ v
+unit_is_first us m n xs u v (neither e f g) i h = absurd (none_eq v (ap (λ (ys : List OpenUnit). slice_get ys 0) (sym e) ∙ h))
+unit_is_first us m n xs u v (one a w e f g k) i h = slot_same us m a w u f k i ∙ some_eq w v (ap (λ (ys : List OpenUnit). slice_get ys 0) (sym e) ∙ h)
+unit_is_first us m n xs u v (both a b w y e f g k l) i h = slot_same us m a w u f k i ∙ some_eq w v (ap (λ (ys : List OpenUnit). slice_get ys 0) (sym e) ∙ h)
+
+unit_is_second : (us : List OpenUnit) (m n : ℕ) (xs : List OpenUnit) (u v : OpenUnit) → Slots us m n xs → IsSlot us n (Some u) → slice_get xs 1 ≡ Some v → u ≡ v
+unit_is_second us m n xs u v (neither e f g) i h = absurd (none_eq v (ap (λ (ys : List OpenUnit). slice_get ys 1) (sym e) ∙ h))
+unit_is_second us m n xs u v (one a w e f g k) i h = absurd (none_eq v (ap (λ (ys : List OpenUnit). slice_get ys 1) (sym e) ∙ h))
+unit_is_second us m n xs u v (both a b w y e f g k l) i h = slot_same us n b y u g l i ∙ some_eq y v (ap (λ (ys : List OpenUnit). slice_get ys 1) (sym e) ∙ h)
+
+none_first : (us : List OpenUnit) (m n : ℕ) (xs : List OpenUnit) → Slots us m n xs → m ≡ 0 → slice_get xs 0 ≡ None
+none_first us m n xs (neither e f g) z = ap (λ ys. slice_get ys 0) e
+none_first us m n xs (one a u e f g h) z = absurd (omega (arith, z, f))
+none_first us m n xs (both a b u v e f g h i) z = absurd (omega (arith, z, f))
+
+none_second : (us : List OpenUnit) (m n : ℕ) (xs : List OpenUnit) → Slots us m n xs → n ≡ 0 → slice_get xs 1 ≡ None
+none_second us m n xs (neither e f g) z = ap (λ ys. slice_get ys 1) e
+none_second us m n xs (one a u e f g h) z = ap (λ ys. slice_get ys 1) e
+none_second us m n xs (both a b u v e f g h i) z = absurd (omega (arith, z, g))
+
+some_same : {X : Type 0} (o : Option X) (x y : X) → o ≡ Some x → o ≡ Some y → x ≡ y
+some_same o x y e f = let z : Some x ≡ Some y = sym e ∙ f in cc
+
+-- what the list of an open unit gives
+module _ (q : Request) (t : Numbers) (ts : List PositionTable) (us : List UnitSteps) (place : ℕ) (k : ResidualKey) (r : State) (stands : StandsFor t k r) (all : Each (AreUnitSteps q t ts) us) (slot number : ℕ)
+    (is_unit : (u v : OpenUnit) → IsSlot t.units number (Some u) → slice_get r.units slot ≡ Some v → u ≡ v) (is_none : number ≡ 0 → slice_get r.units slot ≡ None) where
+  pub given_of_unit : (at : Option ℕ) (old new : List (Outcome ResidualKey)) → UnitStepsAt us place number at → AddsOfUnit (λ r. UnitBy r slot) k us at old new → UnitGiven q ts place r slot (tried_in t old) (tried_in t new) × (LeadToLive (IsLive t) old → LeadToLive (IsLive t) new)
+  given_of_unit None old new e adds = (subst (λ z. UnitGiven q ts place r slot (tried_in t old) (tried_in t z)) (sym adds) (unit_not q ts place r slot (tried_in t old) (is_none e)), λ l. subst (LeadToLive (IsLive t)) (sym adds) l)
+  given_of_unit (Some n) old new at adds =
+      let h = got_each (AreUnitSteps q t ts) us n at.steps all at.stands in
+      let a = adds at.steps at.stands t r h.list stands h.steps in (
+        record {
+          list = h.list;
+          is = λ v has table there.
+              let unit : h.unit ≡ v = is_unit h.unit v (subst (λ z. IsSlot t.units z (Some h.unit)) at.of_slot h.slot) has in
+              let same : h.table ≡ table = some_same (slice_get ts place) h.table table (ap (slice_get ts) (sym at.of_place) ∙ h.stands) there in
+              subst (λ (y : PositionTable). IsList (IsOfUnit y.at.place q.sale v) y.entries h.list) same (subst (λ (w : OpenUnit). IsList (IsOfUnit h.table.at.place q.sale w) h.table.entries h.list) unit h.is);
+          grows = a.given;
+        },
+        a.live,
+      )
+
+next_state : (t : Numbers) (o : Outcome ResidualKey) → outcome_tried (tried_of t o) ≡ outcome_of (residual_at t) o
+next_state t o = go o.next
+  where
+    go : (n : Option ResidualKey) → outcome_tried (tried_of t (record { next = n; price = o.price })) ≡ outcome_of (residual_at t) (record { next = n; price = o.price })
+    go None = refl
+    go (Some k) = refl
+
+pub as_tried : (t : Numbers) (os : List (Outcome ResidualKey)) → AsTried (tried_in t os) (outcomes_of (residual_at t) os)
+as_tried t [] = refl
+as_tried t (o ∷ os) = let e = sym (next_state t o) in let f = as_tried t os in λ j. e j ∷ f j
+
+-- the four lists that were added give the outcomes of the residual
+module _ (b : Book) (q : Request) (ts : List PositionTable) (l : StepLists) (k : ResidualKey) (r : State) (p : Placed) (found : List (Outcome ResidualKey))
+    (law : ListsAreOutcomes b q r) (tables : Each (IsListed b q) ts) (lists : AreStepLists q ts l) (stands : StandsFor l.numbers k r) (placed : ArePlaced l k p) (adds : AddsFour l k p found) where
+  four_by_number : TriedAre b q r (tried_in l.numbers found) × LeadToLive (IsLive l.numbers) found
+  four_by_number =
+      let t = l.numbers in
+      let s = placed.steps in
+      let h = got_each (ArePositionSteps t ts) l.positions.items p.at s lists.positions placed.stands in
+      let sl = slots t.units k.first k.second r.units stands.units in
+      let at : h.table.at ≡ r.at = some_same (slice_get t.positions k.position) h.table.at r.at (ap (slice_get t.positions) (sym placed.of_position) ∙ h.at) stands.at in
+      let by_alone = adds.alone s placed.stands t r h.table.alone stands h.alone in
+      let by_opening = adds.opening s placed.stands t r h.table.opening stands h.opening in
+      let by_first = given_of_unit q t ts l.units.items s.place k r stands lists.units 0 k.first (λ u v i e. unit_is_first t.units k.first k.second r.units u v sl i e) (λ z. none_first t.units k.first k.second r.units sl z) p.first adds.two adds.three placed.first adds.first in
+      let by_second = given_of_unit q t ts l.units.items s.place k r stands lists.units 1 k.second (λ u v i e. unit_is_second t.units k.first k.second r.units u v sl i e) (λ z. none_second t.units k.first k.second r.units sl z) p.second adds.three found placed.second adds.second in (
+        four_are b q r ts s.place h.table (tried_in t adds.one) (tried_in t adds.two) (tried_in t adds.three) (tried_in t found) law (at_most_two t.units k.first k.second r.units sl) h.stands at (got_each (IsListed b q) ts s.place h.table tables h.stands)
+            by_alone.given by_opening.given by_first.0 by_second.0,
+        by_second.1 (by_first.1 (by_opening.live (by_alone.live tt))),
+      )
+
+  pub outcomes_by_number : AreOutcomes (leads_of b q) r (outcomes_of (residual_at l.numbers) found)
+  outcomes_by_number = tried_are b q r (tried_in l.numbers found) (outcomes_of (residual_at l.numbers) found) four_by_number.0 (as_tried l.numbers found)
+
+  pub live_by_number : LeadToLive (IsLive l.numbers) found
+  live_by_number = four_by_number.1
+
+-- one more step of a list
+pub steps_next : (t u : Numbers) (xs : List Listed) (i : ℕ) (d : Listed) (ss ss' : List Step) (s : Step) → Grows t u → i < length xs → AreSteps t (take i xs) ss → IsStep u (get_or xs i d) s → ss' ≡ ss ++ s ∷ [] → AreSteps u (take (i + 1) xs) ss'
+steps_next t u xs i d ss ss' s g lt h k e =
+    let next : i + 1 ≡ suc i = omega arith in
+    let front : take (i + 1) xs ≡ take i xs ++ get_or xs i d ∷ [] = ap (λ (n : ℕ). take n xs) next ∙ take-suc xs i d lt in
+    subst (λ ys. AreSteps u ys ss') (sym front) (subst (AreSteps u (take i xs ++ get_or xs i d ∷ [])) (sym e) (matched_more (IsStep u) (take i xs) ss (get_or xs i d) s (steps_stay t u g (take i xs) ss h) k))
+
+pub steps_whole : (t : Numbers) (xs : List Listed) (i : ℕ) (ss : List Step) → length xs ≤ i → AreSteps t (take i xs) ss → AreSteps t xs ss
+steps_whole t xs i ss h are = subst (λ ys. AreSteps t ys ss) (take_all i xs h) are
+
+-- the list of an open unit by numbers
+pub unit_steps_of : (q : Request) (t u : Numbers) (ts : List PositionTable) (table : UnitTable) (place slot : ℕ) (unit : OpenUnit) (steps : List Step) → IsUnitList q ts table → table.place ≡ place → table.unit ≡ unit → IsSlot t.units slot (Some unit)
+    → Grows t u → AreSteps u table.list steps → (s : UnitSteps) → s.place ≡ place → s.slot ≡ slot → s.steps.items ≡ steps → AreUnitSteps q u ts s
+unit_steps_of q t u ts table place slot unit steps h of_place of_unit at g are s p n e = record {
+  table = h.table;
+  stands = ap (slice_get ts) (p ∙ sym of_place) ∙ h.stands;
+  unit = unit;
+  slot = subst (λ z. IsSlot u.units z (Some unit)) (sym n) (slot_stays t.units u.units slot (Some unit) g.units at);
+  list = table.list;
+  is = subst (λ (w : OpenUnit). IsList (IsOfUnit h.table.at.place q.sale w) h.table.entries table.list) of_unit h.list;
+  steps = subst (AreSteps u table.list) (sym e) are;
+}
+
+-- the lists of all, where numbers and tables grew
+pub lists_stay : (q : Request) (ts us : List PositionTable) (u : Numbers) (l m : StepLists) → Grows l.numbers u → KeepsNumbers ts us → m.numbers ≡ u → m.positions.items ≡ l.positions.items → m.units.items ≡ l.units.items → AreStepLists q ts l → AreStepLists q us m
+lists_stay q ts us u l m g keeps e p n h = record {
+  positions = subst (λ z. Each (ArePositionSteps z us) m.positions.items) (sym e) (subst (Each (ArePositionSteps u us)) (sym p) (positions_stay l.numbers u ts us l.positions.items g keeps h.positions));
+  units = subst (λ z. Each (AreUnitSteps q z us) m.units.items) (sym e) (subst (Each (AreUnitSteps q u us)) (sym n) (units_stay_by q l.numbers u ts us l.units.items g keeps h.units));
+}
+
+-- one more of a position
+pub position_more : (q : Request) (ts us : List PositionTable) (u : Numbers) (l m : StepLists) (s : PositionSteps) → Grows l.numbers u → KeepsNumbers ts us → m.numbers ≡ u → m.positions.items ≡ l.positions.items ++ s ∷ [] → m.units.items ≡ l.units.items
+    → ArePositionSteps u us s → AreStepLists q ts l → AreStepLists q us m
+position_more q ts us u l m s g keeps e p n k h = record {
+  positions = subst (λ z. Each (ArePositionSteps z us) m.positions.items) (sym e) (subst (Each (ArePositionSteps u us)) (sym p) (each_last (ArePositionSteps u us) l.positions.items s (positions_stay l.numbers u ts us l.positions.items g keeps h.positions) k));
+  units = subst (λ z. Each (AreUnitSteps q z us) m.units.items) (sym e) (subst (Each (AreUnitSteps q u us)) (sym n) (units_stay_by q l.numbers u ts us l.units.items g keeps h.units));
+}
+
+-- one more of an open unit
+pub unit_more : (q : Request) (ts : List PositionTable) (u : Numbers) (l m : StepLists) (s : UnitSteps) → Grows l.numbers u → m.numbers ≡ u → m.positions.items ≡ l.positions.items → m.units.items ≡ l.units.items ++ s ∷ [] → AreUnitSteps q u ts s → AreStepLists q ts l → AreStepLists q ts m
+unit_more q ts u l m s g e p n k h = record {
+  positions = subst (λ z. Each (ArePositionSteps z ts) m.positions.items) (sym e) (subst (Each (ArePositionSteps u ts)) (sym p) (positions_stay l.numbers u ts ts l.positions.items g (λ i x y. y) h.positions));
+  units = subst (λ z. Each (AreUnitSteps q z ts) m.units.items) (sym e) (subst (Each (AreUnitSteps q u ts)) (sym n) (each_last (AreUnitSteps q u ts) l.units.items s (units_stay_by q l.numbers u ts ts l.units.items g (λ i x y. y) h.units) k));
+}
+
+-- what was added stands at the end
+pub steps_last : (old new : List PositionSteps) (s : PositionSteps) (position n : ℕ) → new ≡ old ++ s ∷ [] → n ≡ length old → s.position ≡ position → StepsAt new position n
+steps_last old new s position n is e p = record { steps = s; stands = ap (λ xs. slice_get xs n) is ∙ ap (slice_get (old ++ s ∷ [])) e ∙ last_got old s; of_position = p }
+
+pub unit_steps_last : (old new : List UnitSteps) (s : UnitSteps) (place slot n : ℕ) → new ≡ old ++ s ∷ [] → n ≡ length old → s.place ≡ place → s.slot ≡ slot → slot ≢ 0 → UnitStandsAt new place slot n
+unit_steps_last old new s place slot n is e p q is_open = record { steps = s; stands = ap (λ xs. slice_get xs n) is ∙ ap (slice_get (old ++ s ∷ [])) e ∙ last_got old s; of_place = p; of_slot = q; is_open = is_open }
+
+-- where the lists of a key stand
+pub may_stand : (us : List UnitSteps) (place slot : ℕ) (at : Option ℕ) → UnitStepsAt us place slot at → MayStand us slot at
+may_stand us place slot None h = tt
+may_stand us place slot (Some n) h = (got_within us n h.steps h.stands, h.is_open)
+
+unit_still : (us vs : List UnitSteps) (place slot : ℕ) (at : Option ℕ) → KeepsNumbers us vs → UnitStepsAt us place slot at → UnitStepsAt vs place slot at
+unit_still us vs place slot None keeps h = h
+unit_still us vs place slot (Some n) keeps h = record { steps = h.steps; stands = keeps n h.steps h.stands; of_place = h.of_place; of_slot = h.of_slot; is_open = h.is_open }
+
+pub placed_are : (l0 l1 l2 : StepLists) (k : ResidualKey) (at : ℕ) (s : PositionSteps) (first second : Option ℕ) → StepsAt l0.positions.items k.position at → s ≡ get_or l0.positions.items at s → l1.positions.items ≡ l0.positions.items → l2.positions.items ≡ l1.positions.items
+    → KeepsNumbers l1.units.items l2.units.items → UnitStepsAt l1.units.items s.place k.first first → UnitStepsAt l2.units.items s.place k.second second → (p : Placed) → p.at ≡ at → p.first ≡ first → p.second ≡ second → ArePlaced l2 k p
+placed_are l0 l1 l2 k at s first second found is e1 e2 keeps h i p a f g =
+    let same : s ≡ found.steps = is ∙ got_is l0.positions.items at s found.steps found.stands in
+    record {
+      steps = s;
+      stands = ap (λ xs. slice_get xs p.at) (e2 ∙ e1) ∙ ap (slice_get l0.positions.items) a ∙ found.stands ∙ ap Some (sym same);
+      of_position = ap (λ (z : PositionSteps). z.position) same ∙ found.of_position;
+      first = subst (UnitStepsAt l2.units.items s.place k.first) (sym f) (unit_still l1.units.items l2.units.items s.place k.first first keeps h);
+      second = subst (UnitStepsAt l2.units.items s.place k.second) (sym g) i;
+    }
+
+-- the table of the lists that a place gives
+pub has_table_of : (q : Request) (ts : List PositionTable) (l : StepLists) (position at : ℕ) (s : PositionSteps) → AreStepLists q ts l → StepsAt l.positions.items position at → s ≡ get_or l.positions.items at s → HasTable ts s.place
+has_table_of q ts l position at s h found is =
+    let same : s ≡ found.steps = is ∙ got_is l.positions.items at s found.steps found.stands in
+    let a = got_each (ArePositionSteps l.numbers ts) l.positions.items at found.steps h.positions found.stands in
+    (a.table, ap (λ (z : PositionSteps). slice_get ts z.place) same ∙ a.stands)
+
+-- the slots of a live key
+pub live_slots : (t u : Numbers) (k : ResidualKey) → Grows t u → IsLive t k → HasSlot u.units k.first × HasSlot u.units k.second
+live_slots t u k g (x, h) = has_slots u.units k.first k.second x.units (stays t u g k x h).units
+
+pub live_position : (t : Numbers) (k : ResidualKey) → IsLive t k → k.position < length t.positions
+live_position t k (x, h) = got_within t.positions k.position x.at h.at
+
+pub live_part : (t : Numbers) (k : ResidualKey) → IsLive t k → PartKept k.part
+live_part t k (x, h) = subst PartKept (sym h.part) h.kept
+
+pub keeps_on : {X : Type 0} (xs ys zs : List X) → KeepsNumbers xs ys → KeepsNumbers ys zs → KeepsNumbers xs zs
+keeps_on xs ys zs f g n x e = g n x (f n x e)
+
+-- what a place gives
+pub got_there : {X : Type 0} (xs : List X) (n : ℕ) (x y : X) → x ≡ get_or xs n x → slice_get xs n ≡ Some y → x ≡ y
+got_there xs n x y is e = is ∙ got_is xs n x y e
+
+pub may_stand_in : (vs us : List UnitSteps) (place slot : ℕ) (at : Option ℕ) → vs ≡ us → UnitStepsAt us place slot at → MayStand vs slot at
+may_stand_in vs us place slot at e h = subst (λ z. MayStand z slot at) (sym e) (may_stand us place slot at h)

@@ -1,0 +1,22 @@
+use Rattle.std.proofs.Common.{subst, sym}
+use Rattle.fare_law.specs.Lists.{Each}
+use Rattle.search_steps.specs.Numbers.{ArePositionSteps, AreUnitSteps}
+use Rattle.search_steps.specs.Tables.{IsListed, IsUnitList}
+use Rattle.search_steps.proofs.numbered_case.NumberedCase.new.Goals as goal
+
+pub invariant_of-result : goal.invariant_of-result
+invariant_of-result c =
+    let b = c.args.case.book.now in
+    let q = c.args.case.request.now in
+    let ts = c.new.result.kept.items in
+    let l = c.new-2.result in (
+      record {
+        tables = subst (Each (IsListed b q)) (sym c.new.ensures.kept) tt;
+        units = subst (Each (IsUnitList q ts)) (sym c.new.ensures.units) tt;
+        network = c.new.ensures.network b q;
+      },
+      record {
+        positions = subst (Each (ArePositionSteps l.numbers ts)) (sym c.new-2.ensures.positions) tt;
+        units = subst (Each (AreUnitSteps q l.numbers ts)) (sym c.new-2.ensures.units) tt;
+      },
+    )

@@ -1,0 +1,133 @@
+-- Marks, lists and outcomes by the numbers of positions and of open units.
+use Rattle.std.specs.Prelude.{◌≡◌, ◌≢◌, ℕ, zero, suc, Bool, List, map, slice_get, Option, Some, None}
+use Rattle.std.specs.List.Sorted.{IsPermutation}
+use Rattle.fare_law.specs.declared.requests.Request.{Request}
+use Rattle.fare_law.specs.Lists.{AllDifferent, Each, Matched}
+use Rattle.graph_walk.specs.declared.outcome.Outcome.{Outcome}
+use Rattle.graph_walk.specs.Steps.{AreLive, LeadToLive, rows_of}
+use Rattle.graph_walk.specs.Walks.{states}
+use Rattle.open_unit.specs.declared.units.OpenUnit.{OpenUnit}
+use Rattle.open_unit.specs.OpenUnits.{carrier_with}
+use Rattle.outlines.specs.declared.marks.Listed.{Listed}
+use Rattle.outlines.specs.declared.outline.Outcome.{Outcome as Tried}
+use Rattle.outlines.specs.Marks.{IsList, IsOfUnit}
+use Rattle.outlines.specs.Outcomes.{Grows as Given}
+use Rattle.residual_keys.specs.declared.parts.TicketPart.{TicketPart}
+use Rattle.residual_keys.specs.declared.residual.Next.{Next}
+use Rattle.residual_keys.specs.declared.residual.Next.TheVariants.{At, Done}
+use Rattle.residual_keys.specs.Residuals.{State, one_more, with_end}
+use Rattle.residual_table.specs.declared.key.ResidualKey.{ResidualKey}
+use Rattle.residual_table.specs.Keys.{IsLive, IsSlot, StandsFor, Tables as Numbers, residual_at, units_of}
+use Rattle.search_steps.specs.declared.case.Case.{Case}
+use Rattle.search_steps.specs.declared.key.Key.{Key}
+use Rattle.search_steps.specs.declared.numbered.PositionSteps.{PositionSteps}
+use Rattle.search_steps.specs.declared.numbered.Step.{Step}
+use Rattle.search_steps.specs.declared.numbered.StepLists.{StepLists}
+use Rattle.search_steps.specs.declared.numbered.UnitSteps.{UnitSteps}
+use Rattle.search_steps.specs.declared.tables.PositionTable.{PositionTable}
+use Rattle.search_steps.specs.Giving.{GivenBy, LeftBy}
+use Rattle.search_steps.specs.Keys.{IsKey, residual_of}
+
+-- The step is this mark with its price, by numbers.
+pub record IsStep (t : Numbers) (x : Listed) (s : Step) : Type 0 where
+  pub after : IsSlot t.positions s.after x.mark.after
+  pub unit : IsSlot t.units s.unit x.mark.unit
+  pub carrier : s.carrier ≡ x.mark.carrier
+  pub ends : s.ends ≡ x.mark.ends
+  pub price : s.price ≡ x.price
+
+abbrev pub AreSteps : Numbers → List Listed → List Step → Type 0
+AreSteps t xs steps = Matched (IsStep t) xs steps
+
+-- an outcome by numbers, as one of residuals
+abbrev pub next_at : Numbers → Option ResidualKey → Next
+next_at t None = Done
+next_at t (Some k) = At (residual_at t k)
+
+abbrev pub tried_of : Numbers → Outcome ResidualKey → Tried
+tried_of t o = record { next = next_at t o.next; price = o.price }
+
+abbrev pub tried_in : Numbers → List (Outcome ResidualKey) → List Tried
+tried_in t os = map (tried_of t) os
+
+-- the ticket part with a step, whose component begins a unit or not
+abbrev pub part_after : TicketPart → Bool → Step → TicketPart
+part_after p new s = record { units = one_more new p.units; ends = with_end s.ends p.ends; carrier = carrier_with p.carrier s.carrier }
+
+-- the key that a slot of a position makes with these slots of open units; 0 is the end of the journey
+abbrev pub key_after : ℕ → ℕ → ℕ → TicketPart → Option ResidualKey
+key_after zero first second p = None
+key_after (suc n) first second p = Some (record { position = n; first = first; second = second; part = p })
+
+-- To a list were added exactly the outcomes that meet this, and keys that stand for residuals.
+pub record Adds (t : Numbers) (P : Tried → Type 0) (old new : List (Outcome ResidualKey)) : Type 0 where
+  pub given : Given P (tried_in t old) (tried_in t new)
+  pub live : LeadToLive (IsLive t) old → LeadToLive (IsLive t) new
+
+-- With whatever numbers: what the mark of a step leaves was added, with open units that have these slots.
+abbrev pub AddsLeft : ResidualKey → Bool → ℕ → ℕ → Step → List (Outcome ResidualKey) → List (Outcome ResidualKey) → Type 0
+AddsLeft k new first second s old os =
+    (t : Numbers) (r : State) (x : Listed) (us : List OpenUnit) → StandsFor t k r → IsStep t x s → units_of t.units first second ≡ Some us → Adds t (LeftBy r new us x) old os
+
+-- what the mark of one step gives a residual was added
+abbrev pub AddsOne : (State → Listed → Tried → Type 0) → ResidualKey → Step → List (Outcome ResidualKey) → List (Outcome ResidualKey) → Type 0
+AddsOne P k s old new = (t : Numbers) (r : State) (x : Listed) → StandsFor t k r → IsStep t x s → Adds t (P r x) old new
+
+-- what the marks of steps give it was added
+abbrev pub AddsAll : (State → Listed → Tried → Type 0) → ResidualKey → List Step → List (Outcome ResidualKey) → List (Outcome ResidualKey) → Type 0
+AddsAll P k steps old new = (t : Numbers) (r : State) (xs : List Listed) → StandsFor t k r → AreSteps t xs steps → Adds t (GivenBy (P r) xs) old new
+
+-- These are the lists of the table that stands at its place, by numbers.
+pub record ArePositionSteps (t : Numbers) (ts : List PositionTable) (s : PositionSteps) : Type 0 where
+  pub table : PositionTable
+  pub stands : slice_get ts s.place ≡ Some table
+  pub at : slice_get t.positions s.position ≡ Some table.at
+  pub alone : AreSteps t table.alone s.alone.items
+  pub opening : AreSteps t table.opening s.opening.items
+
+-- This is the list of an open unit, from the table that stands at its place, by numbers.
+pub record AreUnitSteps (q : Request) (t : Numbers) (ts : List PositionTable) (s : UnitSteps) : Type 0 where
+  pub table : PositionTable
+  pub stands : slice_get ts s.place ≡ Some table
+  pub unit : OpenUnit
+  pub slot : IsSlot t.units s.slot (Some unit)
+  pub list : List Listed
+  pub is : IsList (IsOfUnit table.at.place q.sale unit) table.entries list
+  pub steps : AreSteps t list s.steps.items
+
+-- the lists by numbers are those of the tables
+pub record AreStepLists (q : Request) (ts : List PositionTable) (l : StepLists) : Type 0 where
+  pub positions : Each (ArePositionSteps l.numbers ts) l.positions.items
+  pub units : Each (AreUnitSteps q l.numbers ts) l.units.items
+
+-- the lists of a position stand at this place
+pub record StepsAt (ss : List PositionSteps) (position n : ℕ) : Type 0 where
+  pub steps : PositionSteps
+  pub stands : slice_get ss n ≡ Some steps
+  pub of_position : steps.position ≡ position
+
+-- The list of an open unit, from the table at a place, stands at this place.
+pub record UnitStandsAt (us : List UnitSteps) (place slot n : ℕ) : Type 0 where
+  pub steps : UnitSteps
+  pub stands : slice_get us n ≡ Some steps
+  pub of_place : steps.place ≡ place
+  pub of_slot : steps.slot ≡ slot
+  pub is_open : slot ≢ 0
+
+-- the same where a unit is open; where none is, none
+abbrev pub UnitStepsAt : List UnitSteps → ℕ → ℕ → Option ℕ → Type 0
+UnitStepsAt us place slot None = slot ≡ 0
+UnitStepsAt us place slot (Some n) = UnitStandsAt us place slot n
+
+-- a case with the numbers of its residuals
+pub record Numbered : Type 0 where
+  pub case : Case
+  pub numbers : Numbers
+
+-- These are the rows of the residuals that keys stand for, in whatever order.
+pub record AreReadFrom (t : Numbers) (rows : List (ResidualKey × Option ℕ)) (read : List (Key × Option ℕ)) : Type 0 where
+  pub order : List (ResidualKey × Option ℕ)
+  pub same : IsPermutation rows order
+  pub once : AllDifferent (states (rows_of (residual_at t) order))
+  pub are : rows_of residual_of read ≡ rows_of (residual_at t) order
+  pub alive : AreLive IsKey read

@@ -1,0 +1,139 @@
+//! Outcomes of residuals by numbers.
+ghost use Rattle.std.specs.Prelude.{◌<◌, [], IfOk, OnOk, length};
+ghost use Rattle.fare_law.specs.Limits.{IsRequest};
+ghost use Rattle.graph_walk.specs.Steps.{AreOutcomes, LeadToLive, outcomes_of};
+ghost use Rattle.residual_keys.specs.Kept.{PartKept};
+ghost use Rattle.residual_table.specs.Keys.{Grows, IsLive, residual_at};
+ghost use Rattle.search_steps.specs.Giving.{UnitBy};
+ghost use Rattle.search_steps.specs.Leads.{leads_of};
+ghost use Rattle.search_steps.specs.Numbers.{AreStepLists};
+ghost use Rattle.search_steps.specs.Placed.{AddsFour, AddsOfUnit, ArePlaced, MayStand};
+ghost use Rattle.search_steps.specs.Tables.{AreTables};
+
+use crate::Case;
+use crate::adding::{add_alone, add_of_first, add_of_second, add_opening};
+use crate::numbered::{StepLists, UnitSlot, UnitSteps};
+use crate::tables::Tables;
+use fare_law::Mem;
+use graph_walk::Outcome;
+use outlines::lists_give_outcomes;
+use residual_table::ResidualKey;
+use std::alloc::Global;
+
+/// Where the lists of a residual stand: those of its position, and those of its open units.
+#[derive(Clone, Copy)]
+pub struct Placed {
+    pub at: usize,
+    pub first: Option<usize>,
+    pub second: Option<usize>,
+}
+
+/// The outcomes of a residual by its key.
+pub fn outcomes_of_key(
+    alloc: Global,
+    case: &Case,
+    tables: &mut Tables,
+    lists: &mut StepLists,
+    key: ResidualKey,
+) -> Result<Vec<Outcome<ResidualKey>>, Mem>
+    requires request { IsRequest case.now.request.now }
+    requires live { IsLive lists.old.numbers key }
+    requires tables { AreTables case.now.book.now case.now.request.now tables.old }
+    requires right { AreStepLists case.now.request.now tables.old.kept.items lists.old }
+    ensures tables { AreTables case.now.book.now case.now.request.now tables.new }
+    ensures right { AreStepLists case.now.request.now tables.new.kept.items lists.new }
+    ensures grows { Grows lists.old.numbers lists.new.numbers }
+    ensures outcomes { IfOk result (λ v. AreOutcomes (leads_of case.now.book.now case.now.request.now) (residual_at lists.old.numbers key) (outcomes_of (residual_at lists.new.numbers) v.items)) }
+    ensures live { IfOk result (λ v. LeadToLive (IsLive lists.new.numbers) v.items) }
+{
+    lists_give_outcomes();
+    let placed = placed_of(alloc, case, tables, lists, key)?;
+    given_by(alloc, lists, key, &placed)
+}
+
+/// Where the lists of a residual stand, which are made where they aren't known.
+fn placed_of(
+    alloc: Global,
+    case: &Case,
+    tables: &mut Tables,
+    lists: &mut StepLists,
+    key: ResidualKey,
+) -> Result<Placed, Mem>
+    requires request { IsRequest case.now.request.now }
+    requires live { IsLive lists.old.numbers key }
+    requires tables { AreTables case.now.book.now case.now.request.now tables.old }
+    requires right { AreStepLists case.now.request.now tables.old.kept.items lists.old }
+    ensures tables { AreTables case.now.book.now case.now.request.now tables.new }
+    ensures right { AreStepLists case.now.request.now tables.new.kept.items lists.new }
+    ensures grows { Grows lists.old.numbers lists.new.numbers }
+    ensures placed { IfOk result (ArePlaced lists.new key) }
+{
+    let at = lists.find(alloc, case, tables, key.position)?;
+    let steps = &lists.positions[at];
+    let place = steps.place;
+    let slot = key.first;
+    let first = lists.find_unit(alloc, case, tables, UnitSlot { place, slot })?;
+    let slot = key.second;
+    let second = lists.find_unit(alloc, case, tables, UnitSlot { place, slot })?;
+    Ok(Placed { at, first, second })
+}
+
+/// What the lists that stand there give.
+fn given_by(
+    alloc: Global,
+    lists: &StepLists,
+    key: ResidualKey,
+    placed: &Placed,
+) -> Result<Vec<Outcome<ResidualKey>>, Mem>
+    requires part { PartKept key.part }
+    requires placed { ArePlaced lists.now key placed.now }
+    ensures { IfOk result (λ v. AddsFour lists.now key placed.now v.items) }
+{
+    let steps = &lists.positions[placed.at];
+    let mut found = Vec::new(alloc);
+    add_alone(&mut found, key, steps.alone.as_slice())?;
+    add_opening(&mut found, key, steps.opening.as_slice())?;
+    add_first(&mut found, lists.units.as_slice(), key, placed.first)?;
+    add_second(&mut found, lists.units.as_slice(), key, placed.second)?;
+    Ok(found)
+}
+
+/// Adds what the list of the unit that was opened first gives, where there is one.
+fn add_first(
+    found: &mut Vec<Outcome<ResidualKey>>,
+    units: &[UnitSteps],
+    key: ResidualKey,
+    at: Option<usize>,
+) -> Result<(), Mem>
+    requires part { PartKept key.part }
+    requires there { MayStand units.now key.first at }
+    ensures { OnOk result (AddsOfUnit (λ r. UnitBy r 0) key units.now at found.old.items found.new.items) }
+{
+    match at {
+        Some(at) => {
+            let unit = &units[at];
+            add_of_first(found, key, unit.steps.as_slice())
+        }
+        None => Ok(()),
+    }
+}
+
+/// Adds what the list of the other open unit gives, where there is one.
+fn add_second(
+    found: &mut Vec<Outcome<ResidualKey>>,
+    units: &[UnitSteps],
+    key: ResidualKey,
+    at: Option<usize>,
+) -> Result<(), Mem>
+    requires part { PartKept key.part }
+    requires there { MayStand units.now key.second at }
+    ensures { OnOk result (AddsOfUnit (λ r. UnitBy r 1) key units.now at found.old.items found.new.items) }
+{
+    match at {
+        Some(at) => {
+            let unit = &units[at];
+            add_of_second(found, key, unit.steps.as_slice())
+        }
+        None => Ok(()),
+    }
+}

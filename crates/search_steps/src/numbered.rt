@@ -1,0 +1,76 @@
+//! The lists of positions and of open units by numbers.
+ghost use Rattle.std.specs.Prelude.{◌≡◌, []};
+ghost use Rattle.residual_table.specs.Keys.{no_tables};
+
+use fare_law::{Carrier, EndOnEnd};
+use indexmap::IndexMap;
+use residual_table::ResidualParts;
+use std::alloc::Global;
+
+/// A mark of a list with its price, by numbers.
+#[derive(Clone, Copy, Debug)]
+pub struct Step {
+    /// The slot of the position to which it leads: 0 where the journey is complete.
+    pub after: u32,
+    /// The slot of the unit that it opens or goes on with: 0 where there is none.
+    pub unit: u32,
+    pub carrier: Carrier,
+    pub ends: EndOnEnd,
+    pub price: u64,
+}
+
+/// What the components of a position are where they stand alone or open a unit.
+#[derive(Drop)]
+pub struct PositionSteps {
+    /// The number of the position.
+    pub position: u32,
+    /// Where its table stands.
+    pub place: usize,
+    pub alone: Vec<Step>,
+    pub opening: Vec<Step>,
+}
+
+/// What they are where they go on in an open unit or close it.
+#[derive(Drop)]
+pub struct UnitSteps {
+    /// Where the table of the position stands.
+    pub place: usize,
+    pub slot: u32,
+    pub steps: Vec<Step>,
+}
+
+/// What the list of an open unit is looked up by.
+#[derive(Clone, Copy, PartialEq, Eq, Hash, Debug)]
+pub struct UnitSlot {
+    pub place: usize,
+    pub slot: u32,
+}
+
+/// The lists that were asked for so far, and the numbers that they consist of.
+#[derive(Drop)]
+pub struct StepLists {
+    pub numbers: ResidualParts,
+    pub positions: Vec<PositionSteps>,
+    /// Where the lists of a position may stand, by its number.
+    pub places: IndexMap<u32, usize>,
+    pub units: Vec<UnitSteps>,
+    /// Where the list of an open unit may stand.
+    pub unit_places: IndexMap<UnitSlot, usize>,
+}
+
+impl StepLists {
+    /// None yet.
+    pub fn new(alloc: Global) -> StepLists
+        ensures numbers { result.numbers ≡ no_tables }
+        ensures positions { result.positions.items ≡ [] }
+        ensures units { result.units.items ≡ [] }
+    {
+        StepLists {
+            numbers: ResidualParts::new(alloc),
+            positions: Vec::new(alloc),
+            places: IndexMap::new(alloc),
+            units: Vec::new(alloc),
+            unit_places: IndexMap::new(alloc),
+        }
+    }
+}

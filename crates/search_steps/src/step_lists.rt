@@ -1,0 +1,246 @@
+//! The lists of positions and of open units by numbers, each made once.
+ghost use Rattle.std.specs.Prelude.{◌≡◌, ◌≢◌, ◌<◌, IfOk, IfSome, Some, length};
+ghost use Rattle.fare_law.specs.Limits.{IsRequest};
+ghost use Rattle.open_unit.specs.Ranges.{UnitInRanges};
+ghost use Rattle.residual_table.specs.Keys.{Grows, HasSlot, IsSlot, KeepsNumbers};
+ghost use Rattle.search_steps.specs.Numbers.{ArePositionSteps, AreStepLists, AreUnitSteps, StepsAt, UnitStandsAt, UnitStepsAt};
+ghost use Rattle.search_steps.specs.Tables.{AreTables, HasTable};
+
+use crate::Case;
+use crate::numbered::{PositionSteps, StepLists, UnitSlot, UnitSteps};
+use crate::stepping::steps_of;
+use crate::tables::{Tables, UnitKey};
+use fare_law::Mem;
+use indexmap::IndexMap;
+use residual_table::ResidualParts;
+use std::alloc::Global;
+
+impl StepLists {
+    /// Where the lists of a position stand. They are made where they aren't known.
+    pub fn find(
+        &mut self,
+        alloc: Global,
+        case: &Case,
+        tables: &mut Tables,
+        position: u32,
+    ) -> Result<usize, Mem>
+        requires request { IsRequest case.now.request.now }
+        requires number { position < length self.old.numbers.positions }
+        requires tables { AreTables case.now.book.now case.now.request.now tables.old }
+        requires right { AreStepLists case.now.request.now tables.old.kept.items self.old }
+        ensures tables { AreTables case.now.book.now case.now.request.now tables.new }
+        ensures right { AreStepLists case.now.request.now tables.new.kept.items self.new }
+        ensures grows { Grows self.old.numbers self.new.numbers }
+        ensures found { IfOk result (StepsAt self.new.positions.items position) }
+    {
+        if let Some(at) = known_position(self.positions.as_slice(), &self.places, position) {
+            return Ok(at);
+        }
+        let steps = self.made_position(alloc, case, tables, position)?;
+        let at = self.positions.len();
+        self.places.insert(position, at)?;
+        self.positions.push(steps)?;
+        Ok(at)
+    }
+
+    /// Where the list of an open unit stands. It is made where it isn't known. None for the slot of none.
+    pub fn find_unit(
+        &mut self,
+        alloc: Global,
+        case: &Case,
+        tables: &Tables,
+        key: UnitSlot,
+    ) -> Result<Option<usize>, Mem>
+        requires request { IsRequest case.now.request.now }
+        requires slot { HasSlot self.old.numbers.units key.slot }
+        requires place { HasTable tables.now.kept.items key.place }
+        requires tables { AreTables case.now.book.now case.now.request.now tables.now }
+        requires right { AreStepLists case.now.request.now tables.now.kept.items self.old }
+        ensures right { AreStepLists case.now.request.now tables.now.kept.items self.new }
+        ensures grows { Grows self.old.numbers self.new.numbers }
+        ensures positions { self.new.positions.items ≡ self.old.positions.items }
+        ensures stays { KeepsNumbers self.old.units.items self.new.units.items }
+        ensures found { IfOk result (UnitStepsAt self.new.units.items key.place key.slot) }
+    {
+        if key.slot == 0 {
+            return Ok(None);
+        }
+        if let Some(at) = known_unit(self.units.as_slice(), &self.unit_places, &key) {
+            return Ok(Some(at));
+        }
+        let steps = self.made_unit(alloc, case, tables, key)?;
+        let at = self.units.len();
+        self.unit_places.insert(key, at)?;
+        self.units.push(steps)?;
+        Ok(Some(at))
+    }
+
+    /// The lists of a position, which stand nowhere yet.
+    fn made_position(
+        &mut self,
+        alloc: Global,
+        case: &Case,
+        tables: &mut Tables,
+        position: u32,
+    ) -> Result<PositionSteps, Mem>
+        requires request { IsRequest case.now.request.now }
+        requires number { position < length self.old.numbers.positions }
+        requires tables { AreTables case.now.book.now case.now.request.now tables.old }
+        requires right { AreStepLists case.now.request.now tables.old.kept.items self.old }
+        ensures tables { AreTables case.now.book.now case.now.request.now tables.new }
+        ensures right { AreStepLists case.now.request.now tables.new.kept.items self.new }
+        ensures grows { Grows self.old.numbers self.new.numbers }
+        ensures steps { IfOk result (ArePositionSteps self.new.numbers tables.new.kept.items) }
+        ensures position { IfOk result (λ s. s.position ≡ position) }
+    {
+        position_steps(alloc, case, tables, &mut self.numbers, position)
+    }
+
+    /// The list of an open unit, which stands nowhere yet.
+    fn made_unit(
+        &mut self,
+        alloc: Global,
+        case: &Case,
+        tables: &Tables,
+        key: UnitSlot,
+    ) -> Result<UnitSteps, Mem>
+        requires request { IsRequest case.now.request.now }
+        requires slot { HasSlot self.old.numbers.units key.slot }
+        requires is_open { key.slot ≢ 0 }
+        requires place { HasTable tables.now.kept.items key.place }
+        requires tables { AreTables case.now.book.now case.now.request.now tables.now }
+        requires right { AreStepLists case.now.request.now tables.now.kept.items self.old }
+        ensures right { AreStepLists case.now.request.now tables.now.kept.items self.new }
+        ensures grows { Grows self.old.numbers self.new.numbers }
+        ensures positions { self.new.positions.items ≡ self.old.positions.items }
+        ensures stays { KeepsNumbers self.old.units.items self.new.units.items }
+        ensures steps { IfOk result (AreUnitSteps case.now.request.now self.new.numbers tables.now.kept.items) }
+        ensures place { IfOk result (λ s. s.place ≡ key.place) }
+        ensures slot { IfOk result (λ s. s.slot ≡ key.slot) }
+    {
+        unit_steps(alloc, case, tables, &mut self.numbers, key)
+    }
+}
+
+/// The lists of a position by numbers.
+fn position_steps(
+    alloc: Global,
+    case: &Case,
+    tables: &mut Tables,
+    numbers: &mut ResidualParts,
+    position: u32,
+) -> Result<PositionSteps, Mem>
+    requires request { IsRequest case.now.request.now }
+    requires number { position < length numbers.old.positions }
+    requires tables { AreTables case.now.book.now case.now.request.now tables.old }
+    ensures tables { AreTables case.now.book.now case.now.request.now tables.new }
+    ensures stays { KeepsNumbers tables.old.kept.items tables.new.kept.items }
+    ensures grows { Grows numbers.old numbers.new }
+    ensures steps { IfOk result (ArePositionSteps numbers.new tables.new.kept.items) }
+    ensures position { IfOk result (λ s. s.position ≡ position) }
+{
+    let at = numbers.position_at(position);
+    let place = tables.find(alloc, case, &at)?;
+    let table = &tables.kept[place];
+    let alone = steps_of(alloc, numbers, table.alone.as_slice())?;
+    let opening = steps_of(alloc, numbers, table.opening.as_slice())?;
+    Ok(PositionSteps {
+        position,
+        place,
+        alone,
+        opening,
+    })
+}
+
+/// The list of an open unit by numbers.
+fn unit_steps(
+    alloc: Global,
+    case: &Case,
+    tables: &Tables,
+    numbers: &mut ResidualParts,
+    key: UnitSlot,
+) -> Result<UnitSteps, Mem>
+    requires request { IsRequest case.now.request.now }
+    requires slot { HasSlot numbers.old.units key.slot }
+    requires is_open { key.slot ≢ 0 }
+    requires place { HasTable tables.now.kept.items key.place }
+    requires tables { AreTables case.now.book.now case.now.request.now tables.now }
+    ensures grows { Grows numbers.old numbers.new }
+    ensures steps { IfOk result (AreUnitSteps case.now.request.now numbers.new tables.now.kept.items) }
+    ensures place { IfOk result (λ s. s.place ≡ key.place) }
+    ensures slot { IfOk result (λ s. s.slot ≡ key.slot) }
+{
+    match numbers.unit_in(key.slot) {
+        Some(unit) => {
+            let from = UnitKey {
+                place: key.place,
+                unit,
+            };
+            steps_of_unit(alloc, case, tables, numbers, &from, key.slot)
+        }
+        None => unreachable!(),
+    }
+}
+
+/// The list of this open unit by numbers.
+fn steps_of_unit(
+    alloc: Global,
+    case: &Case,
+    tables: &Tables,
+    numbers: &mut ResidualParts,
+    from: &UnitKey,
+    slot: u32,
+) -> Result<UnitSteps, Mem>
+    requires request { IsRequest case.now.request.now }
+    requires slot { IsSlot numbers.old.units slot (Some from.now.unit) }
+    requires unit { UnitInRanges from.now.unit }
+    requires place { HasTable tables.now.kept.items from.now.place }
+    requires tables { AreTables case.now.book.now case.now.request.now tables.now }
+    ensures grows { Grows numbers.old numbers.new }
+    ensures steps { IfOk result (AreUnitSteps case.now.request.now numbers.new tables.now.kept.items) }
+    ensures place { IfOk result (λ s. s.place ≡ from.now.place) }
+    ensures slot { IfOk result (λ s. s.slot ≡ slot) }
+{
+    let table = tables.unit_table(alloc, case, from)?;
+    let steps = steps_of(alloc, numbers, table.list.as_slice())?;
+    Ok(UnitSteps {
+        place: from.place,
+        slot,
+        steps,
+    })
+}
+
+/// Where the lists of a position stand, if they are known.
+fn known_position(
+    positions: &[PositionSteps],
+    places: &IndexMap<u32, usize>,
+    position: u32,
+) -> Option<usize>
+    ensures { IfSome result (StepsAt positions.now position) }
+{
+    let at = places.get(&position).copied()?;
+    let steps = positions.get(at)?;
+    if steps.position == position {
+        Some(at)
+    } else {
+        None
+    }
+}
+
+/// Where the list of an open unit stands, if it is known.
+fn known_unit(
+    units: &[UnitSteps],
+    places: &IndexMap<UnitSlot, usize>,
+    key: &UnitSlot,
+) -> Option<usize>
+    requires { key.now.slot ≢ 0 }
+    ensures { IfSome result (UnitStandsAt units.now key.now.place key.now.slot) }
+{
+    let at = places.get(key).copied()?;
+    let steps = units.get(at)?;
+    if steps.place == key.place && steps.slot == key.slot {
+        Some(at)
+    } else {
+        None
+    }
+}
