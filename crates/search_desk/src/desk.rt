@@ -7,7 +7,9 @@ ghost use Rattle.fare_versions.specs.Seen.{seen_by};
 ghost use Rattle.search_core.specs.Answers.{HasCause, IsAnswer, Searchable};
 ghost use Rattle.search_desk.specs.Desks.{AllPublished, Has, StaysSettled, UnlessMem};
 
+use crate::settled::{Settled, is_settled, settled_by};
 use core::mem::replace_with;
+use fare_component::Plain;
 use fare_law::{Gate, Mem, Request};
 use fare_versions::{Receipt, Watch};
 use node_publish::{NodeStore, StorePass, StoreSource};
@@ -23,14 +25,19 @@ pub struct Desk {
     pass: StorePass,
     /// By which gates tell it from others.
     desk: u32,
+    /// What it searched last, where all nodes of it were published.
+    settled: Option<Settled>,
 }
 
 impl Model for Desk {
     ghost use Rattle.search_desk.specs.Desks.{DeskView};
+    ghost use Rattle.search_desk.specs.Remembered.{Remembers};
 
     ghost Value = { DeskView };
 
     ghost view = { λ d. record { sight = d.watch; pass = d.pass } };
+
+    ghost invariant = { λ d. Remembers d.watch d.pass d.settled };
 }
 
 impl Desk {
@@ -38,7 +45,12 @@ impl Desk {
     pub fn new(watch: Watch, pass: StorePass, desk: u32) -> Desk
         ensures { result ≡ record { sight = watch; pass = pass } }
     {
-        Desk { watch, pass, desk }
+        Desk {
+            watch,
+            pass,
+            desk,
+            settled: None,
+        }
     }
 
     /// From now on it searches no version that is older than the receipt.
@@ -76,7 +88,8 @@ impl Desk {
     /// node that the search needs is published, where the store has room; before it builds a node it calls the gate.
     ///
     /// After `BadRequest` and `TooLarge` too it has seen the version that was judged or searched. After `Mem` it may
-    /// have seen more than before, never less.
+    /// have seen more than before, never less. Where it searched the same version for the same request last, the
+    /// nodes are published already, and none is asked for.
     pub fn search<G: Gate>(
         &mut self,
         alloc: Global,
@@ -133,10 +146,27 @@ impl Desk {
             mut watch,
             pass,
             desk,
+            settled,
         } = self;
         let Ok(book) = watch.look() else {
-            return (Desk { watch, pass, desk }, Err(SearchFault::Mem));
+            let desk = Desk {
+                watch,
+                pass,
+                desk,
+                settled,
+            };
+            return (desk, Err(SearchFault::Mem));
         };
+        if is_settled(&settled, book.number(), request) {
+            let answer = search(alloc, &book, request, budget, &mut Plain);
+            let desk = Desk {
+                watch,
+                pass,
+                desk,
+                settled,
+            };
+            return (desk, answer);
+        }
         let mut source = StoreSource {
             store,
             pass,
@@ -144,12 +174,19 @@ impl Desk {
             desk,
         };
         let answer = search(alloc, &book, request, budget, &mut source);
+        let settled = settled_by(&answer, book.number(), request);
         let StoreSource {
             store: _,
             pass,
             gate: _,
             desk,
         } = source;
-        (Desk { watch, pass, desk }, answer)
+        let desk = Desk {
+            watch,
+            pass,
+            desk,
+            settled,
+        };
+        (desk, answer)
     }
 }

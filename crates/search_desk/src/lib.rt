@@ -5,5 +5,6 @@
 #![tactic(auto)]
 
 mod desk;
+mod settled;
 
 pub use desk::Desk;

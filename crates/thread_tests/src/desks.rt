@@ -2,11 +2,13 @@
 ghost use Rattle.std.specs.Prelude.{◌≡◌, ◌≤◌, IfOk};
 ghost use Rattle.std.specs.Arc.{arc_value};
 ghost use Rattle.fare_law.specs.FilingLimits.{IsFiling};
+ghost use Rattle.fare_law.specs.Limits.{IsFareKey};
 
-use crate::versions::{LON, NYC, PLACES, QX, filing, key};
+use crate::versions::{LON, NYC, PLACES, QX, filing, key, key_back};
 use fare_book::{Book, Timetable};
 use fare_law::{
-    Action, ArrayVec, Fare, FareKind, Filing, FlightRow, Gate, List, Mem, Request, SeatRow, Slice,
+    Action, ArrayVec, Fare, FareKey, FareKind, Filing, FlightRow, Gate, List, Mem, Request,
+    SeatRow, Slice,
 };
 use fare_versions::{Clerk, begin};
 use node_publish::NodeStore;
@@ -76,8 +78,17 @@ fn put(alloc: Global, letter: u8, amount: u64) -> Result<Arc<Filing>, Mem>
     requires amount { amount ≤ 1000000000 }
     ensures { IfOk result (λ filing. IsFiling (arc_value filing)) }
 {
+    put_fare(alloc, key(letter), amount)
+}
+
+/// The filing that puts the fare of this key at this amount.
+fn put_fare(alloc: Global, key: FareKey, amount: u64) -> Result<Arc<Filing>, Mem>
+    requires key { IsFareKey key }
+    requires amount { amount ≤ 1000000000 }
+    ensures { IfOk result (λ filing. IsFiling (arc_value filing)) }
+{
     let fare = Fare {
-        key: key(letter),
+        key,
         class: 24,
         kind: FareKind::O,
         amount,
@@ -238,5 +249,102 @@ fn shares_one_cell(rt: HostRuntime) -> Result<(), Fail> {
         (2, 2, Some(15000))
     );
     assert!(rt; two.built > 1);
+    Ok(())
+}
+
+/// Two desks on one store: the first searches and is dropped, the second searches, and learns of a filing and searches.
+fn find_after_a_drop<R: Wait>(
+    alloc: Global,
+    rt: &R,
+    clerk: &mut Clerk,
+    mut first: Desk,
+    second: &mut Desk,
+    store: &NodeStore,
+) -> Result<[Found; 3], Fail>
+    requires first { (first.pass.cells ≡ store.now) × (first.sight.house ≡ clerk.old.house) }
+    requires second { (second.old.pass.cells ≡ store.now) × (second.old.sight.house ≡ clerk.old.house) }
+{
+    let gate = Counting {
+        built: AtomicU64::new(0),
+    };
+    let receipt = clerk.file(rt, alloc, put(alloc, b'Y', 20000)?)?;
+    first.learn(&receipt);
+    let one = find(alloc, &mut first, store, &gate)?;
+    drop(first);
+    second.learn(&receipt);
+    let same = find(alloc, second, store, &gate)?;
+    second.learn(&clerk.file(rt, alloc, put(alloc, b'B', 15000)?)?);
+    let two = find(alloc, second, store, &gate)?;
+    Ok([one, same, two])
+}
+
+#[test]
+fn keeps_what_a_dropped_desk_built(rt: HostRuntime) -> Result<(), Fail> {
+    let alloc = rt.alloc();
+    let book = opening(alloc)?;
+    let store = NodeStore::new(alloc, 64)?;
+    let one_pass = store.pass(alloc)?;
+    let other_pass = store.pass(alloc)?;
+    let (mut clerk, watches) = begin(&rt, alloc, book, 2)?;
+    let mut watches = watches.into_vec();
+    let found = match (watches.pop(), watches.pop()) {
+        (Some(one), Some(other)) => {
+            let first = Desk::new(one, one_pass, 1);
+            let mut second = Desk::new(other, other_pass, 2);
+            find_after_a_drop(alloc, &rt, &mut clerk, first, &mut second, &store)
+        }
+        _ => Err(Fail::new("not two watches")),
+    };
+    clerk.end(&rt);
+    let expected = [
+        (1, Some(20000), 1),
+        (1, Some(20000), 1),
+        (2, Some(15000), 2),
+    ];
+    let found = found?.map(|one: Found| (one.number, one.cheapest, one.built));
+    assert_eq!(rt; found, expected);
+    Ok(())
+}
+
+/// A search, and another after a filing of a fare the other way.
+fn find_around<R: Wait>(
+    alloc: Global,
+    rt: &R,
+    clerk: &mut Clerk,
+    desk: &mut Desk,
+    store: &NodeStore,
+) -> Result<[Found; 2], Fail>
+    requires cells { desk.old.pass.cells ≡ store.now }
+    requires house { desk.old.sight.house ≡ clerk.old.house }
+{
+    let gate = Counting {
+        built: AtomicU64::new(0),
+    };
+    desk.learn(&clerk.file(rt, alloc, put(alloc, b'Y', 20000)?)?);
+    let one = find(alloc, desk, store, &gate)?;
+    desk.learn(&clerk.file(rt, alloc, put_fare(alloc, key_back(b'Y'), 15000)?)?);
+    let two = find(alloc, desk, store, &gate)?;
+    Ok([one, two])
+}
+
+/// What another market's filing leaves as it was is found and not built again.
+#[test]
+fn builds_nothing_for_another_market(rt: HostRuntime) -> Result<(), Fail> {
+    let alloc = rt.alloc();
+    let book = opening(alloc)?;
+    let store = NodeStore::new(alloc, 64)?;
+    let pass = store.pass(alloc)?;
+    let (mut clerk, watches) = begin(&rt, alloc, book, 1)?;
+    let mut watches = watches.into_vec();
+    let found = match watches.pop() {
+        Some(watch) => {
+            let mut desk = Desk::new(watch, pass, 1);
+            find_around(alloc, &rt, &mut clerk, &mut desk, &store)
+        }
+        None => Err(Fail::new("no watch")),
+    };
+    clerk.end(&rt);
+    let found = found?.map(|one: Found| (one.number, one.cheapest, one.built));
+    assert_eq!(rt; found, [(1, Some(20000), 1), (2, Some(20000), 1)]);
     Ok(())
 }

@@ -58,6 +58,21 @@ pub fn key(letter: u8) -> FareKey
     }
 }
 
+/// The key of the fare QX NYC LON with this basis of one letter.
+pub fn key_back(letter: u8) -> FareKey
+    requires { (65 ≤ letter) × (letter ≤ 90) }
+    ensures { IsFareKey result }
+{
+    let mut basis = ArrayVec::new();
+    basis.push(letter);
+    FareKey {
+        carrier: QX,
+        from: NYC,
+        to: LON,
+        basis: Basis(basis),
+    }
+}
+
 /// A filing of one action.
 pub fn filing(alloc: Global, action: Action) -> Result<Arc<Filing>, Mem>
     requires { IsAction action }
