@@ -1,0 +1,172 @@
+//! Passes of one board.
+ghost use Rattle.std.specs.Prelude.{◌≡◌, ◌≤◌, None, IfOk};
+
+use crate::cases::{ROUND_TRIP, TWO_CARRIERS, case_of};
+use fare_law::{Gate, Mem, NoGate, Why};
+use search_core::{Answer, SearchFault};
+use shared_board::{Board, BoardPass};
+use std::alloc::Global;
+use std::process::Abort;
+use std::sync::Arc;
+use std::sync::atomic::{AtomicU64, Ordering};
+use std::test::Fail;
+use std::thread::{Threads, map_vec};
+
+/// Counts the nodes that are built for an answer.
+#[derive(Drop)]
+struct Counting {
+    built: AtomicU64,
+}
+
+impl Gate for Counting {
+    fn pass(&self, _desk: u32) {
+        self.built.fetch_add(1, Ordering::SeqCst);
+    }
+
+    fn done(&self, _desk: u32) {}
+}
+
+/// The board of a case, with its number 7, and two passes.
+fn open(
+    rt: &(impl Abort + AllocGlobal),
+    text: &str,
+    party: u8,
+    budget: u32,
+    slots: u32,
+) -> Result<(Board, BoardPass, BoardPass), Fail>
+    requires { (1 ≤ budget) × (budget ≤ 1000000) × (1 ≤ slots) × (slots ≤ 65536) }
+    ensures slots { IfOk result (λ r. r.0.slots.board.slots ≡ slots) }
+    ensures number { IfOk result (λ r. r.0.slots.number ≡ 7) }
+    ensures first { IfOk result (λ r. (r.1.of ≡ r.0.slots) × (r.1.held ≡ None)) }
+    ensures second { IfOk result (λ r. (r.2.of ≡ r.0.slots) × (r.2.held ≡ None)) }
+{
+    let case = case_of(rt, text)?;
+    let mut request = case.request;
+    request.party = party;
+    let book = Arc::new(rt.alloc(), case.book)?;
+    let (board, mut pass) = Board::open(rt.alloc(), 7, book, request, budget, slots)?;
+    let other = pass.split(&board)?;
+    Ok((board, pass, other))
+}
+
+/// Whether the answer has the tickets and the residuals of the case of two carriers.
+fn is_best(answer: &Answer) -> bool {
+    let tickets = answer.tickets.as_slice();
+    answer.number == 1
+        && answer.certificate.rows.len() == 6
+        && tickets.len() == 3
+        && tickets
+            .iter()
+            .zip([36000, 48000, 48000].iter())
+            .all(|(ticket, price)| ticket.price == *price)
+}
+
+/// How many nodes a pass built for its answer, where the answer is right.
+fn built_for_best(alloc: Global, board: &Board, pass: &mut BoardPass) -> Result<u64, Fail>
+    requires { (pass.old.of ≡ board.now.slots) × (pass.old.held ≡ None) }
+    ensures { pass.new ≡ pass.old }
+{
+    let gate = Counting {
+        built: AtomicU64::new(0),
+    };
+    let answer = pass.answer(alloc, board, &gate)?;
+    if !is_best(&answer) {
+        return Err(Fail::new("another answer"));
+    }
+    Ok(gate.built.load(Ordering::SeqCst))
+}
+
+/// What the first pass built, the second finds; neither builds anything for its answer.
+#[test]
+fn shares_nodes(rt: HostRuntime) -> Result<(), Fail> {
+    let alloc = rt.alloc();
+    let (board, mut first, mut second) = open(&rt, TWO_CARRIERS, 2, 1_000_000, 64)?;
+    assert!(rt; first.work(alloc, &board)? > 0);
+    assert_eq!(rt; second.work(alloc, &board)?, 0);
+    assert_eq!(rt; built_for_best(alloc, &board, &mut first)?, 0);
+    assert_eq!(rt; built_for_best(alloc, &board, &mut second)?, 0);
+    assert_eq!(rt; first.number(&board), 7);
+    assert_eq!(rt; second.number(&board), 7);
+    first.join(&board, second);
+    assert_eq!(rt; first.number(&board), 7);
+    Ok(())
+}
+
+/// While a pass has the one slot out, another finds nothing there, builds for itself and answers the same.
+#[test]
+fn answers_without_a_held_node(rt: HostRuntime) -> Result<(), Fail> {
+    let alloc = rt.alloc();
+    let (board, mut first, mut second) = open(&rt, TWO_CARRIERS, 2, 1_000_000, 1)?;
+    assert!(rt; !first.hold(&board, 0));
+    assert!(rt; first.work(alloc, &board)? > 0);
+    assert!(rt; first.hold(&board, 0));
+    assert!(rt; !second.hold(&board, 0));
+    assert!(rt; built_for_best(alloc, &board, &mut second)? > 0);
+    first.release(&board);
+    assert!(rt; second.hold(&board, 0));
+    Ok(())
+}
+
+/// Three residuals are over a budget of two, and a party of none is no request, for which nothing is built.
+#[test]
+fn refuses_as_a_search_does(rt: HostRuntime) -> Result<(), Fail> {
+    let alloc = rt.alloc();
+    let (board, mut pass, _other) = open(&rt, ROUND_TRIP, 1, 2, 64)?;
+    let answer = pass.answer(alloc, &board, &NoGate);
+    assert_eq!(rt; answer.err(), Some(SearchFault::TooLarge));
+    let (board, mut pass, _other) = open(&rt, ROUND_TRIP, 0, 3, 64)?;
+    assert_eq!(rt; pass.work(alloc, &board)?, 0);
+    let answer = pass.answer(alloc, &board, &NoGate);
+    assert_eq!(rt; answer.err(), Some(SearchFault::BadRequest(Why::Party)));
+    Ok(())
+}
+
+/// A pass that works in a thread of its own.
+#[derive(Drop)]
+struct Worker<'a> {
+    board: &'a Board,
+    pass: BoardPass,
+    ghost own: { (pass.of ≡ board.now.slots) × (pass.held ≡ None) },
+}
+
+/// How many nodes the worker built.
+fn worked(alloc: Global, worker: Worker) -> Result<u32, Mem> {
+    let Worker { board, pass } = worker;
+    let mut pass = pass;
+    pass.work(alloc, board)
+}
+
+/// How many nodes four passes built that worked at once, all of them together.
+fn built_together<R: Threads + Sync>(
+    rt: &R,
+    alloc: Global,
+    board: &Board,
+    pass: &mut BoardPass,
+) -> Result<u64, Fail>
+    requires { (pass.old.of ≡ board.now.slots) × (pass.old.held ≡ None) }
+    ensures { pass.new ≡ pass.old }
+{
+    let mut workers = Vec::new(alloc);
+    for _ in 0..4 {
+        let pass = pass.split(board)?;
+        workers.push(Worker { board, pass })?;
+    }
+    let counts = map_vec(rt, workers, &|worker: Worker| worked(alloc, worker))?;
+    let mut built: u64 = 0;
+    for count in counts {
+        built = built.saturating_add(u64::from(count?));
+    }
+    Ok(built)
+}
+
+/// Each node that a pass needs was built by one of four that worked at once, at least, and a fifth answers the same.
+#[test]
+fn answers_after_four_threads(rt: HostRuntime) -> Result<(), Fail> {
+    let alloc = rt.alloc();
+    let (alone, mut only, _other) = open(&rt, TWO_CARRIERS, 2, 1_000_000, 64)?;
+    let needed = u64::from(only.work(alloc, &alone)?);
+    let (board, mut first, _other) = open(&rt, TWO_CARRIERS, 2, 1_000_000, 64)?;
+    assert!(rt; built_together(&rt, alloc, &board, &mut first)? >= needed);
+    built_for_best(alloc, &board, &mut first)?;
+    Ok(())
+}
