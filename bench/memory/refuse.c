@@ -9,6 +9,7 @@
 #include <stddef.h>
 #include <stdlib.h>
 #include <string.h>
+#include <sys/syscall.h>
 #include <unistd.h>
 
 static unsigned long asked, refused;
@@ -34,8 +35,14 @@ __attribute__((destructor)) static void end(void) {
         digits[--at] = (char)('0' + left % 10);
         left /= 10;
     } while (left);
-    if (write(file, digits + at, sizeof digits - at) < 0) _exit(99);
+    if (write(file, digits + at, sizeof digits - at) < 0) syscall(SYS_exit_group, 99);
     close(file);
+}
+
+/* A program that ends by this runs no destructors. */
+void _exit(int status) {
+    end();
+    for (;;) syscall(SYS_exit_group, status);
 }
 
 static int is_refused(void) {
