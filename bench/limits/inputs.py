@@ -260,7 +260,7 @@ def limits():
     yield from case("a period of 366 days", lambda more: Case(flights=[*Case().flights, flight(1, "LON", "NYC", 9, period=365 + more)]), "BadPeriod", "QX,1,")
     yield from line("lists in lists, 127 deep", lambda: brackets(127).text(), (lambda: brackets(128).text(), (1, "refused 9 Syntax")), (1, "refused 9 action 0 Shape"))
     yield from line("a line of 60 MB, a text or open brackets", lambda: Case(filings=[f'"{"a" * 60000000}"']).text(), (lambda: brackets(60000000, False).text(), (1, "refused 9 Syntax")), (1, "refused 9 action 0 Shape"))
-    yield from case("1,000 later filings", lambda more: serving(later=[[]] * (1000 + more)), "TooMany", '{"actions":[]}', expected=(0, "history 1001"), words=["serve"])
+    yield from case("1,000 later filings", lambda more: serving(later=[[]] * (1000 + more), script=["desks 1", "1 wait 1000", "1 search 1"]), "TooMany", '{"actions":[]}', expected=(0, "history 1001"), words=["serve"])
     yield from case("100 requests of serve", lambda more: serving(requests=100 + more), "TooMany", '{"sale"', expected=(0, "history 1"), words=["serve"])
     yield from case("1,000 script lines", lambda more: serving(script=["desks 1", *["1 search 1"] * (999 + more)]), "TooMany", "1 search 1", expected=(0, "reply 999 desk 1 version 1"), words=["serve"])
     yield from case("8 desks", lambda more: serving(script=[f"desks {8 + more}", "8 search 1"]), "Script", "desks", expected=(0, "reply 1 desk 8 version 1"), words=["serve"])
