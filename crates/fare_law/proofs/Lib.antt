@@ -1,2 +1,4 @@
 pub mod Judged
 pub mod SameNames
+pub mod SameRules
+pub mod SameValues

@@ -1,5 +1,5 @@
 -- Sheets: the live fares of one market, with what their rules say of the time of departure.
-use Rattle.std.specs.Prelude.{◌≡◌, ◌≢◌, ◌⊎◌, ◌↔◌, ◌≤◌, ℤ, pos, List, [], length, Option, Some, None}
+use Rattle.std.specs.Prelude.{◌≡◌, ◌≢◌, ◌⊎◌, ◌↔◌, ◌≤◌, ◌<◌, ℕ, ℤ, pos, List, [], length, slice_index_or, Option, Some, None}
 use Rattle.fare_law.specs.declared.names.Place.{Place}
 use Rattle.fare_law.specs.declared.rules.DayTime.{DayTime}
 use Rattle.fare_law.specs.declared.sheets.SheetRow.{SheetRow}
@@ -52,3 +52,12 @@ pub record SheetOf (b : Book) (from to : Place) (sheet : Sheet) : Type 0 where
   pub some : sheet.rows ≢ []
   pub ascending : EachPair RowBefore sheet.rows
   pub live : (row : SheetRow) → IsIn row sheet.rows ↔ IsLiveRow b from to row
+
+-- the rule of the i-th row is that of the j-th, which doesn't stand after it
+abbrev pub HasRuleOf : List SheetRow → ℕ → ℕ → Type 0
+HasRuleOf rows i j = (j ≤ i) × ((d : SheetRow) → (slice_index_or rows i d).rule ≡ (slice_index_or rows j d).rule)
+
+-- for each row one that doesn't stand after it and has the same rule
+pub record AreRuleRows (rows : List SheetRow) (places : List ℕ) : Type 0 where
+  pub many : length places ≡ length rows
+  pub each : (i : ℕ) → i < length rows → HasRuleOf rows i (slice_index_or places i 0)

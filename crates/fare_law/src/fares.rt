@@ -1,5 +1,5 @@
 //! Fares and what names them.
-ghost use Rattle.std.specs.Prelude.{◌≡◌};
+ghost use Rattle.std.specs.Prelude.{◌≡◌, ◌↔◌, IsTrue};
 
 use crate::{Basis, Carrier, Class, Place};
 
@@ -61,5 +61,20 @@ impl Fare {
             amount: self.amount,
             rule: self.rule,
         }
+    }
+
+    /// Whether it is the same fare.
+    pub fn is(&self, other: &Fare) -> bool
+        ensures { IsTrue result ↔ (self.now ≡ other.now) }
+    {
+        // names letter by letter, and what differs most first
+        self.amount == other.amount
+            && self.key.basis == other.key.basis
+            && self.key.carrier.is(other.key.carrier)
+            && self.class == other.class
+            && self.rule == other.rule
+            && self.kind == other.kind
+            && self.key.from.is(other.key.from)
+            && self.key.to.is(other.key.to)
     }
 }

@@ -1,6 +1,6 @@
 //! The sheet of a market.
-ghost use Rattle.std.specs.Prelude.{◌≡◌, map, IfOk};
-ghost use Rattle.fare_law.specs.Sheets.{Sheet, first_minute, last_minute, IsSheet};
+ghost use Rattle.std.specs.Prelude.{◌≡◌, ◌<◌, ◌≤◌, length, map, IfOk};
+ghost use Rattle.fare_law.specs.Sheets.{AreRuleRows, HasRuleOf, IsSheet, Sheet, first_minute, last_minute};
 
 use crate::{ArrayVec, Leg, List, Mem, Place, SheetRow};
 use std::alloc::Global;
@@ -8,7 +8,8 @@ use std::marker::Model;
 use std::sync::Arc;
 
 /// The live fares of one market, ascending by carrier and basis, with columns for their times of
-/// departure. Contracts see the market and the rows; the columns follow from the rows.
+/// departure and for rows of one rule. Contracts see the market and the rows; the columns follow from
+/// the rows.
 #[derive(Debug, Drop)]
 pub struct MarketSheet {
     pub from: Place,
@@ -18,17 +19,19 @@ pub struct MarketSheet {
     pub opens: List<i32>,
     /// The last minute, or 1439.
     pub closes: List<i32>,
+    /// For each row the place of one that has the same rule and doesn't stand after it.
+    pub rule_rows: List<u32>,
 }
 
 impl Model for MarketSheet {
     ghost use Rattle.std.specs.Prelude.{◌≡◌, map};
-    ghost use Rattle.fare_law.specs.Sheets.{Sheet, first_minute, last_minute};
+    ghost use Rattle.fare_law.specs.Sheets.{AreRuleRows, Sheet, first_minute, last_minute};
 
     ghost Value = { Sheet };
 
     ghost view = { λ s. record { from = s.from; to = s.to; rows = s.rows } };
 
-    ghost invariant = { λ s. (s.opens ≡ map first_minute s.rows) × (s.closes ≡ map last_minute s.rows) };
+    ghost invariant = { λ s. (s.opens ≡ map first_minute s.rows) × (s.closes ≡ map last_minute s.rows) × AreRuleRows s.rows s.rule_rows };
 }
 
 impl MarketSheet {
@@ -44,12 +47,14 @@ impl MarketSheet {
     {
         let opens = opening_minutes(alloc, rows.as_slice())?;
         let closes = closing_minutes(alloc, rows.as_slice())?;
+        let rule_rows = rule_rows(alloc, rows.as_slice())?;
         Ok(MarketSheet {
             from,
             to,
             rows,
             opens,
             closes,
+            rule_rows,
         })
     }
 }
@@ -89,6 +94,37 @@ fn closing_minute(row: &SheetRow) -> i32
     match &row.rule.cat2 {
         Some(times) => times.to as i32,
         None => 1439,
+    }
+}
+
+/// For each row the place of one that has the same rule and doesn't stand after it. Rows whose rules have
+/// numbers that end alike are held against one another, so that a rule is mostly found where it came before.
+fn rule_rows(alloc: Global, rows: &[SheetRow]) -> Result<List<u32>, Mem>
+    requires few { length rows.now ≤ 20000 }
+    ensures { IfOk result (AreRuleRows rows.now) }
+{
+    let mut latest = [0u32; 256];
+    let mut places = List::new(alloc);
+    for at in 0..rows.len() {
+        let ending = usize::from(rows[at].fare.rule & 255);
+        let place = rule_row(rows, at, latest[ending]);
+        latest[ending] = place;
+        places.push(place)?;
+    }
+    Ok(places)
+}
+
+/// The place that is tried, where a row with the same rule stands there, or else the row's own.
+fn rule_row(rows: &[SheetRow], at: usize, tried: u32) -> u32
+    requires at { at < length rows.now }
+    requires few { length rows.now ≤ 20000 }
+    ensures { HasRuleOf rows.now at result }
+{
+    let place = tried as usize;
+    if place < at && rows[at].rule.is(&rows[place].rule) {
+        tried
+    } else {
+        at as u32
     }
 }
 

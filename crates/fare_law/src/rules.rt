@@ -1,4 +1,6 @@
 //! A fare's rule: one optional record for each category.
+ghost use Rattle.std.specs.Prelude.{◌≡◌, ◌↔◌, IsTrue};
+
 use crate::{ArrayVec, Carrier, Place};
 
 /// The kinds of priceable units.
@@ -122,4 +124,13 @@ pub struct Rule {
     pub cat10: Option<CombineRule>,
     pub cat12: Option<ArrayVec<Surcharge, 8>>,
     pub cat14: Option<TravelRule>,
+}
+
+impl Rule {
+    /// Whether it is the same rule.
+    pub fn is(&self, other: &Rule) -> bool
+        ensures { IsTrue result ↔ (self.now ≡ other.now) }
+    {
+        self == other
+    }
 }

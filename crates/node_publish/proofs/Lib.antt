@@ -1,7 +1,5 @@
 pub mod Keeping
 pub mod Notes
-pub mod SameFares
 pub mod SameLegs
-pub mod SameRules
-pub mod SameValues
+pub mod SameRows
 pub mod Weighing

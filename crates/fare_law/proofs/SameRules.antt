@@ -1,4 +1,4 @@
--- Tests of rules tell whether they are equal.
+-- Tests of rules tell whether they are equal. Given on to the crates above.
 use Rattle.std.proofs.Common.{◌≡◌, Decides, refl, ap}
 use Rattle.std.specs.Cmp.Lexicographic.{pointwise_decides, bytes_decides}
 use Rattle.std.proofs.lemmas.Bool.Decides.{Decides-like, Decides-and, Decides-eqb, Decides-int_eq}
@@ -33,8 +33,8 @@ use Rattle.fare_law.specs.declared.rules.TransferRule.{TransferRule}
 use Rattle.fare_law.specs.declared.rules.TravelRule.{TravelRule}
 use Rattle.fare_law.specs.declared.rules.UnitKind.{UnitKind}
 use Rattle.fare_law.specs.declared.rules.UnitKind.TheVariants.{OneWay, RoundTrip, OpenJaw, Circle}
-use Rattle.node_publish.proofs.SameLegs.{carriers_tell, places_tell}
-use Rattle.node_publish.proofs.SameValues.{bools_tell, options_tell}
+use Rattle.fare_law.proofs.SameNames.{carriers_tell, places_tell}
+use Rattle.fare_law.proofs.SameValues.{bools_tell, options_tell}
 
 times_tell : (a b : DayTime) → Decides (times.ghosts.eq a b) (a ≡ b)
 times_tell a b =

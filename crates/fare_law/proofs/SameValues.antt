@@ -1,4 +1,5 @@
--- Tests of options and truth values tell whether they are equal, where those of their parts do.
+-- Tests of options and truth values tell whether they are equal, where those of their parts do. Given on to the
+-- crates above.
 use Rattle.std.proofs.Common.{◌≡◌, Bool, true, false, Option, Some, None, Decides, refl, ap}
 use mathlib.Core.Bool.{beq}
 use Rattle.std.specs.Option.{option_eq}
