@@ -1,1 +1,2 @@
+pub mod OtherFares
 pub mod RoleLemmas

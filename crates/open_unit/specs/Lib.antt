@@ -1,2 +1,3 @@
 pub mod OpenUnits
 pub mod Ranges
+pub mod Readings

@@ -6,8 +6,8 @@ ghost use Rattle.open_unit.specs.OpenUnits.{PartnerHolds, carriers_with, demand_
 ghost use Rattle.open_unit.specs.Ranges.{PieceInRanges, UnitInRanges};
 
 use crate::marks::partners_hold;
-use crate::{CarrierMark, OpenUnit, RuleMark};
-use fare_law::{Piece, UnitKind};
+use crate::{CarrierMark, Facts, OpenUnit, RuleMark};
+use fare_law::UnitKind;
 use rule_unit::UnitDemand;
 
 /// What these fares demand together, and what they have in common.
@@ -20,21 +20,21 @@ pub struct JoinedFares {
 
 impl JoinedFares {
     /// The fares of the unit and of the component.
-    pub fn of(unit: &OpenUnit, piece: &Piece) -> JoinedFares
+    pub fn of(unit: &OpenUnit, facts: &Facts<'_>) -> JoinedFares
         requires unit { UnitInRanges unit.now }
-        requires piece { PieceInRanges piece.now }
-        ensures demand { result.demand ≡ demand_with unit.now piece.now }
+        requires facts { PieceInRanges facts.now }
+        ensures demand { result.demand ≡ demand_with unit.now facts.now }
         ensures in_range { DemandInRange result.demand }
-        ensures carrier { result.carrier ≡ carriers_with unit.now piece.now }
-        ensures rule { result.rule ≡ rules_with unit.now piece.now }
+        ensures carrier { result.carrier ≡ carriers_with unit.now facts.now }
+        ensures rule { result.rule ≡ rules_with unit.now facts.now }
     {
-        let carrier = unit.carrier.with(piece.fare.key.carrier);
+        let carrier = unit.carrier.with(facts.carrier);
         JoinedFares {
             demand: unit
                 .demand()
-                .meet(&UnitDemand::of(&piece.rule, unit.first_day)),
+                .meet(&UnitDemand::of(facts.rule, unit.first_day)),
             carrier,
-            rule: unit.rule.with(carrier, piece.fare.rule),
+            rule: unit.rule.with(carrier, facts.number),
         }
     }
 
@@ -46,7 +46,7 @@ impl JoinedFares {
     }
 
     /// Whether the unit may return and end on the days of this last component.
-    pub fn allow_return(&self, last: &Piece) -> bool
+    pub fn allow_return(&self, last: &Facts<'_>) -> bool
         ensures { IsTrue result ↔ (MayReturn self.now.demand last.now.first_day × AtMost self.now.demand.by last.now.last_day) }
     {
         self.demand.return_ok(last.first_day) && self.demand.by_ok(last.last_day)

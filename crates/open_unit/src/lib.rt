@@ -7,9 +7,12 @@ mod fares;
 mod joined;
 mod kinds;
 mod marks;
+mod pieces;
+mod reading;
 mod roles;
 mod units;
 
 pub use fare_law::Piece;
 pub use marks::{CarrierMark, RuleMark};
+pub use reading::Facts;
 pub use units::OpenUnit;

@@ -3,8 +3,8 @@ ghost use Rattle.std.specs.Prelude.{◌≡◌};
 ghost use Rattle.open_unit.specs.OpenUnits as OpenUnits;
 ghost use Rattle.open_unit.specs.Ranges.{PieceInRanges, UnitInRanges};
 
-use crate::{CarrierMark, RuleMark};
-use fare_law::{Piece, Place};
+use crate::{CarrierMark, Facts, RuleMark};
+use fare_law::Place;
 use rule_unit::UnitDemand;
 
 /// What is kept of a unit that is open. Ordered field by field, absent before present.
@@ -37,24 +37,24 @@ const SEVERAL_COMPONENTS: u8 = 14;
 
 impl OpenUnit {
     /// The unit that this component opens.
-    pub(crate) fn opened_by(piece: &Piece) -> OpenUnit
-        requires { PieceInRanges piece.now }
-        ensures unit { result ≡ OpenUnits.opened piece.now }
+    pub(crate) fn opened_by(facts: &Facts<'_>) -> OpenUnit
+        requires { PieceInRanges facts.now }
+        ensures unit { result ≡ OpenUnits.opened facts.now }
         ensures in_ranges { UnitInRanges result }
     {
-        let demand = UnitDemand::of(&piece.rule, piece.first_day);
+        let demand = UnitDemand::of(facts.rule, facts.first_day);
         OpenUnit {
-            origin: piece.begin,
-            end: piece.end,
+            origin: facts.begin,
+            end: facts.end,
             count: 1,
-            first_day: piece.first_day,
+            first_day: facts.first_day,
             least: demand.min_return,
             greatest: demand.max_return,
             by: demand.by,
             kinds: demand.kinds & SEVERAL_COMPONENTS,
             partner: demand.partner,
-            carrier: CarrierMark::One(piece.fare.key.carrier),
-            rule: RuleMark::One(piece.fare.rule),
+            carrier: CarrierMark::One(facts.carrier),
+            rule: RuleMark::One(facts.number),
         }
     }
 

@@ -1,30 +1,15 @@
-use Rattle.std.proofs.Common.{refl, sym, subst, ◌∙◌, FitsSigned, w32, rules}
-use Rattle.std.proofs.lemmas.Int.{to_z-of_z}
-use Rattle.open_unit.specs.declared.units.OpenUnit.{OpenUnit}
-use Rattle.open_unit.specs.Ranges.{UnitInRanges}
-use Rattle.open_unit.proofs.RoleLemmas.{may_go_on, going_on_allows, gone_on_in_ranges}
+use Rattle.std.proofs.Common.{◌≡◌, IfSome, subst}
+use Rattle.open_unit.specs.OpenUnits.{gone_on}
+use Rattle.open_unit.proofs.OtherFares.{read_goes_on, read_in_ranges}
 use Rattle.open_unit.proofs.units.OpenUnit.go_on.Goals as goal
 
-pub returns-then-not-allow-clause-goes_on : goal.returns-then-not-allow-clause-goes_on
-returns-then-not-allow-clause-goes_on c =
-    let j = c.of-fares.ensures in (
-      λ e. absurd (cc),
-      λ m. sym c.if-not-allow.true ∙ c.allow.ensures.1 (going_on_allows c.args.self.now c.args.piece.now c.of-fares.result (record { demand = j.demand; carrier = j.carrier; rule = j.rule }) m),
-    )
+pub go_on_by-requires-clause-facts : goal.go_on_by-requires-clause-facts
+go_on_by-requires-clause-facts c = read_in_ranges c.args.piece.now c.of.result c.of.ensures c.requires.piece
 
 pub returns-clause-goes_on : goal.returns-clause-goes_on
 returns-clause-goes_on c =
-    let j = c.of-fares.ensures in
-    let small : FitsSigned w32 c.args.self.now.first_day = search rules in
-    let fits = simp to_z-of_z at c.fits.ensures in (
-      λ _. may_go_on c.args.self.now c.args.piece.now c.of-fares.result (record { demand = j.demand; carrier = j.carrier; rule = j.rule })
-          (c.may_be_followed.ensures.0 c.if-not-may_be_followed.false) (fits.0 c.if-not-fits.false) (c.allow.ensures.0 c.if-not-allow.false),
-      λ _. refl,
-    )
+    let same = read_goes_on c.args.piece.now c.of.result c.of.ensures c.args.self.now in
+    (λ s. same.0 (c.go_on_by.ensures.goes_on.0 s), λ m. c.go_on_by.ensures.goes_on.1 (same.1 m))
 
-pub returns-clause-in_ranges : goal.returns-clause-in_ranges
-returns-clause-in_ranges c =
-    let j = c.of-fares.ensures in
-    let follows = c.may_be_followed.ensures.0 c.if-not-may_be_followed.false in
-    subst (λ (u : OpenUnit). UnitInRanges u) (sym c.followed_by.ensures)
-    (gone_on_in_ranges c.args.self.now c.args.piece.now c.of-fares.result (record { demand = j.demand; carrier = j.carrier; rule = j.rule }) c.requires.unit j.in_range follows.1)
+pub returns-clause-unit : goal.returns-clause-unit
+returns-clause-unit c = subst (λ p. IfSome c.go_on_by.result (λ u. u ≡ gone_on c.args.self.now p)) c.of.ensures c.go_on_by.ensures.unit

@@ -1,0 +1,71 @@
+//! What a unit reads of a component.
+ghost use Rattle.std.specs.Prelude.{◌≡◌};
+ghost use Rattle.open_unit.specs.Readings.{as_read};
+
+use fare_law::{Carrier, FareKind, Piece, Place, Rule};
+use std::marker::Model;
+
+/// What a unit reads of a component. Its rule is borrowed, so that one may be asked of many units without a copy.
+/// Contracts see a piece, whose fare has no basis and costs nothing.
+#[derive(Debug, Drop)]
+pub struct Facts<'a> {
+    /// Where the component begins and ends.
+    pub begin: Place,
+    pub end: Place,
+    /// Its fare's carrier, rule number and kind, and the rule.
+    pub carrier: Carrier,
+    pub number: u16,
+    pub kind: FareKind,
+    pub rule: &'a Rule,
+    /// Whether the fare is filed from the end to the beginning.
+    pub reverse: bool,
+    /// The local days of departure of the first and the last flight.
+    pub first_day: i32,
+    pub last_day: i32,
+    /// The day of sale.
+    pub sale: i32,
+}
+
+impl<'a> Model for Facts<'a> {
+    ghost use Rattle.std.specs.Prelude.{[]};
+    ghost use Rattle.fare_law.specs.declared.tickets.Piece.{Piece as Read};
+
+    ghost Value = { Read };
+
+    ghost view = { λ f. record {
+      begin = f.begin;
+      end = f.end;
+      fare = record {
+        key = record { carrier = f.carrier; from = f.begin; to = f.end; basis = record { 0 = [] } };
+        class = 0;
+        kind = f.kind;
+        amount = 0;
+        rule = f.number;
+      };
+      rule = f.rule.now;
+      reverse = f.reverse;
+      first_day = f.first_day;
+      last_day = f.last_day;
+      sale = f.sale;
+    } };
+}
+
+impl<'a> Facts<'a> {
+    /// What a unit reads of a piece.
+    pub fn of(piece: &'a Piece) -> Facts<'a>
+        ensures { result ≡ as_read piece.now }
+    {
+        Facts {
+            begin: piece.begin,
+            end: piece.end,
+            carrier: piece.fare.key.carrier,
+            number: piece.fare.rule,
+            kind: piece.fare.kind,
+            rule: &piece.rule,
+            reverse: piece.reverse,
+            first_day: piece.first_day,
+            last_day: piece.last_day,
+            sale: piece.sale,
+        }
+    }
+}
