@@ -132,5 +132,5 @@ module _ (b : Book) (q : Request) (r : State) (k : Component) (limit : Option �
       apart g j u v x y s =
           let same = sym x.move ∙ s ∙ y.move in
           differs_before (λ (z : GroupedFare). z.place) k.group.now.fares i d f g
-          (places_apart_in b q r.at k.flown.now.way.path k.flown.now.way.flights k.flown.now.way.legs k.flown.now.classes k.piece.reverse k.market.now.sheet.value k.market.now.groups is.over.over k.group.now is.within) lt e j
+          (places_apart_in b q r.at k.flown.now.way.path k.flown.now.way.flights k.flown.now.way.legs k.flown.now.classes k.facts.reverse k.market.now.sheet.value k.market.now.groups is.over.over k.group.now is.within) lt e j
           (one_place never trans total k.market.now.sheet.value.rows g.place f.place x.row y.row is.over.over.sheet_is.ascending x.stands y.stands (ap (λ (z : Move). z.carrier) same) (ap (λ (z : Move). z.basis) same))

@@ -2,7 +2,7 @@
 use Rattle.std.proofs.Common.{◌≡◌, ◌⊎◌, ℕ, ℤ, ◌+◌, ◌≤◌, ◌<◌, Bool, List, length, take, get_or, slice_get, Option, Some, None, IsBitSet, Result, OnOk, refl, sym, ap, subst, ◌∙◌, arith}
 use Rattle.cheap_moves.specs.declared.component.Component.{Component}
 use Rattle.cheap_moves.specs.declared.component.Flown.{Flown}
-use Rattle.cheap_moves.specs.Making.{HasRows, IsComponent, IsComponentMove, IsGroupMove, IsOver, IsPieceOver, IsRowIn, Of}
+use Rattle.cheap_moves.specs.Making.{HasRows, IsComponent, IsComponentMove, IsGroupMove, IsOver, IsPieceOver, IsReadOver, IsRowIn, Of}
 use Rattle.cheap_moves.specs.Within.{IsWithin}
 use Rattle.cheap_moves.proofs.FareMoves.{one_place, row_at}
 use Rattle.cheap_moves.proofs.Joining.{differs_before, of_more, taken_in}
@@ -34,14 +34,14 @@ use Rattle.residual_keys.proofs.OneNext.{first_one, last_one, some_one}
 use Rattle.residual_keys.proofs.PathByPath.{read_in}
 use Rattle.residual_keys.proofs.Sheeted.{got_in}
 
--- pieces over rows of one group and one rule are alike
-alike_over : (sale : ℤ) (fs : List Flight) (row other : SheetRow) (reverse : Bool) (p p' : Piece) → group_of row ≡ group_of other → row.rule ≡ other.rule → IsPieceOver sale fs row reverse p → IsPieceOver sale fs other reverse p' → Alike p p'
+-- what is read of fares of one group and one rule is alike
+alike_over : (sale : ℤ) (fs : List Flight) (row other : SheetRow) (reverse : Bool) (p p' : Piece) → group_of row ≡ group_of other → row.rule ≡ other.rule → IsReadOver sale fs row reverse p → IsReadOver sale fs other reverse p' → Alike p p'
 alike_over sale fs row other reverse p p' same rule h k = record {
   begin = first.0;
   end = last.0;
-  carrier = ap (λ f. f.key.carrier) h.fare ∙ ap (λ (g : GroupKey). g.carrier) same ∙ sym (ap (λ f. f.key.carrier) k.fare);
-  number = ap (λ f. f.rule) h.fare ∙ ap (λ (g : GroupKey). g.number) same ∙ sym (ap (λ f. f.rule) k.fare);
-  kind = ap (λ f. f.kind) h.fare ∙ ap (λ (g : GroupKey). g.kind) same ∙ sym (ap (λ f. f.kind) k.fare);
+  carrier = h.carrier ∙ ap (λ (g : GroupKey). g.carrier) same ∙ sym k.carrier;
+  number = h.number ∙ ap (λ (g : GroupKey). g.number) same ∙ sym k.number;
+  kind = h.kind ∙ ap (λ (g : GroupKey). g.kind) same ∙ sym k.kind;
   rule = h.rule ∙ rule ∙ sym k.rule;
   reverse = h.reverse_is ∙ sym k.reverse_is;
   first_day = first.1;
@@ -78,18 +78,18 @@ module _ (b : Book) (q : Request) (r : State) (bound : State → Option ℕ) (li
 
   row_in : (f : GroupedFare) → IsIn f k.group.now.fares → (row : SheetRow) → slice_get rows f.place ≡ Some row → group_of row ≡ k.group.now.key
   row_in f j row stands =
-      let x = row_at b q r.at k.flown.now.way.path fs k.flown.now.way.legs k.flown.now.classes k.piece.reverse k.market.now.sheet.value k.market.now.groups is.over.over k.group.now is.within f j in
+      let x = row_at b q r.at k.flown.now.way.path fs k.flown.now.way.legs k.flown.now.classes k.facts.reverse k.market.now.sheet.value k.market.now.groups is.over.over k.group.now is.within f j in
       ap group_of (some_one (slice_get rows f.place) row x.row stands x.stands) ∙ x.key_is
 
   rule_in : (f : GroupedFare) (place : ℕ) (row : SheetRow) → slice_get rows place ≡ Some row → group_of row ≡ k.group.now.key → row.rule ≡ is.row.rule
   rule_in f place row stands key = one_rule_all b k.market.now.sheet.value.from k.market.now.sheet.value.to k.market.now.sheet.value is.over.over.sheet_is row is.row (got_in rows place row stands) is.row_of.within (key ∙ sym is.row_of.key)
 
-  forth : (c : Chosen) → IsComponentMove r bound limit k c → IsGroupMove q r bound limit k.flown.now k.piece.reverse k.market.now k.group.now c
+  forth : (c : Chosen) → IsComponentMove r bound limit k c → IsGroupMove q r bound limit k.flown.now k.facts.reverse k.market.now k.group.now c
   forth c (role, slot, h) =
       let key = row_in h.fare h.of h.row h.stands in
       let rule = rule_in h.fare h.fare.place h.row h.stands key in
-      let piece = dressed k.piece h.row in
-      let over : IsPieceOver q.sale fs h.row k.piece.reverse piece = record { begins = is.piece.begins; ends = is.piece.ends; fare = refl; rule = refl; reverse_is = refl; sale_is = is.piece.sale_is } in
+      let piece = dressed k.facts h.row in
+      let over : IsPieceOver q.sale fs h.row k.facts.reverse piece = record { fare = refl; reads = record { begins = is.facts.begins; ends = is.facts.ends; carrier = refl; number = refl; kind = refl; rule = refl; reverse_is = refl; sale_is = is.facts.sale_is } } in
       record {
         fare = h.fare;
         of = h.of;
@@ -103,11 +103,11 @@ module _ (b : Book) (q : Request) (r : State) (bound : State → Option ℕ) (li
         slot = slot;
         move = h.move;
         price = h.price ∙ ap (λ n. h.fare.share + n) (is.charges ∙ ap (λ x. extra_of x fs) (sym rule));
-        leaves = (tells_all r k.flown.now.way.path.after k.piece piece (alike_over q.sale fs is.row h.row k.piece.reverse k.piece piece (is.row_of.key ∙ sym key) (sym rule) is.piece over) role slot c.next).0 h.leaves;
+        leaves = (tells_all r k.flown.now.way.path.after k.facts piece (alike_over q.sale fs is.row h.row k.facts.reverse k.facts piece (is.row_of.key ∙ sym key) (sym rule) is.facts over.reads) role slot c.next).0 h.leaves;
         counts = h.counts;
       }
 
-  back : (c : Chosen) → IsGroupMove q r bound limit k.flown.now k.piece.reverse k.market.now k.group.now c → IsComponentMove r bound limit k c
+  back : (c : Chosen) → IsGroupMove q r bound limit k.flown.now k.facts.reverse k.market.now k.group.now c → IsComponentMove r bound limit k c
   back c h =
       let key = row_in h.fare h.of h.row h.stands in
       let rule = rule_in h.fare h.fare.place h.row h.stands key in (
@@ -121,13 +121,13 @@ module _ (b : Book) (q : Request) (r : State) (bound : State → Option ℕ) (li
           open_class = h.open_class;
           move = h.move;
           price = h.price ∙ ap (λ n. h.fare.share + n) (ap (λ x. extra_of x fs) rule ∙ sym is.charges);
-          leaves = (tells_all r k.flown.now.way.path.after h.piece k.piece (alike_over q.sale fs h.row is.row k.piece.reverse h.piece k.piece (key ∙ sym is.row_of.key) rule h.piece_is is.piece) h.role h.slot c.next).0 h.leaves;
+          leaves = (tells_all r k.flown.now.way.path.after h.piece k.facts (alike_over q.sale fs h.row is.row k.facts.reverse h.piece k.facts (key ∙ sym is.row_of.key) rule h.piece_is.reads is.facts) h.role h.slot c.next).0 h.leaves;
           counts = h.counts;
         },
       )
 
-  pub group_had : (old new : List Chosen) → Adds (IsComponentMove r bound limit k) old new → Adds (IsGroupMove q r bound limit k.flown.now k.piece.reverse k.market.now k.group.now) old new
-  group_had old new h = adds_like (IsComponentMove r bound limit k) (IsGroupMove q r bound limit k.flown.now k.piece.reverse k.market.now k.group.now) old new h (λ c. (forth c, back c))
+  pub group_had : (old new : List Chosen) → Adds (IsComponentMove r bound limit k) old new → Adds (IsGroupMove q r bound limit k.flown.now k.facts.reverse k.market.now k.group.now) old new
+  group_had old new h = adds_like (IsComponentMove r bound limit k) (IsGroupMove q r bound limit k.flown.now k.facts.reverse k.market.now k.group.now) old new h (λ c. (forth c, back c))
 
 module _ (b : Book) (q : Request) (r : State) (bound : State → Option ℕ) (limit : Option ℕ) (flown : Flown) (reverse : Bool) (m : Market) (is : IsOver b q r flown reverse m) where
   module _ (g : FareGroup) (i : IsIn g m.groups) where
@@ -191,22 +191,21 @@ module _ (b : Book) (q : Request) (r : State) (bound : State → Option ℕ) (li
       (subst (λ xs. Adds (Of (IsGroupMove q r bound limit flown reverse m) (take i xs)) a n) same h) one)
 
 -- what the calls know of a component
-pub component_is : (b : Book) (q : Request) (r : State) (k : Component) (reverse : Bool) (row : SheetRow) → k.piece.reverse ≡ reverse → IsOver b q r k.flown.now reverse k.market.now → IsIn k.group.now k.market.now.groups → IsRowIn k.market.now.sheet.value.rows k.group.now row
-    → OnFirst (λ f. (k.piece.begin ≡ f.from) × (k.piece.first_day ≡ f.day)) k.flown.now.way.flights → OnLast (λ f. (k.piece.end ≡ f.to) × (k.piece.last_day ≡ f.day)) k.flown.now.way.flights → k.piece.fare ≡ row.fare → k.piece.rule ≡ row.rule → k.piece.sale ≡ q.sale
-    → Permits row.rule k.group.now.key.carrier k.flown.now.way.flights → k.charges ≡ extra_of row.rule k.flown.now.way.flights → k.charges ≤ 35000000 → PieceInRanges k.piece → IsComponent b q r k
-component_is b q r k reverse row same over i of begins ends fare rule sale permits charges low ranges = record {
-  over = subst (λ t. IsOver b q r k.flown.now t k.market.now) (sym same) over;
+pub component_is : (b : Book) (q : Request) (r : State) (k : Component) (reverse : Bool) (row : SheetRow) → IsReadOver q.sale k.flown.now.way.flights row reverse k.facts → IsOver b q r k.flown.now reverse k.market.now → IsIn k.group.now k.market.now.groups → IsRowIn k.market.now.sheet.value.rows k.group.now row
+    → Permits row.rule k.group.now.key.carrier k.flown.now.way.flights → k.charges ≡ extra_of row.rule k.flown.now.way.flights → k.charges ≤ 35000000 → PieceInRanges k.facts → IsComponent b q r k
+component_is b q r k reverse row read over i of permits charges low ranges = record {
+  over = subst (λ t. IsOver b q r k.flown.now t k.market.now) (sym read.reverse_is) over;
   within = i;
   row = row;
   row_of = of;
-  piece = record { begins = begins; ends = ends; fare = fare; rule = rule; reverse_is = refl; sale_is = sale };
+  facts = subst (λ t. IsReadOver q.sale k.flown.now.way.flights row t k.facts) (sym read.reverse_is) read;
   permits = permits;
   charges = charges;
   low = low;
   ranges = ranges;
 }
 
-pub group_done : (b : Book) (q : Request) (r : State) (bound : State → Option ℕ) (limit : Option ℕ) (k : Component) (reverse : Bool) {A E : Type 0} (result : Result A E) (old new : List Chosen) → k.piece.reverse ≡ reverse → OnOk result (Adds (IsComponentMove r bound limit k) old new) → IsComponent b q r k
+pub group_done : (b : Book) (q : Request) (r : State) (bound : State → Option ℕ) (limit : Option ℕ) (k : Component) (reverse : Bool) {A E : Type 0} (result : Result A E) (old new : List Chosen) → k.facts.reverse ≡ reverse → OnOk result (Adds (IsComponentMove r bound limit k) old new) → IsComponent b q r k
     → OnOk result (Adds (IsGroupMove q r bound limit k.flown.now reverse k.market.now k.group.now) old new)
 group_done b q r bound limit k reverse result old new same h is = on_ok result (Adds (IsComponentMove r bound limit k) old new) (Adds (IsGroupMove q r bound limit k.flown.now reverse k.market.now k.group.now) old new)
     (λ a. subst (λ t. Adds (IsGroupMove q r bound limit k.flown.now t k.market.now k.group.now) old new) same (group_had b q r bound limit k is old new a)) h

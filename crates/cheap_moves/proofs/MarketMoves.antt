@@ -82,7 +82,7 @@ module _ (b : Book) (q : Request) (r : State) (bound : State → Option ℕ) (li
       slot_is = ap (λ (x : Move). x.slot) h.move
 
       way : closes c.mv.role ≡ reverse
-      way = ap closes role_is ∙ sym (direction h.role h.slot r.units h.leaves.units h.piece h.leaves.step) ∙ h.piece_is.reverse_is
+      way = ap closes role_is ∙ sym (direction h.role h.slot r.units h.leaves.units h.piece h.leaves.step) ∙ h.piece_is.reads.reverse_is
 
       at_path : IsPath b q.slices r.at c.mv.flights fs path.after
       at_path = subst (λ xs. IsPath b q.slices r.at xs fs path.after) (sym ns) is.over.path_is
@@ -117,17 +117,17 @@ module _ (b : Book) (q : Request) (r : State) (bound : State → Option ℕ) (li
       }
 
       over : IsOverRow q c.mv fs h.row h.piece
-      over = record { begins = h.piece_is.begins; ends = h.piece_is.ends; fare = h.piece_is.fare; rule = h.piece_is.rule; reverse = h.piece_is.reverse_is ∙ sym way; sale = h.piece_is.sale_is }
+      over = record { begins = h.piece_is.reads.begins; ends = h.piece_is.reads.ends; fare = h.piece_is.fare; rule = h.piece_is.reads.rule; reverse = h.piece_is.reads.reverse_is ∙ sym way; sale = h.piece_is.reads.sale_is }
 
       costs : c.price ≡ price_of fs h.piece
-      costs = h.price ∙ ap (λ (f : GroupedFare). f.share + extra_of h.row.rule fs) fare_is ∙ sym (priced_by_group h.row.rule fs h.row refl) ∙ sym (ap₂ (λ f x. share f.kind f.amount + stopover_charge x fs + surcharges x.cat12 fs) h.piece_is.fare h.piece_is.rule)
+      costs = h.price ∙ ap (λ (f : GroupedFare). f.share + extra_of h.row.rule fs) fare_is ∙ sym (priced_by_group h.row.rule fs h.row refl) ∙ sym (ap₂ (λ f x. share f.kind f.amount + stopover_charge x fs + surcharges x.cat12 fs) h.piece_is.fare h.piece_is.reads.rule)
 
       leaves : Leaves r path.after h.piece c.mv.role c.mv.slot c.next
       leaves = subst (λ x. Leaves r path.after h.piece x c.mv.slot c.next) (sym role_is) (subst (λ x. Leaves r path.after h.piece h.role x c.next) (sym slot_is) h.leaves)
 
       chosen : IsChosen b q r (record { mv = c.mv; price = c.price; next = c.next })
       chosen = taken_at b q r c.mv fs path.after at_path h.row h.piece live over
-          (offered_lawful b q.party fs legs h.row h.piece is.over.legs_are.each is.over.legs_are.flights h.piece_is.fare h.piece_is.rule (class_low h.row j) is.over.path_is.shape offered) c.price costs c.next leaves
+          (offered_lawful b q.party fs legs h.row h.piece is.over.legs_are.each is.over.legs_are.flights h.piece_is.fare h.piece_is.reads.rule (class_low h.row j) is.over.path_is.shape offered) c.price costs c.next leaves
 
   -- and each move is given
   back : (c : Chosen) → IsWithinFiled b q r bound limit path.flights reverse c → Of (IsGroupMove q r bound limit flown reverse m) m.groups c
@@ -143,12 +143,17 @@ module _ (b : Book) (q : Request) (r : State) (bound : State → Option ℕ) (li
       permits = subst (Permits row.rule once.group.key.carrier) is.over.legs_are.flights parts.0;
       piece = p;
       piece_is = record {
-        begins = subst (OnFirst (λ f. (p.begin ≡ f.from) × (p.first_day ≡ f.day))) same.0 chosen.moves.stands.begins;
-        ends = subst (OnLast (λ f. (p.end ≡ f.to) × (p.last_day ≡ f.day))) same.0 chosen.moves.stands.ends;
         fare = refl;
-        rule = refl;
-        reverse_is = direction c.mv.role c.mv.slot r.units chosen.units p chosen.moves.units ∙ way;
-        sale_is = chosen.moves.stands.sale_is;
+        reads = record {
+          begins = subst (OnFirst (λ f. (p.begin ≡ f.from) × (p.first_day ≡ f.day))) same.0 chosen.moves.stands.begins;
+          ends = subst (OnLast (λ f. (p.end ≡ f.to) × (p.last_day ≡ f.day))) same.0 chosen.moves.stands.ends;
+          carrier = refl;
+          number = refl;
+          kind = refl;
+          rule = refl;
+          reverse_is = direction c.mv.role c.mv.slot r.units chosen.units p chosen.moves.units ∙ way;
+          sale_is = chosen.moves.stands.sale_is;
+        };
       };
       role = c.mv.role;
       slot = c.mv.slot;

@@ -24,11 +24,11 @@ none_some o x h k = cc
 
 module _ (r : State) (bound : State → Option ℕ) (limit : Option ℕ) (k : Component) where
   abbrev L : Role → ℕ → Next → Type 0
-  L role slot next = Leaves r k.flown.now.way.path.after k.piece role slot next
+  L role slot next = Leaves r k.flown.now.way.path.after k.facts role slot next
 
   -- a component leaves one thing
   leaves_one : (role : Role) (slot : ℕ) (x y : Next) → L role slot x → L role slot y → x ≡ y
-  leaves_one role slot x y h l = h.left ∙ ap (λ us. left_at k.flown.now.way.path.after us (part_with r.part (begins role) k.piece)) (units_one role slot r.units h.units l.units k.piece h.step l.step) ∙ sym l.left
+  leaves_one role slot x y h l = h.left ∙ ap (λ us. left_at k.flown.now.way.path.after us (part_with r.part (begins role) k.facts)) (units_one role slot r.units h.units l.units k.facts h.step l.step) ∙ sym l.left
 
   pub role_none : (role : Role) (slot : ℕ) (old : List Chosen) → ((next : Next) → L role slot next → ⊥) → Adds (IsRoleMove r bound limit k role slot) old old
   role_none role slot old none = adds_none (IsRoleMove r bound limit k role slot) old (λ c h. none c.next h.leaves)
@@ -80,11 +80,11 @@ module _ (r : State) (bound : State → Option ℕ) (limit : Option ℕ) (k : Co
   other_slot : (role : Role) (slot slot' : ℕ) (x y : Chosen) → (slot ≡ slot' → ⊥) → Q role slot x → Q role slot' y → x.mv ≢ y.mv
   other_slot role slot slot' x y ne h l e = ne (ap (λ (m : Move). m.slot) (sym h.move ∙ e ∙ l.move))
 
-  way_is : (role : Role) (slot : ℕ) (c : Chosen) → Q role slot c → k.piece.reverse ≡ closes role
-  way_is role slot c h = direction role slot r.units h.leaves.units k.piece h.leaves.step
+  way_is : (role : Role) (slot : ℕ) (c : Chosen) → Q role slot c → k.facts.reverse ≡ closes role
+  way_is role slot c h = direction role slot r.units h.leaves.units k.facts h.leaves.step
 
   -- a fare that is filed forward
-  forward_in : length r.units ≤ 2 → k.piece.reverse ≡ false → (c : Chosen) (role : Role) (slot : ℕ) → Q role slot c → ((Q Alone 0 c ⊎ Q Opens 0 c) ⊎ Q GoesOn 0 c) ⊎ Q GoesOn 1 c
+  forward_in : length r.units ≤ 2 → k.facts.reverse ≡ false → (c : Chosen) (role : Role) (slot : ℕ) → Q role slot c → ((Q Alone 0 c ⊎ Q Opens 0 c) ⊎ Q GoesOn 0 c) ⊎ Q GoesOn 1 c
   forward_in few e c Alone slot h = inl (inl (inl (subst (λ s. Q Alone s c) h.leaves.step.0 h)))
   forward_in few e c Opens slot h = inl (inl (inr (subst (λ s. Q Opens s c) h.leaves.step.0 h)))
   forward_in few e c GoesOn slot h = elim (places r.units slot h.leaves.step.0 few h.leaves.step.1) [ inl s ↦ inl (inr (subst (λ s. Q GoesOn s c) s h)) | inr s ↦ inr (subst (λ s. Q GoesOn s c) s h) ]
@@ -96,7 +96,7 @@ module _ (r : State) (bound : State → Option ℕ) (limit : Option ℕ) (k : Co
   forward_out c (inl (inr h)) = (GoesOn, 0, h)
   forward_out c (inr h) = (GoesOn, 1, h)
 
-  pub forward_roles : length r.units ≤ 2 → k.piece.reverse ≡ false → (a b c d e : List Chosen) → Adds (Q Alone 0) a b → Adds (Q Opens 0) b c → Adds (Q GoesOn 0) c d → Adds (Q GoesOn 1) d e → Adds (IsComponentMove r bound limit k) a e
+  pub forward_roles : length r.units ≤ 2 → k.facts.reverse ≡ false → (a b c d e : List Chosen) → Adds (Q Alone 0) a b → Adds (Q Opens 0) b c → Adds (Q GoesOn 0) c d → Adds (Q GoesOn 1) d e → Adds (IsComponentMove r bound limit k) a e
   forward_roles few f a b c d e h1 h2 h3 h4 =
       let two = adds_then (Q Alone 0) (Q Opens 0) a b c h1 h2 (λ x y i j. other_role Alone Opens 0 0 x y (λ n. cc) i j) in
       let three = adds_then (λ z. Q Alone 0 z ⊎ Q Opens 0 z) (Q GoesOn 0) a c d two h3 (λ x y i j. elim i [ inl l ↦ other_role Alone GoesOn 0 0 x y (λ n. cc) l j | inr l ↦ other_role Opens GoesOn 0 0 x y (λ n. cc) l j ]) in
@@ -105,13 +105,13 @@ module _ (r : State) (bound : State → Option ℕ) (limit : Option ℕ) (k : Co
       adds_like (λ z. ((Q Alone 0 z ⊎ Q Opens 0 z) ⊎ Q GoesOn 0 z) ⊎ Q GoesOn 1 z) (IsComponentMove r bound limit k) a e four (λ z. (forward_out z, λ m. forward_in few f z m.0 m.1 m.2))
 
   -- one that is filed in reverse
-  back_in : length r.units ≤ 2 → k.piece.reverse ≡ true → (c : Chosen) (role : Role) (slot : ℕ) → Q role slot c → Q Closes 0 c ⊎ Q Closes 1 c
+  back_in : length r.units ≤ 2 → k.facts.reverse ≡ true → (c : Chosen) (role : Role) (slot : ℕ) → Q role slot c → Q Closes 0 c ⊎ Q Closes 1 c
   back_in few e c Alone slot h = absurd (clash e (way_is Alone slot c h))
   back_in few e c Opens slot h = absurd (clash e (way_is Opens slot c h))
   back_in few e c GoesOn slot h = absurd (clash e (way_is GoesOn slot c h))
   back_in few e c Closes slot h = elim (places r.units slot h.leaves.step.0 few h.leaves.step.1) [ inl s ↦ inl (subst (λ s. Q Closes s c) s h) | inr s ↦ inr (subst (λ s. Q Closes s c) s h) ]
 
-  pub back_roles : length r.units ≤ 2 → k.piece.reverse ≡ true → (a b c : List Chosen) → Adds (Q Closes 0) a b → Adds (Q Closes 1) b c → Adds (IsComponentMove r bound limit k) a c
+  pub back_roles : length r.units ≤ 2 → k.facts.reverse ≡ true → (a b c : List Chosen) → Adds (Q Closes 0) a b → Adds (Q Closes 1) b c → Adds (IsComponentMove r bound limit k) a c
   back_roles few e a b c h1 h2 =
       adds_like (λ z. Q Closes 0 z ⊎ Q Closes 1 z) (IsComponentMove r bound limit k) a c (adds_then (Q Closes 0) (Q Closes 1) a b c h1 h2 (λ x y i j. other_slot Closes 0 1 x y (λ n. cc) i j))
       (λ z. (λ i. elim i [ inl h ↦ (Closes, 0, h) | inr h ↦ (Closes, 1, h) ], λ m. back_in few e z m.0 m.1 m.2))

@@ -40,14 +40,21 @@ pub record IsOver (b : Book) (q : Request) (r : State) (flown : Flown) (reverse 
   pub over : OverMarket b q r.at flown.way.path flown.way.flights flown.way.legs flown.classes reverse m.sheet.value m.groups
   pub limits : All IsFlight flown.way.flights
 
--- what a fare of this row over these flights is to a unit and to a ticket
-pub record IsPieceOver (sale : ℤ) (fs : List Flight) (row : SheetRow) (reverse : Bool) (p : Piece) : Type 0 where
+-- what units and tickets read of a fare of this row over these flights
+pub record IsReadOver (sale : ℤ) (fs : List Flight) (row : SheetRow) (reverse : Bool) (p : Piece) : Type 0 where
   pub begins : OnFirst (λ f. (p.begin ≡ f.from) × (p.first_day ≡ f.day)) fs
   pub ends : OnLast (λ f. (p.end ≡ f.to) × (p.last_day ≡ f.day)) fs
-  pub fare : p.fare ≡ row.fare
+  pub carrier : p.fare.key.carrier ≡ row.fare.key.carrier
+  pub number : p.fare.rule ≡ row.fare.rule
+  pub kind : p.fare.kind ≡ row.fare.kind
   pub rule : p.rule ≡ row.rule
   pub reverse_is : p.reverse ≡ reverse
   pub sale_is : p.sale ≡ sale
+
+-- the piece of a fare of this row over these flights
+pub record IsPieceOver (sale : ℤ) (fs : List Flight) (row : SheetRow) (reverse : Bool) (p : Piece) : Type 0 where
+  pub fare : p.fare ≡ row.fare
+  pub reads : IsReadOver sale fs row reverse p
 
 -- the row of some fare of a group
 pub record IsRowIn (rows : List SheetRow) (g : FareGroup) (row : SheetRow) : Type 0 where
@@ -61,15 +68,15 @@ pub record HasRows (rows : List SheetRow) (g : FareGroup) : Type 0 where
 
 -- The components of a group's fares on a flown path: its rule permits the flights, and adds these charges.
 pub record IsComponent (b : Book) (q : Request) (r : State) (k : Component) : Type 0 where
-  pub over : IsOver b q r k.flown.now k.piece.reverse k.market.now
+  pub over : IsOver b q r k.flown.now k.facts.reverse k.market.now
   pub within : IsIn k.group.now k.market.now.groups
   pub row : SheetRow
   pub row_of : IsRowIn k.market.now.sheet.value.rows k.group.now row
-  pub piece : IsPieceOver q.sale k.flown.now.way.flights row k.piece.reverse k.piece
+  pub facts : IsReadOver q.sale k.flown.now.way.flights row k.facts.reverse k.facts
   pub permits : Permits row.rule k.group.now.key.carrier k.flown.now.way.flights
   pub charges : k.charges ≡ extra_of row.rule k.flown.now.way.flights
   pub low : k.charges ≤ 35000000
-  pub ranges : PieceInRanges k.piece
+  pub ranges : PieceInRanges k.facts
 
 -- The move of a component with this fare, which goes on like this, within the limit.
 pub record IsFareMove (k : Component) (limit : Option ℕ) (way : Onward) (f : GroupedFare) (c : Chosen) : Type 0 where
@@ -90,7 +97,7 @@ pub record IsRoleMove (r : State) (bound : State → Option ℕ) (limit : Option
   pub open_class : IsBitSet k.flown.now.classes fare.class
   pub move : c.mv ≡ record { flights = k.flown.now.way.path.flights; carrier = row.fare.key.carrier; basis = row.fare.key.basis; role = role; slot = slot }
   pub price : c.price ≡ fare.share + k.charges
-  pub leaves : Leaves r k.flown.now.way.path.after k.piece role slot c.next
+  pub leaves : Leaves r k.flown.now.way.path.after k.facts role slot c.next
   pub counts : CountsWithin bound limit c
 
 -- in some role and slot

@@ -2,7 +2,6 @@
 ghost use Rattle.std.specs.Prelude.{◌≡◌, ◌≤◌, ◌+◌, ℕ, false, true, IfOk, OnOk};
 ghost use Rattle.cheap_moves.specs.Leads.{AreLeads, IsUpTo, LeadAdded, LeastAs, LeastOf};
 ghost use Rattle.component_table.specs.Tables.{IsTable};
-ghost use Rattle.fare_law.specs.Days.{IsCalendarDay};
 ghost use Rattle.fare_law.specs.Limits.{IsRequest};
 ghost use Rattle.open_unit.specs.Ranges.{PieceInRanges};
 ghost use Rattle.outlines.specs.Outcomes.{EntryWithin};
@@ -10,11 +9,9 @@ ghost use Rattle.outlines.specs.Outlines.{piece_of};
 
 use crate::MoveSearch;
 use crate::bounds::{ResidualBounds, rest_after};
-use fare_book::copied_rule;
-use fare_law::{ArrayVec, Basis, Fare, FareKey, List, Mem, Piece, Place, Role};
-use outlines::{Entry, Outline};
-use residual_keys::next_after;
-use rule_unit::rules_stay_in_range;
+use fare_law::{List, Mem, Role};
+use open_unit::Facts;
+use outlines::{Entry, Outline, facts_of, next_by};
 use std::alloc::Global;
 
 /// An outline of a residual's position, and a total that no move by a component of it is below.
@@ -52,8 +49,8 @@ fn add_entry<B: ResidualBounds>(
     ensures { OnOk result (LeadAdded search.now.request.now search.now.residual.now (B.bound search.now.bounds.now) entry.now leads.old leads.new) }
 {
     let residual = search.residual;
-    let piece = piece_of(residual.at.place, search.request.sale, entry);
-    match least_total(search, entry, &piece) {
+    let facts = facts_of(residual.at.place, search.request.sale, entry);
+    match least_total(search, entry, &facts) {
         Some(total) => leads.push(Lead {
             outline: entry.outline,
             total,
@@ -66,16 +63,16 @@ fn add_entry<B: ResidualBounds>(
 fn least_total<B: ResidualBounds>(
     search: &MoveSearch<'_, B>,
     entry: &Entry,
-    piece: &Piece,
+    facts: &Facts<'_>,
 ) -> Option<u128>
-    requires piece { piece.now ≡ piece_of search.now.residual.now.at.place search.now.request.now.sale entry.now.rule entry.now.outline }
-    requires in_ranges { PieceInRanges piece.now }
+    requires facts { facts.now ≡ piece_of search.now.residual.now.at.place search.now.request.now.sale entry.now.rule entry.now.outline }
+    requires in_ranges { PieceInRanges facts.now }
     ensures { LeastOf search.now.request.now search.now.residual.now (B.bound search.now.bounds.now) entry.now result }
 {
     if entry.outline.reverse {
-        least_closing(search, entry, piece)
+        least_closing(search, entry, facts)
     } else {
-        least_forward(search, entry, piece)
+        least_forward(search, entry, facts)
     }
 }
 
@@ -83,17 +80,17 @@ fn least_total<B: ResidualBounds>(
 fn least_closing<B: ResidualBounds>(
     search: &MoveSearch<'_, B>,
     entry: &Entry,
-    piece: &Piece,
+    facts: &Facts<'_>,
 ) -> Option<u128>
-    requires piece { piece.now ≡ piece_of search.now.residual.now.at.place search.now.request.now.sale entry.now.rule entry.now.outline }
-    requires in_ranges { PieceInRanges piece.now }
+    requires facts { facts.now ≡ piece_of search.now.residual.now.at.place search.now.request.now.sale entry.now.rule entry.now.outline }
+    requires in_ranges { PieceInRanges facts.now }
     requires reverse { entry.now.outline.reverse ≡ true }
     ensures { LeastOf search.now.request.now search.now.residual.now (B.bound search.now.bounds.now) entry.now result }
 {
     search.residual.keeps();
     lesser(
-        total_as(search, entry, piece, Role::Closes, 0),
-        total_as(search, entry, piece, Role::Closes, 1),
+        total_as(search, entry, facts, Role::Closes, 0),
+        total_as(search, entry, facts, Role::Closes, 1),
     )
 }
 
@@ -101,21 +98,21 @@ fn least_closing<B: ResidualBounds>(
 fn least_forward<B: ResidualBounds>(
     search: &MoveSearch<'_, B>,
     entry: &Entry,
-    piece: &Piece,
+    facts: &Facts<'_>,
 ) -> Option<u128>
-    requires piece { piece.now ≡ piece_of search.now.residual.now.at.place search.now.request.now.sale entry.now.rule entry.now.outline }
-    requires in_ranges { PieceInRanges piece.now }
+    requires facts { facts.now ≡ piece_of search.now.residual.now.at.place search.now.request.now.sale entry.now.rule entry.now.outline }
+    requires in_ranges { PieceInRanges facts.now }
     requires forward { entry.now.outline.reverse ≡ false }
     ensures { LeastOf search.now.request.now search.now.residual.now (B.bound search.now.bounds.now) entry.now result }
 {
     search.residual.keeps();
     let begun = lesser(
-        total_as(search, entry, piece, Role::Alone, 0),
-        total_as(search, entry, piece, Role::Opens, 0),
+        total_as(search, entry, facts, Role::Alone, 0),
+        total_as(search, entry, facts, Role::Opens, 0),
     );
     let gone_on = lesser(
-        total_as(search, entry, piece, Role::GoesOn, 0),
-        total_as(search, entry, piece, Role::GoesOn, 1),
+        total_as(search, entry, facts, Role::GoesOn, 0),
+        total_as(search, entry, facts, Role::GoesOn, 1),
     );
     lesser(begun, gone_on)
 }
@@ -136,47 +133,15 @@ fn lesser(one: Option<u128>, other: Option<u128>) -> Option<u128>
 fn total_as<B: ResidualBounds>(
     search: &MoveSearch<'_, B>,
     entry: &Entry,
-    piece: &Piece,
+    facts: &Facts<'_>,
     role: Role,
     slot: u8,
 ) -> Option<u128>
-    requires piece { piece.now ≡ piece_of search.now.residual.now.at.place search.now.request.now.sale entry.now.rule entry.now.outline }
-    requires in_ranges { PieceInRanges piece.now }
+    requires facts { facts.now ≡ piece_of search.now.residual.now.at.place search.now.request.now.sale entry.now.rule entry.now.outline }
+    requires in_ranges { PieceInRanges facts.now }
     ensures { LeastAs search.now.request.now search.now.residual.now (B.bound search.now.bounds.now) entry.now role slot result }
 {
-    let next = next_after(search.residual, entry.outline.after, piece, role, slot)?;
+    let next = next_by(search.residual, entry.outline.after, facts, role, slot)?;
     let rest = rest_after(search.bounds, &next)?;
     Some(u128::from(entry.price) + u128::from(rest))
-}
-
-/// What a component of an entry is to a unit and to a ticket: it begins at this place and is sold on this day.
-fn piece_of(begin: Place, sale: i32, entry: &Entry) -> Piece
-    requires sale { IsCalendarDay sale }
-    requires within { EntryWithin entry.now }
-    ensures piece { result ≡ piece_of begin sale entry.now.rule entry.now.outline }
-    ensures in_ranges { PieceInRanges result }
-{
-    rules_stay_in_range();
-    let outline = entry.outline;
-    Piece {
-        begin,
-        end: outline.end,
-        fare: Fare {
-            key: FareKey {
-                carrier: outline.carrier,
-                from: begin,
-                to: outline.end,
-                basis: Basis(ArrayVec::new()),
-            },
-            class: 0,
-            kind: outline.kind,
-            amount: 0,
-            rule: outline.number,
-        },
-        rule: copied_rule(&entry.rule),
-        reverse: outline.reverse,
-        first_day: outline.first,
-        last_day: outline.last,
-        sale,
-    }
 }

@@ -8,7 +8,8 @@ use crate::bounds::{ResidualBounds, rest_after};
 use crate::component::{Component, Onward};
 use crate::fares::add_fares;
 use fare_law::{List, Mem, Role};
-use residual_keys::{Chosen, next_after};
+use outlines::next_by;
+use residual_keys::Chosen;
 
 /// Adds the moves of a component that are within the limit, in whatever role and slot it may have.
 pub fn add_component<B: ResidualBounds>(
@@ -19,7 +20,8 @@ pub fn add_component<B: ResidualBounds>(
     requires { IsComponent search.now.book.now search.now.request.now search.now.residual.now component.now }
     ensures { OnOk result (Adds (IsComponentMove search.now.residual.now (B.bound search.now.bounds.now) search.now.limit component.now) found.old found.new) }
 {
-    if component.piece.reverse {
+    let facts = &component.facts;
+    if facts.reverse {
         add_closing(found, search, component)
     } else {
         add_forward(found, search, component)
@@ -33,7 +35,7 @@ fn add_closing<B: ResidualBounds>(
     component: &Component<'_>,
 ) -> Result<(), Mem>
     requires component { IsComponent search.now.book.now search.now.request.now search.now.residual.now component.now }
-    requires reverse { component.now.piece.reverse ≡ true }
+    requires reverse { component.now.facts.reverse ≡ true }
     ensures { OnOk result (Adds (IsComponentMove search.now.residual.now (B.bound search.now.bounds.now) search.now.limit component.now) found.old found.new) }
 {
     search.residual.keeps();
@@ -48,7 +50,7 @@ fn add_forward<B: ResidualBounds>(
     component: &Component<'_>,
 ) -> Result<(), Mem>
     requires component { IsComponent search.now.book.now search.now.request.now search.now.residual.now component.now }
-    requires forward { component.now.piece.reverse ≡ false }
+    requires forward { component.now.facts.reverse ≡ false }
     ensures { OnOk result (Adds (IsComponentMove search.now.residual.now (B.bound search.now.bounds.now) search.now.limit component.now) found.old found.new) }
 {
     search.residual.keeps();
@@ -70,7 +72,7 @@ fn add_role<B: ResidualBounds>(
     ensures { OnOk result (Adds (IsRoleMove search.now.residual.now (B.bound search.now.bounds.now) search.now.limit component.now role slot) found.old found.new) }
 {
     let after = component.flown.way.path.after;
-    let Some(next) = next_after(search.residual, after, &component.piece, role, slot) else {
+    let Some(next) = next_by(search.residual, after, &component.facts, role, slot) else {
         return Ok(());
     };
     let Some(rest) = rest_after(search.bounds, &next) else {

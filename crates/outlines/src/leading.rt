@@ -4,13 +4,12 @@ ghost use Rattle.fare_law.specs.Days.{IsCalendarDay};
 ghost use Rattle.fare_law.specs.Limits.{IsRequest};
 ghost use Rattle.fare_law.specs.Lists.{Each, IsIn};
 ghost use Rattle.outlines.specs.Outcomes.{EntryWithin, GivesOutcomes, Grows, IsTried, LeadsAs, LeadsTo};
-ghost use Rattle.outlines.specs.Outlines.{piece_of};
 
+use crate::leaving::next_by;
+use crate::reading::facts_of;
 use crate::{Entry, Outcome};
-use fare_book::copied_rule;
-use fare_law::{ArrayVec, Basis, Fare, FareKey, List, Mem, Piece, Place, Request, Role};
-use residual_keys::{Residual, next_after};
-use rule_unit::rules_stay_in_range;
+use fare_law::{List, Mem, Request, Role};
+use residual_keys::Residual;
 use std::alloc::Global;
 
 /// What the components of a table leave of a residual, each entry tried in each role and slot. Where
@@ -80,9 +79,8 @@ fn add_role(
     requires within { EntryWithin entry.now }
     ensures { OnOk result (Grows (LeadsAs request.now residual.now entry.now role slot) found.old found.new) }
 {
-    rules_stay_in_range();
-    let piece = piece_of(residual.at.place, request.sale, entry);
-    match next_after(residual, entry.outline.after, &piece, role, slot) {
+    let facts = facts_of(residual.at.place, request.sale, entry);
+    match next_by(residual, entry.outline.after, &facts, role, slot) {
         Some(next) => {
             found.push(Outcome {
                 next,
@@ -91,33 +89,5 @@ fn add_role(
             Ok(())
         }
         None => Ok(()),
-    }
-}
-
-/// The piece that is written from an outline: it begins at this place and is sold on this day.
-pub fn piece_of(begin: Place, sale: i32, entry: &Entry) -> Piece
-    ensures { result ≡ piece_of begin sale entry.now.rule entry.now.outline }
-{
-    let outline = entry.outline;
-    Piece {
-        begin,
-        end: outline.end,
-        fare: Fare {
-            key: FareKey {
-                carrier: outline.carrier,
-                from: begin,
-                to: outline.end,
-                basis: Basis(ArrayVec::new()),
-            },
-            class: 0,
-            kind: outline.kind,
-            amount: 0,
-            rule: outline.number,
-        },
-        rule: copied_rule(&entry.rule),
-        reverse: outline.reverse,
-        first_day: outline.first,
-        last_day: outline.last,
-        sale,
     }
 }

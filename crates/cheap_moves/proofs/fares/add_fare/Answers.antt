@@ -9,19 +9,19 @@ pub is_open-requires : goal.is_open-requires
 is_open-requires g c =
     let k = c.args.component.now in
     let is = c.requires.component in
-    class_low c.args.search.now.book.now c.args.search.now.request.now c.args.search.now.residual.now.at k.flown.now.way.path k.flown.now.way.flights k.flown.now.way.legs k.flown.now.classes k.piece.reverse k.market.now.sheet.value k.market.now.groups is.over.over k.group.now is.within c.args.fare.now c.requires.fare
+    class_low c.args.search.now.book.now c.args.search.now.request.now c.args.search.now.residual.now.at k.flown.now.way.path k.flown.now.way.flights k.flown.now.way.legs k.flown.now.classes k.facts.reverse k.market.now.sheet.value k.market.now.groups is.over.over k.group.now is.within c.args.fare.now c.requires.fare
 
 pub sum-price-requires-clause-share : goal.sum-price-requires-clause-share
 sum-price-requires-clause-share g c =
     let k = c.args.component.now in
     let is = c.requires.component in
-    share_low c.args.search.now.book.now c.args.search.now.request.now c.args.search.now.residual.now.at k.flown.now.way.path k.flown.now.way.flights k.flown.now.way.legs k.flown.now.classes k.piece.reverse k.market.now.sheet.value k.market.now.groups is.over.over k.group.now is.within c.args.fare.now c.requires.fare
+    share_low c.args.search.now.book.now c.args.search.now.request.now c.args.search.now.residual.now.at k.flown.now.way.path k.flown.now.way.flights k.flown.now.way.legs k.flown.now.classes k.facts.reverse k.market.now.sheet.value k.market.now.groups is.over.over k.group.now is.within c.args.fare.now c.requires.fare
 
 pub bounds-as_slice-fare : goal.bounds-as_slice-fare
 bounds-as_slice-fare g c =
     let k = c.args.component.now in
     let is = c.requires.component in
-    let lt = place_low c.args.search.now.book.now c.args.search.now.request.now c.args.search.now.residual.now.at k.flown.now.way.path k.flown.now.way.flights k.flown.now.way.legs k.flown.now.classes k.piece.reverse k.market.now.sheet.value k.market.now.groups is.over.over k.group.now is.within c.args.fare.now c.requires.fare in
+    let lt = place_low c.args.search.now.book.now c.args.search.now.request.now c.args.search.now.residual.now.at k.flown.now.way.path k.flown.now.way.flights k.flown.now.way.legs k.flown.now.classes k.facts.reverse k.market.now.sheet.value k.market.now.groups is.over.over k.group.now is.within c.args.fare.now c.requires.fare in
     subst (λ rows. c.args.fare.now.place < length rows) (sym (c.as_slice.ensures ∙ ap (λ (s : Sheet). s.rows) (c.sheet.view_is ∙ c.deref-sheet.ensures))) lt
 
 pub returns : goal.returns
@@ -30,7 +30,7 @@ returns g c =
     let is = c.requires.component in
     let f = c.args.fare.now in
     let limit = c.args.search.now.limit in
-    let x = row_at c.args.search.now.book.now c.args.search.now.request.now c.args.search.now.residual.now.at k.flown.now.way.path k.flown.now.way.flights k.flown.now.way.legs k.flown.now.classes k.piece.reverse k.market.now.sheet.value k.market.now.groups is.over.over k.group.now is.within f c.requires.fare in
+    let x = row_at c.args.search.now.book.now c.args.search.now.request.now c.args.search.now.residual.now.at k.flown.now.way.path k.flown.now.way.flights k.flown.now.way.legs k.flown.now.classes k.facts.reverse k.market.now.sheet.value k.market.now.groups is.over.over k.group.now is.within f c.requires.fare in
     let rows = c.as_slice.ensures ∙ ap (λ (s : Sheet). s.rows) (c.sheet.view_is ∙ c.deref-sheet.ensures) in
     let same = got_same k.market.now.sheet.value.rows c.as_slice.result.now f.place _ x.row c.index-as_slice-fare.result rows c.index-as_slice-fare.is x.stands in
     let stands : slice_get k.market.now.sheet.value.rows f.place ≡ Some c.index-as_slice-fare.result = x.stands ∙ ap Some (sym same) in

@@ -1,5 +1,5 @@
 use Rattle.std.proofs.Common.{◌≡◌, ◌≤◌, rules, length, ap, sym, subst, ◌∙◌}
-use Rattle.cheap_moves.specs.Making.{HasRows, IsRowIn}
+use Rattle.cheap_moves.specs.Making.{HasRows, IsReadOver, IsRowIn}
 use Rattle.cheap_moves.specs.Within.{IsWithin}
 use Rattle.cheap_moves.proofs.FareMoves.{class_low}
 use Rattle.cheap_moves.proofs.GroupMoves.{component_is, group_done, has_row, none_cheap, none_open, none_permitted, rule_within}
@@ -7,7 +7,6 @@ use Rattle.cheap_moves.proofs.Looking.{clash, low_sum}
 use Rattle.fare_groups.specs.declared.group.GroupedFare.{GroupedFare}
 use Rattle.fare_groups.specs.Groups.{Permits, extra_of}
 use Rattle.fare_groups.proofs.Grouped.{in_each}
-use Rattle.fare_law.specs.Lists.{OnFirst, OnLast}
 use Rattle.fare_law.specs.Parts.{stopover_charge, surcharges}
 use Rattle.fare_law.specs.RuleLimits.{IsRule}
 use Rattle.fare_law.specs.Sheets.{Sheet}
@@ -50,8 +49,8 @@ returns-in_default-extra g c =
     c.args.found.now row of
     (λ p. c.in_default-extra.ensures.none (subst (Permits c.deref.result.now c.args.group.now.key.carrier) (sym c.as_slice-flights.ensures.items) (subst (λ x. Permits x c.args.group.now.key.carrier c.args.flown.now.way.flights) (sym c.deref.ensures) p)))
 
-pub piece_over-piece-requires-clause-rule : goal.piece_over-piece-requires-clause-rule
-piece_over-piece-requires-clause-rule g c =
+pub facts_over-facts-requires-clause-rule : goal.facts_over-facts-requires-clause-rule
+facts_over-facts-requires-clause-rule g c =
     let row = c.first_row-row.result.now in
     let of = subst (λ (s : Sheet). IsRowIn s.rows c.args.group.now row) c.deref-sheet.ensures c.first_row-row.ensures in
     rule_within c.args.search.now.book.now c.args.search.now.request.now c.args.search.now.residual.now (g.B.ResidualBounds.bound c.args.search.now.bounds.now) c.args.search.now.limit c.args.flown.now c.args.reverse c.args.market.now c.requires.over c.args.group.now c.requires.group row of
@@ -67,12 +66,11 @@ add_component-requires g c =
     let low = low_sum (stopover_charge r fs) (surcharges r.cat12 fs) c.in-Some-extra.charges (c.limits_are_met.ensures.charged r fs rule few) (c.limits_are_met.ensures.surcharged r fs rule few) c.in-Some-extra.ensures.some.1 in
     let permits = subst (λ x. Permits x c.args.group.now.key.carrier c.args.flown.now.way.flights) c.deref.ensures (subst (Permits r c.args.group.now.key.carrier) c.as_slice-flights.ensures.items c.in-Some-extra.ensures.some.0) in
     let charges = c.in-Some-extra.ensures.some.1 ∙ ap (λ gs. extra_of r gs) c.as_slice-flights.ensures.items ∙ ap (λ x. extra_of x c.args.flown.now.way.flights) c.deref.ensures in
-    let o = c.piece_over-piece.ensures in
-    let p = c.piece_over-piece.result in
+    let o = c.facts_over-facts.ensures in
+    let p = c.facts_over-facts.result in
     let sale : p.sale ≡ c.args.search.now.request.now.sale = search rules in
-    component_is c.args.search.now.book.now c.args.search.now.request.now c.args.search.now.residual.now _ c.args.reverse row o.reverse c.requires.over c.requires.group of
-    (subst (OnFirst (λ f. (p.begin ≡ f.from) × (p.first_day ≡ f.day))) c.as_slice-flights.ensures.items o.begins) (subst (OnLast (λ f. (p.end ≡ f.to) × (p.last_day ≡ f.day))) c.as_slice-flights.ensures.items o.ends)
-    o.fare o.rule sale permits charges low o.in_ranges
+    let read = subst (λ gs. IsReadOver c.args.search.now.request.now.sale gs row c.args.reverse p) c.as_slice-flights.ensures.items (subst (λ d. IsReadOver d fs row c.args.reverse p) (sym o.over.sale_is ∙ sale) o.over) in
+    component_is c.args.search.now.book.now c.args.search.now.request.now c.args.search.now.residual.now _ c.args.reverse row read c.requires.over c.requires.group of permits charges low o.in_ranges
 
 pub returns : goal.returns
 returns g c =
@@ -85,10 +83,9 @@ returns g c =
     let low = low_sum (stopover_charge r fs) (surcharges r.cat12 fs) c.in-Some-extra.charges (c.limits_are_met.ensures.charged r fs rule few) (c.limits_are_met.ensures.surcharged r fs rule few) c.in-Some-extra.ensures.some.1 in
     let permits = subst (λ x. Permits x c.args.group.now.key.carrier c.args.flown.now.way.flights) c.deref.ensures (subst (Permits r c.args.group.now.key.carrier) c.as_slice-flights.ensures.items c.in-Some-extra.ensures.some.0) in
     let charges = c.in-Some-extra.ensures.some.1 ∙ ap (λ gs. extra_of r gs) c.as_slice-flights.ensures.items ∙ ap (λ x. extra_of x c.args.flown.now.way.flights) c.deref.ensures in
-    let o = c.piece_over-piece.ensures in
-    let p = c.piece_over-piece.result in
+    let o = c.facts_over-facts.ensures in
+    let p = c.facts_over-facts.result in
     let sale : p.sale ≡ c.args.search.now.request.now.sale = search rules in
-    group_done c.args.search.now.book.now c.args.search.now.request.now c.args.search.now.residual.now (g.B.ResidualBounds.bound c.args.search.now.bounds.now) c.args.search.now.limit _ c.args.reverse c.add_component.result c.args.found.now c.add_component.new.found o.reverse c.add_component.ensures
-    (component_is c.args.search.now.book.now c.args.search.now.request.now c.args.search.now.residual.now _ c.args.reverse row o.reverse c.requires.over c.requires.group of
-    (subst (OnFirst (λ f. (p.begin ≡ f.from) × (p.first_day ≡ f.day))) c.as_slice-flights.ensures.items o.begins) (subst (OnLast (λ f. (p.end ≡ f.to) × (p.last_day ≡ f.day))) c.as_slice-flights.ensures.items o.ends)
-    o.fare o.rule sale permits charges low o.in_ranges)
+    let read = subst (λ gs. IsReadOver c.args.search.now.request.now.sale gs row c.args.reverse p) c.as_slice-flights.ensures.items (subst (λ d. IsReadOver d fs row c.args.reverse p) (sym o.over.sale_is ∙ sale) o.over) in
+    group_done c.args.search.now.book.now c.args.search.now.request.now c.args.search.now.residual.now (g.B.ResidualBounds.bound c.args.search.now.bounds.now) c.args.search.now.limit _ c.args.reverse c.add_component.result c.args.found.now c.add_component.new.found read.reverse_is c.add_component.ensures
+    (component_is c.args.search.now.book.now c.args.search.now.request.now c.args.search.now.residual.now _ c.args.reverse row read c.requires.over c.requires.group of permits charges low o.in_ranges)

@@ -9,8 +9,8 @@ returns-in_ok-push-in-Some c =
     let q = c.args.request.now in
     let r = c.args.residual.now in
     let e = c.args.entry.now in
-    let sale : c.piece_of-piece.result.sale ≡ q.sale = search rules in
-    let is : c.piece_of-piece.result ≡ piece_of r.at.place q.sale e.rule e.outline = piece_told e.rule e.outline _ r _ q.sale c.piece_of-piece.result c.piece_of-piece.ensures c.residual.view_is sale in
+    let sale : c.facts_of-facts.result.sale ≡ q.sale = search rules in
+    let is : c.facts_of-facts.result ≡ piece_of r.at.place q.sale e.rule e.outline = piece_told e.rule e.outline _ r _ q.sale c.facts_of-facts.result c.facts_of-facts.ensures.facts c.residual.view_is sale in
     role_had q r e c.args.role c.args.slot c.in-Some.next c.args.found.now c.push.new.self (subst (λ p. Leaves r e.outline.after p c.args.role c.args.slot c.in-Some.next) is c.in-Some.ensures.some) c.in_ok-push-in-Some.ensures.items
 
 pub returns-in-None : goal.returns-in-None
@@ -18,6 +18,6 @@ returns-in-None c =
     let q = c.args.request.now in
     let r = c.args.residual.now in
     let e = c.args.entry.now in
-    let sale : c.piece_of-piece.result.sale ≡ q.sale = search rules in
-    let is : c.piece_of-piece.result ≡ piece_of r.at.place q.sale e.rule e.outline = piece_told e.rule e.outline _ r _ q.sale c.piece_of-piece.result c.piece_of-piece.ensures c.residual.view_is sale in
+    let sale : c.facts_of-facts.result.sale ≡ q.sale = search rules in
+    let is : c.facts_of-facts.result ≡ piece_of r.at.place q.sale e.rule e.outline = piece_told e.rule e.outline _ r _ q.sale c.facts_of-facts.result c.facts_of-facts.ensures.facts c.residual.view_is sale in
     role_not q r e c.args.role c.args.slot c.args.found.now (λ next l. c.in-None.ensures.none next (subst (λ p. Leaves r e.outline.after p c.args.role c.args.slot next) (sym is) l))
