@@ -4,5 +4,6 @@ pub mod Machine
 pub mod WeekdayBits
 pub mod Columns
 pub mod Growing
+pub mod HeaderOrder
 pub mod SectionCounts
 pub mod Feed

@@ -2,20 +2,21 @@
 ghost use Rattle.std.specs.Prelude.{◌≡◌, OnOk};
 ghost use Rattle.case_text.specs.Contents.{added, line_added, no_contents, after_header};
 
+use crate::CaseLine;
 use crate::headers::Header;
 use fare_law::{FlightRow, List, Mem, PlaceRow, SeatRow, TextLine};
 use std::alloc::Global;
 
 /// The rows and lines of a case by their sections. A section that the kind of case doesn't have is
-/// empty.
+/// empty. Filings and requests are read where they stand in the text.
 #[derive(Debug, Drop)]
-pub struct Case {
+pub struct Case<'a> {
     pub places: List<PlaceRow>,
     pub flights: List<FlightRow>,
     pub seats: List<SeatRow>,
-    pub filings: List<TextLine>,
-    pub later: List<TextLine>,
-    pub requests: List<TextLine>,
+    pub filings: List<CaseLine<'a>>,
+    pub later: List<CaseLine<'a>>,
+    pub requests: List<CaseLine<'a>>,
     pub script: List<TextLine>,
     pub certificate: List<TextLine>,
     pub ticket: List<TextLine>,
@@ -25,17 +26,17 @@ pub struct Case {
 
 /// What a line is: a header with its line, a row of a table, or a line of another section.
 #[derive(Drop)]
-pub enum Entry {
+pub enum Entry<'a> {
     Opens(Header, u32),
     Place(PlaceRow),
     Flight(FlightRow),
     Seat(SeatRow),
-    Text(Header, TextLine),
+    Text(Header, CaseLine<'a>),
 }
 
-impl Case {
+impl<'a> Case<'a> {
     /// A case with nothing in it.
-    pub(crate) fn new(alloc: Global) -> Case
+    pub(crate) fn new(alloc: Global) -> Case<'a>
         ensures { result ≡ no_contents }
     {
         Case {
@@ -53,8 +54,8 @@ impl Case {
     }
 
     /// Adds an entry at the end of its section. A header adds nothing but the line of `#end`.
-    pub(crate) fn add(&mut self, entry: Entry) -> Result<(), Mem>
-        ensures { OnOk result (self.new ≡ added self.old entry) }
+    pub(crate) fn add(&mut self, alloc: Global, entry: Entry<'a>) -> Result<(), Mem>
+        ensures { OnOk result (self.new ≡ added self.old entry.entry) }
     {
         match entry {
             Entry::Opens(header, line) => {
@@ -64,7 +65,7 @@ impl Case {
             Entry::Place(row) => self.places.push(row),
             Entry::Flight(row) => self.flights.push(row),
             Entry::Seat(row) => self.seats.push(row),
-            Entry::Text(header, line) => self.add_line(header, line),
+            Entry::Text(header, line) => self.add_line(alloc, header, line),
         }
     }
 
@@ -76,16 +77,16 @@ impl Case {
         }
     }
 
-    fn add_line(&mut self, header: Header, line: TextLine) -> Result<(), Mem>
-        ensures { OnOk result (self.new ≡ line_added self.old header line) }
+    fn add_line(&mut self, alloc: Global, header: Header, line: CaseLine<'a>) -> Result<(), Mem>
+        ensures { OnOk result (self.new ≡ line_added self.old header line.entry) }
     {
         match header {
             Header::Filings => self.filings.push(line),
             Header::Later => self.later.push(line),
             Header::Request => self.requests.push(line),
-            Header::Script => self.script.push(line),
-            Header::Certificate => self.certificate.push(line),
-            Header::Ticket => self.ticket.push(line),
+            Header::Script => self.script.push(line.owned(alloc)?),
+            Header::Certificate => self.certificate.push(line.owned(alloc)?),
+            Header::Ticket => self.ticket.push(line.owned(alloc)?),
             _ => Ok(()),
         }
     }

@@ -13,19 +13,18 @@ use crate::contents::Entry;
 use crate::headers::{Header, due, is_name};
 use crate::rows::{flight_fields, flight_row, place_fields, place_row, seat_fields, seat_row};
 use crate::standing::Standing;
-use crate::{CaseFault, CaseKind, Line, RowFault};
+use crate::{CaseFault, CaseKind, CaseLine, Line, RowFault};
 use csv::ByteRecord;
-use fare_law::{List, Mem, TextLine};
 use std::alloc::Global;
 
 /// What the line is, or its fault. Its fields are given where they were read with other lines.
-pub fn judged(
+pub fn judged<'a>(
     alloc: Global,
     kind: CaseKind,
     standing: Standing,
-    line: &Line<'_>,
+    line: &Line<'a>,
     fields: Option<&ByteRecord>,
-) -> Result<Entry, CaseFault>
+) -> Result<Entry<'a>, CaseFault>
     requires { IfSome fields (λ row. HasFields (fields_of row.now) line.now.bytes.now) }
     ensures told { Told result (Entries.judged kind standing (shown line.now)) }
     ensures limits { IfOk result KeepsLimits }
@@ -68,7 +67,7 @@ fn begins_header(line: &[u8]) -> bool
     }
 }
 
-fn header(kind: CaseKind, standing: Standing, line: &Line<'_>) -> Result<Entry, CaseFault>
+fn header<'a>(kind: CaseKind, standing: Standing, line: &Line<'a>) -> Result<Entry<'a>, CaseFault>
     ensures told { result ≡ Entries.header_judged kind standing (shown line.now) }
     ensures limits { IfOk result KeepsLimits }
 {
@@ -136,12 +135,12 @@ fn has_room(limit: Option<usize>, count: usize) -> bool
 }
 
 /// What a line under this header is, whatever stands before it.
-fn entry_of(
+fn entry_of<'a>(
     alloc: Global,
     header: Header,
-    line: &Line<'_>,
+    line: &Line<'a>,
     fields: Option<&ByteRecord>,
-) -> Result<Entry, CaseFault>
+) -> Result<Entry<'a>, CaseFault>
     requires { IfSome fields (λ row. HasFields (fields_of row.now) line.now.bytes.now) }
     ensures told { Told result (Entries.entry_of header (shown line.now)) }
     ensures limits { IfOk result KeepsLimits }
@@ -150,11 +149,15 @@ fn entry_of(
         Header::Places => place(alloc, line, fields),
         Header::Flights => flight(alloc, line, fields),
         Header::Seats => seat(alloc, line, fields),
-        _ => Ok(Entry::Text(header, text_line(alloc, line)?)),
+        _ => Ok(Entry::Text(header, CaseLine::of(line))),
     }
 }
 
-fn place(alloc: Global, line: &Line<'_>, fields: Option<&ByteRecord>) -> Result<Entry, CaseFault>
+fn place<'a>(
+    alloc: Global,
+    line: &Line<'a>,
+    fields: Option<&ByteRecord>,
+) -> Result<Entry<'a>, CaseFault>
     requires { IfSome fields (λ row. HasFields (fields_of row.now) line.now.bytes.now) }
     ensures told { Told result (Entries.row_judged Place (shown line.now) (Rows.place_row (shown line.now))) }
     ensures limits { IfOk result KeepsLimits }
@@ -169,7 +172,11 @@ fn place(alloc: Global, line: &Line<'_>, fields: Option<&ByteRecord>) -> Result<
     }
 }
 
-fn flight(alloc: Global, line: &Line<'_>, fields: Option<&ByteRecord>) -> Result<Entry, CaseFault>
+fn flight<'a>(
+    alloc: Global,
+    line: &Line<'a>,
+    fields: Option<&ByteRecord>,
+) -> Result<Entry<'a>, CaseFault>
     requires { IfSome fields (λ row. HasFields (fields_of row.now) line.now.bytes.now) }
     ensures told { Told result (Entries.row_judged Flight (shown line.now) (Rows.flight_row (shown line.now))) }
     ensures limits { IfOk result KeepsLimits }
@@ -184,7 +191,11 @@ fn flight(alloc: Global, line: &Line<'_>, fields: Option<&ByteRecord>) -> Result
     }
 }
 
-fn seat(alloc: Global, line: &Line<'_>, fields: Option<&ByteRecord>) -> Result<Entry, CaseFault>
+fn seat<'a>(
+    alloc: Global,
+    line: &Line<'a>,
+    fields: Option<&ByteRecord>,
+) -> Result<Entry<'a>, CaseFault>
     requires { IfSome fields (λ row. HasFields (fields_of row.now) line.now.bytes.now) }
     ensures told { Told result (Entries.row_judged Seat (shown line.now) (Rows.seat_row (shown line.now))) }
     ensures limits { IfOk result KeepsLimits }
@@ -207,15 +218,4 @@ fn row_fault(line: u32, fault: RowFault) -> CaseFault
         RowFault::BadColumn(column) => CaseFault::BadRow { line, column },
         RowFault::Mem => CaseFault::Mem,
     }
-}
-
-/// The line with bytes of its own.
-fn text_line(alloc: Global, line: &Line<'_>) -> Result<TextLine, Mem>
-    ensures { IfOk result (λ own. own ≡ shown line.now) }
-{
-    let bytes = List::from_vec(line.bytes.to_vec(alloc)?);
-    Ok(TextLine {
-        line: line.line,
-        bytes,
-    })
 }

@@ -3,6 +3,7 @@
 //! their own.
 #![tactic(auto)]
 
+mod borrowed;
 mod contents;
 mod faults;
 mod feeding;
@@ -17,6 +18,7 @@ mod reading;
 mod rows;
 mod standing;
 
+pub use borrowed::CaseLine;
 pub use contents::Case;
 pub use faults::{CaseFault, RowFault};
 pub use kinds::CaseKind;

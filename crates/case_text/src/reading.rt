@@ -18,7 +18,7 @@ use std::io::Read;
 /// The case that the bytes spell, or the first fault in the order of the lines. Its rows and the
 /// counts of its sections are within their limits, and it has one request where its kind has one.
 #[tactic(auto, using(crate::proofs::SectionCounts::limits_told))]
-pub fn sections(alloc: Global, bytes: &[u8], kind: CaseKind) -> Result<Case, CaseFault>
+pub fn sections(alloc: Global, bytes: &[u8], kind: CaseKind) -> Result<Case<'_>, CaseFault>
     requires { length bytes.now + 1 < 2 ^ 32 }
     ensures told { Told result (Entries.case_of kind bytes.now) }
     ensures limits { IfOk result (IsCase kind) }
@@ -28,12 +28,12 @@ pub fn sections(alloc: Global, bytes: &[u8], kind: CaseKind) -> Result<Case, Cas
 }
 
 /// The case that these lines spell, where `next` is the number of the line after the last.
-fn read_lines(
+fn read_lines<'a>(
     alloc: Global,
     kind: CaseKind,
-    lines: &[Line<'_>],
+    lines: &[Line<'a>],
     next: u32,
-) -> Result<Case, CaseFault>
+) -> Result<Case<'a>, CaseFault>
     ensures told { Told result (Entries.case_read kind next (map shown lines.now)) }
     ensures rows { IfOk result HasRows }
 {
@@ -47,13 +47,13 @@ fn read_lines(
 
 /// The same with a reader that has the rows among the lines before it.
 #[tactic(auto, using(crate::proofs::Growing::reading_steps))]
-fn read_with<R: Read>(
+fn read_with<'a, R: Read>(
     alloc: Global,
     kind: CaseKind,
-    lines: &[Line<'_>],
+    lines: &[Line<'a>],
     next: u32,
     reader: &mut Reader<R>,
-) -> Result<Case, CaseFault>
+) -> Result<Case<'a>, CaseFault>
     requires { Awaits R.remaining reader.old (row_text_of (map shown lines.now)) }
     ensures told { Told result (Entries.case_read kind next (map shown lines.now)) }
     ensures rows { IfOk result HasRows }
@@ -67,7 +67,7 @@ fn read_with<R: Read>(
         in_step = fields.is_some();
         let entry = judged(alloc, kind, standing, line, fields)?;
         standing = standing.moved(&entry);
-        case.add(entry)?;
+        case.add(alloc, entry)?;
     }
     if standing.is_over() {
         Ok(case)

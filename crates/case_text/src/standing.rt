@@ -24,7 +24,7 @@ impl Standing {
     }
 
     /// Where the line after this entry stands.
-    pub fn moved(self, entry: &Entry) -> Standing
+    pub fn moved(self, entry: &Entry<'_>) -> Standing
         requires { self.count + 1 < 2 ^ 64 }
         ensures { result ≡ Entries.moved self entry.now }
     {

@@ -8,7 +8,7 @@ use crate::LoadFault;
 use crate::histories::filed_version;
 use crate::requests::{sole_line, sole_request};
 use crate::rows::{opening_of, sections_in};
-use case_text::{Case, CaseKind};
+use case_text::{Case, CaseKind, CaseLine};
 use fare_book::Book;
 use fare_law::{List, Request, TextLine};
 use std::alloc::Global;
@@ -16,12 +16,12 @@ use std::alloc::Global;
 /// The version of the book that a case is about, what is asked and in which line, and the lines of the
 /// sections that are read after the request.
 #[derive(Drop)]
-pub struct AskedCase {
+pub struct AskedCase<'a> {
     pub book: Book,
     pub request: Request,
     /// The line of the request.
     pub line: u32,
-    pub filings: List<TextLine>,
+    pub filings: List<CaseLine<'a>>,
     pub ticket: List<TextLine>,
     pub certificate: List<TextLine>,
     /// The line of `#end`.
@@ -34,7 +34,7 @@ pub fn asked_case(
     bytes: &[u8],
     kind: CaseKind,
     at: Option<u32>,
-) -> Result<AskedCase, LoadFault>
+) -> Result<AskedCase<'_>, LoadFault>
     requires length { length bytes.now + 1 < 2 ^ 32 }
     requires one { IsTrue (has_one_request kind) }
     ensures { Reads result (Cases.asked_case kind at bytes.now) }

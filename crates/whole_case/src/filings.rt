@@ -6,20 +6,21 @@ ghost use Rattle.whole_case.specs.Stages.{Reads};
 
 use crate::reasons::{of_filing, refused_at};
 use crate::{LoadFault, Reason};
+use case_text::CaseLine;
 use fare_book::{Book, BookFault, OpenBook};
 use fare_filing::read_filing;
-use fare_law::{Filing, TextLine};
+use fare_law::Filing;
 use std::alloc::Global;
 use std::sync::Arc;
 
 /// The filing of a line, within its limits.
-pub fn filing_in(alloc: Global, line: &TextLine) -> Result<Filing, LoadFault>
+pub fn filing_in(alloc: Global, line: &CaseLine<'_>) -> Result<Filing, LoadFault>
     ensures filing { Reads result (Filings.filing_in line.now) }
     ensures limits { IfOk result IsFiling }
 {
-    match read_filing(alloc, line.bytes.as_slice()) {
+    match read_filing(alloc, line.bytes()) {
         Ok(filing) => Ok(filing),
-        Err(fault) => Err(of_filing(line.line, fault)),
+        Err(fault) => Err(of_filing(line.line(), fault)),
     }
 }
 
@@ -43,15 +44,15 @@ fn taken(alloc: Global, book: OpenBook, line: u32, filing: Filing) -> Result<Ope
 }
 
 /// The book that the filing of one line leaves.
-fn next(alloc: Global, book: OpenBook, line: &TextLine) -> Result<OpenBook, LoadFault>
+fn next(alloc: Global, book: OpenBook, line: &CaseLine<'_>) -> Result<OpenBook, LoadFault>
     ensures { Reads result (Filings.next book line.now) }
 {
     let filing = filing_in(alloc, line)?;
-    taken(alloc, book, line.line, filing)
+    taken(alloc, book, line.line(), filing)
 }
 
 /// The open book that the filings of these lines leave.
-fn all_taken(alloc: Global, book: OpenBook, lines: &[TextLine]) -> Result<OpenBook, LoadFault>
+fn all_taken(alloc: Global, book: OpenBook, lines: &[CaseLine<'_>]) -> Result<OpenBook, LoadFault>
     ensures { Reads result (Filings.filed book lines.now) }
 {
     let mut book = book;
@@ -62,7 +63,7 @@ fn all_taken(alloc: Global, book: OpenBook, lines: &[TextLine]) -> Result<OpenBo
 }
 
 /// The book that the filings of these lines leave.
-pub fn filed(alloc: Global, book: Book, lines: &[TextLine]) -> Result<Book, LoadFault>
+pub fn filed(alloc: Global, book: Book, lines: &[CaseLine<'_>]) -> Result<Book, LoadFault>
     ensures { Reads result (Filings.filed book lines.now) }
 {
     let book = all_taken(alloc, OpenBook::of(alloc, book), lines)?;
@@ -70,7 +71,7 @@ pub fn filed(alloc: Global, book: Book, lines: &[TextLine]) -> Result<Book, Load
 }
 
 /// Whether a book takes the filings of these lines one after another.
-pub fn judged(alloc: Global, book: &Book, lines: &[TextLine]) -> Result<(), LoadFault>
+pub fn judged(alloc: Global, book: &Book, lines: &[CaseLine<'_>]) -> Result<(), LoadFault>
     ensures { Reads result (Filings.are_taken book.now lines.now) }
 {
     if lines.is_empty() {

@@ -6,8 +6,9 @@ ghost use Rattle.whole_case.specs.Stages.{Reads};
 use crate::filings::{filed, judged};
 use crate::reasons::refused_at;
 use crate::{LoadFault, Reason};
+use case_text::CaseLine;
 use fare_book::Book;
-use fare_law::{List, TextLine};
+use fare_law::List;
 use std::alloc::Global;
 
 /// The version that is asked for, or the last one where there is none so late, of a book that takes
@@ -15,7 +16,7 @@ use std::alloc::Global;
 pub fn filed_version(
     alloc: Global,
     opening: Book,
-    lines: &List<TextLine>,
+    lines: &List<CaseLine<'_>>,
     at: Option<u32>,
 ) -> Result<Book, LoadFault>
     requires { opening.entries ≡ [] }
@@ -27,7 +28,7 @@ pub fn filed_version(
 fn version_in(
     alloc: Global,
     opening: Book,
-    lines: &[TextLine],
+    lines: &[CaseLine<'_>],
     at: Option<u32>,
 ) -> Result<Book, LoadFault>
     requires { opening.entries ≡ [] }
@@ -51,7 +52,7 @@ fn kept(at: Option<u32>, count: usize) -> usize
 }
 
 /// That there is a version of the number that is asked for, after the filings of these lines.
-pub fn check_version(at: Option<u32>, lines: &List<TextLine>) -> Result<(), LoadFault>
+pub fn check_version(at: Option<u32>, lines: &List<CaseLine<'_>>) -> Result<(), LoadFault>
     ensures { Reads result (Filings.has_version at (length lines.now)) }
 {
     match at {

@@ -8,19 +8,20 @@ ghost use Rattle.whole_case.specs.Stages.{Reads};
 
 use crate::reasons::{of_request, refused_at};
 use crate::{LoadFault, Reason};
+use case_text::CaseLine;
 use fare_book::Book;
-use fare_law::{List, Place, Request, TextLine, Why};
+use fare_law::{List, Place, Request, Why};
 use request_text::read_request;
 use std::alloc::Global;
 
 /// The request of a line, within its limits.
-fn spelled_in(alloc: Global, line: &TextLine) -> Result<Request, LoadFault>
+fn spelled_in(alloc: Global, line: &CaseLine<'_>) -> Result<Request, LoadFault>
     ensures request { Reads result (Requests.spelled_in line.now) }
     ensures limits { IfOk result IsRequest }
 {
-    match read_request(alloc, line.bytes.as_slice()) {
+    match read_request(alloc, line.bytes()) {
         Ok(request) => Ok(request),
-        Err(fault) => Err(of_request(line.line, fault)),
+        Err(fault) => Err(of_request(line.line(), fault)),
     }
 }
 
@@ -54,11 +55,11 @@ fn knows(book: &Book, place: Place) -> bool
 }
 
 /// The request of a line, which breaks no limit in the book.
-pub fn request_in(alloc: Global, book: &Book, line: &TextLine) -> Result<Request, LoadFault>
+pub fn request_in(alloc: Global, book: &Book, line: &CaseLine<'_>) -> Result<Request, LoadFault>
     ensures { Reads result (Requests.request_in book.now line.now) }
 {
     let request = spelled_in(alloc, line)?;
-    allowed_in(book, line.line, &request)?;
+    allowed_in(book, line.line(), &request)?;
     Ok(request)
 }
 
@@ -66,7 +67,7 @@ pub fn request_in(alloc: Global, book: &Book, line: &TextLine) -> Result<Request
 pub fn sole_request(
     alloc: Global,
     book: &Book,
-    lines: &List<TextLine>,
+    lines: &List<CaseLine<'_>>,
 ) -> Result<Request, LoadFault>
     requires { length lines.now ≡ 1 }
     ensures { Reads result (Requests.sole_request book.now lines.now) }
@@ -78,11 +79,11 @@ pub fn sole_request(
 }
 
 /// The line of the one request.
-pub fn sole_line(lines: &List<TextLine>) -> u32
+pub fn sole_line(lines: &List<CaseLine<'_>>) -> u32
     ensures { result ≡ Requests.sole_line lines.now }
 {
     match lines.as_slice() {
-        [line, ..] => line.line,
+        [line, ..] => line.line(),
         [] => 0,
     }
 }

@@ -17,7 +17,7 @@ use std::alloc::Global;
 use std::sync::Arc;
 
 /// The sections of a case of this kind.
-pub fn sections_in(alloc: Global, bytes: &[u8], kind: CaseKind) -> Result<Case, LoadFault>
+pub fn sections_in(alloc: Global, bytes: &[u8], kind: CaseKind) -> Result<Case<'_>, LoadFault>
     requires { length bytes.now + 1 < 2 ^ 32 }
     ensures case { Reads result (Timetables.sections_in kind bytes.now) }
     ensures limits { IfOk result (IsCase kind) }

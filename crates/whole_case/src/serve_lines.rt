@@ -9,12 +9,13 @@ ghost use Rattle.whole_case.specs.Stages.{Reads};
 use crate::LoadFault;
 use crate::filings::filing_in;
 use crate::requests::{request_in, with_best};
+use case_text::CaseLine;
 use fare_book::Book;
-use fare_law::{Filing, List, Request, TextLine};
+use fare_law::{Filing, List, Request};
 use std::alloc::Global;
 
 /// The filings of these lines, within their limits.
-pub fn later_filings(alloc: Global, lines: &List<TextLine>) -> Result<List<Filing>, LoadFault>
+pub fn later_filings(alloc: Global, lines: &List<CaseLine<'_>>) -> Result<List<Filing>, LoadFault>
     ensures filings { Reads result (ServeCases.each_of spelled_filing lines.now) }
     ensures limits { IfOk result (Each IsFiling) }
     ensures count { IfOk result (λ filings. length filings ≡ length lines.now) }
@@ -22,7 +23,7 @@ pub fn later_filings(alloc: Global, lines: &List<TextLine>) -> Result<List<Filin
     filings_in(alloc, lines.as_slice())
 }
 
-fn filings_in(alloc: Global, lines: &[TextLine]) -> Result<List<Filing>, LoadFault>
+fn filings_in(alloc: Global, lines: &[CaseLine<'_>]) -> Result<List<Filing>, LoadFault>
     ensures filings { Reads result (ServeCases.each_of spelled_filing lines.now) }
     ensures limits { IfOk result (Each IsFiling) }
     ensures count { IfOk result (λ filings. length filings ≡ length lines.now) }
@@ -39,7 +40,7 @@ fn filings_in(alloc: Global, lines: &[TextLine]) -> Result<List<Filing>, LoadFau
 pub fn asked_requests(
     alloc: Global,
     book: &Book,
-    lines: &List<TextLine>,
+    lines: &List<CaseLine<'_>>,
     best: Option<u16>,
 ) -> Result<List<Request>, LoadFault>
     ensures requests { Reads result (ServeCases.each_of (ServeCases.asked_in best book.now) lines.now) }
@@ -51,7 +52,7 @@ pub fn asked_requests(
 fn requests_in(
     alloc: Global,
     book: &Book,
-    lines: &[TextLine],
+    lines: &[CaseLine<'_>],
     best: Option<u16>,
 ) -> Result<List<Request>, LoadFault>
     ensures requests { Reads result (ServeCases.each_of (ServeCases.asked_in best book.now) lines.now) }
@@ -69,7 +70,7 @@ fn requests_in(
 fn asked_request(
     alloc: Global,
     book: &Book,
-    line: &TextLine,
+    line: &CaseLine<'_>,
     best: Option<u16>,
 ) -> Result<Request, LoadFault>
     ensures { Reads result (ServeCases.asked_in best book.now line.now) }
