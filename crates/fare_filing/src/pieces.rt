@@ -1,5 +1,5 @@
 //! Pieces of compact text, each with what follows it.
-ghost use Rattle.std.specs.Prelude.{◌≡◌, ◌+◌, ◌++◌, ◌∷◌, ◌≤◌, IfSome, IsTrue, decimal};
+ghost use Rattle.std.specs.Prelude.{◌≡◌, ◌+◌, ◌++◌, ◌∷◌, ◌≤◌, length, IfSome, IsTrue, decimal};
 ghost use Rattle.fare_filing.specs.Compact.{Cuts, IsPlain};
 
 /// What follows a piece that the text begins with.
@@ -11,7 +11,25 @@ pub fn after<'a>(text: &'a [u8], piece: &[u8]) -> Option<&'a [u8]>
         return None;
     }
     let (front, rest) = text.split_at(piece.len());
-    if front == piece { Some(rest) } else { None }
+    if is_same(front, piece) {
+        Some(rest)
+    } else {
+        None
+    }
+}
+
+// Whether two texts of one length are the same. Pieces are short, so their bytes are compared without a
+// branch at each, which takes less than the general comparison of slices.
+#[tactic(auto, using(crate::proofs::PieceLemmas::same_steps))]
+fn is_same(front: &[u8], piece: &[u8]) -> bool
+    requires { length front.now ≡ length piece.now }
+    ensures { IsTrue result → front.now ≡ piece.now }
+{
+    let mut same = true;
+    for i in 0..piece.len() {
+        same = same & (front[i] == piece[i]);
+    }
+    same
 }
 
 /// The text up to the next quote, if JSON writes it as it is, and what follows from the quote on.
