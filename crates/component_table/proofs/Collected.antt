@@ -2,7 +2,7 @@
 use Rattle.std.proofs.Common.{◌≡◌, ◌↔◌, ℕ, zero, suc, ◌+◌, ◌-◌, ◌<◌, ◌≤◌, List, [], ◌∷◌, ◌++◌, length, take, get_or, Option, Some, None, IsBitSet, bit_and, ◌^◌, refl, sym, ap, subst, ◌∙◌, arith}
 use Rattle.std.proofs.lemmas.List.Elements.{All-append, All-cons, All-nil, All-head, All-tail}
 use Rattle.std.proofs.Math.Seq.{take-suc}
-use Rattle.component_table.specs.Tables.{BeginsWith, EndsAt, HasLegs}
+use Rattle.component_table.specs.Tables.{BeginsWith, EndsWith, HasLegs}
 use Rattle.fare_groups.specs.Groups.{HasClass}
 use Rattle.fare_groups.proofs.Bits.{both_set, classes_none}
 use Rattle.fare_law.specs.declared.flights.Flight.{Flight}
@@ -60,11 +60,11 @@ number_known b (n ∷ ns) (f ∷ fs) (suc i) h lt = number_known b ns fs i h.1 (
 pub not_both : {X : Type 0} (o : Option X) (x : X) → o ≡ Some x → o ≡ None → ⊥
 not_both o x h k = cc
 
--- where the last number's flight arrives
-pub last_ends : (b : Book) (ns : List ℕ) (last : ℕ) (g : Flight) → OnLast (λ n. n ≡ last) ns → flight_at b last ≡ Some g → EndsAt b ns g.to
+-- the last number's flight is the last
+pub last_ends : (b : Book) (ns : List ℕ) (last : ℕ) (g : Flight) → OnLast (λ n. n ≡ last) ns → flight_at b last ≡ Some g → EndsWith b ns g
 last_ends b [] last g h k fs m = absurd h
 last_ends b (n ∷ []) last g h k [] m = absurd m
-last_ends b (n ∷ []) last g h k (f ∷ []) m = let same : f ≡ g = some_same f g (sym m.0 ∙ ap (flight_at b) h ∙ k) in ap (λ (x : Flight). x.to) same
+last_ends b (n ∷ []) last g h k (f ∷ []) m = some_same f g (sym m.0 ∙ ap (flight_at b) h ∙ k)
   where
     some_same : (x y : Flight) → Some x ≡ Some y → x ≡ y
     some_same x y e = cc
@@ -96,18 +96,18 @@ last_on (n ∷ m ∷ ns) d h = subst (λ k. OnLast (λ x. x ≡ get_or (n ∷ m 
     shift : (k : ℕ) → suc (suc k - 1) ≡ suc (suc k) - 1
     shift k = omega arith
 
-pub last_number_ends : (b : Book) (ns : List ℕ) (g : Flight) → 1 ≤ length ns → flight_at b (get_or ns (length ns - 1) 0) ≡ Some g → EndsAt b ns g.to
+pub last_number_ends : (b : Book) (ns : List ℕ) (g : Flight) → 1 ≤ length ns → flight_at b (get_or ns (length ns - 1) 0) ≡ Some g → EndsWith b ns g
 last_number_ends b ns g h k = last_ends b ns (get_or ns (length ns - 1) 0) g (last_on ns 0 h) k
 
 -- a last number that is that of no flight
 pub last_unknown : (b : Book) (ns : List ℕ) (fs : List Flight) → 1 ≤ length ns → Numbers b ns fs → flight_at b (get_or ns (length ns - 1) 0) ≡ None → ⊥
 last_unknown b ns fs h m none = let k = number_known b ns fs (length ns - 1) m (omega (arith, h)) in not_both (flight_at b (get_or ns (length ns - 1) 0)) k.0 k.1 none
 
--- the first number's flight has the carrier with which they begin
-pub first_begins : (b : Book) (ns : List ℕ) (g : Flight) → 1 ≤ length ns → flight_at b (get_or ns 0 0) ≡ Some g → BeginsWith b ns g.carrier
+-- the first number's flight is the first
+pub first_begins : (b : Book) (ns : List ℕ) (g : Flight) → 1 ≤ length ns → flight_at b (get_or ns 0 0) ≡ Some g → BeginsWith b ns g
 first_begins b [] g h k fs m = absurd (omega (arith, h))
 first_begins b (n ∷ ns) g h k [] m = absurd m
-first_begins b (n ∷ ns) g h k (f ∷ fs) m = ap (λ (x : Flight). x.carrier) (some_is f g (sym m.0 ∙ k))
+first_begins b (n ∷ ns) g h k (f ∷ fs) m = some_is f g (sym m.0 ∙ k)
   where
     some_is : (x y : Flight) → Some x ≡ Some y → x ≡ y
     some_is x y e = cc

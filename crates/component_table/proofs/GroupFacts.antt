@@ -4,8 +4,9 @@ use Rattle.std.proofs.lemmas.Int.{ints}
 use Rattle.std.proofs.lemmas.List.Elements.{All-head, All-tail}
 use Rattle.component_table.specs.declared.markets.Market.{Market}
 use Rattle.component_table.specs.declared.ways.Flown.{Flown}
-use Rattle.component_table.specs.Tables.{GroupDone, HasAt, HasRow, IsBelow, IsEntry, IsOver, IsPathOver, IsRowOf, Lowered}
-use Rattle.component_table.proofs.Lower.{goes_lowered, goes_self}
+use Rattle.component_table.specs.Classes.{GroupSettled}
+use Rattle.component_table.specs.Tables.{GroupDone, HasAt, HasBelow, HasRow, IsBelow, IsEntry, IsOver, IsPathOver, IsRowOf, Lowered}
+use Rattle.component_table.proofs.Lower.{goes_lowered, goes_self, le_on}
 use Rattle.fare_groups.specs.declared.group.FareGroup.{FareGroup}
 use Rattle.fare_groups.specs.declared.group.GroupKey.{GroupKey}
 use Rattle.fare_groups.specs.declared.group.GroupedFare.{GroupedFare}
@@ -68,6 +69,34 @@ low_share : (kind : FareKind) (amount : ℕ) → amount ≤ 1000000000 → share
 low_share O n h = h
 low_share R n h = omega (arith, h)
 low_share S n h = h
+
+-- a group stands at no more than the shares of its fares in these classes: where none has one of them, where it was found so, or where it was put in without charges
+module _ (after : Option Position) (fs : List Flight) (classes : ℕ) (reverse : Bool) (g : FareGroup) (table : List Entry) where
+  pub none_settled : Cheapest classes g.fares None → GroupSettled after fs classes reverse g table
+  none_settled none fare i open_class = absurd (each_in (λ (f : GroupedFare). IsBitSet classes f.class → ⊥) g.fares fare none i open_class)
+
+  pub had_settled : (mine price : ℕ) (o : Outline) → Cheapest classes g.fares (Some mine) → OutlineOver o after fs g.key reverse → HasBelow table o price → price ≤ mine → GroupSettled after fs classes reverse g table
+  had_settled mine price o cheap oo has low fare i open_class = (
+    has.entry,
+    has.within,
+    subst (λ (z : Outline). OutlineOver z after fs g.key reverse) (sym has.outline) oo,
+    le_on has.entry.price price fare.share has.below (le_on price mine fare.share low (each_in (λ (f : GroupedFare). IsBitSet classes f.class → mine ≤ f.share) g.fares fare cheap.below i open_class)),
+  )
+
+-- what was found stands there
+pub found_below : (table : List Entry) (mine : ℕ) (o : Outline) (found : Option ℕ) → IfSome found (HasAt table o) → IsBelow table mine found → HasBelow table o mine
+found_below table mine o found has low = record {
+  entry = low.entry;
+  within = got_in table low.at low.entry low.stands;
+  outline = ap (λ (e : Entry). e.outline) (some_one (slice_get table low.at) low.entry there.entry low.stands there.stands) ∙ there.outline;
+  below = low.below;
+}
+  where
+    there : HasAt table o low.at
+    there = subst (λ x. IfSome x (HasAt table o)) low.found_is has
+
+pub free_below : (mine charges price : ℕ) → price ≡ mine + charges → charges ≡ 0 → price ≤ mine
+free_below mine charges price e free = omega (arith, e, free)
 
 module _ (b : Book) (q : Request) (at : Position) (flown : Flown) (reverse : Bool) (m : Market) (g : FareGroup) (is : IsOver b q flown m) (i : IsIn g m.groups) where
   over : IsPathOver b q at flown reverse m → OverMarket b q at flown.path.now flown.flights is.flown_is.legs.legs flown.classes reverse m.sheet.value m.groups

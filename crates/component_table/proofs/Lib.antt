@@ -7,3 +7,5 @@ pub mod ReachFacts
 pub mod Served
 pub mod Collected
 pub mod MaskFacts
+pub mod SomeLegs
+pub mod SettledFacts

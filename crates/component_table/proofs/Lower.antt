@@ -14,7 +14,7 @@ use Rattle.outlines.specs.declared.outline.Outline.{Outline}
 use Rattle.outlines.specs.ByGroups.{OutlineOver, PathDone}
 use Rattle.residual_keys.proofs.Sheeted.{got_in}
 
-itself : (n : ℕ) → n ≤ n
+pub itself : (n : ℕ) → n ≤ n
 itself n = omega arith
 
 pub le_on : (x y z : ℕ) → x ≤ y → y ≤ z → x ≤ z
@@ -25,6 +25,12 @@ stays es e i = record { entry = e; within = i; outline = refl; below = itself e.
 
 pub covers_self : (es : List Entry) → Covers es es
 covers_self es e i = stays es e i
+
+pub covers_same : (old new : List Entry) → new ≡ old → Covers old new
+covers_same old new e = subst (Covers old) (sym e) (covers_self old)
+
+pub covers_lowered : (x : Entry) (old new : List Entry) → Lowered x old new → Covers old new
+covers_lowered x old new l = l.covers
 
 pub covers_on : (a b c : List Entry) → Covers a b → Covers b c → Covers a c
 covers_on a b c h k e i =
@@ -38,7 +44,7 @@ set_in [] n old x e = absurd (cc)
 set_in (y ∷ ys) zero old x e = inl refl
 set_in (y ∷ ys) (suc n) old x e = inr (set_in ys n old x e)
 
-set_only : {X : Type 0} (xs : List X) (n : ℕ) (x y : X) → IsIn y (set xs n x) → IsIn y xs ⊎ (y ≡ x)
+pub set_only : {X : Type 0} (xs : List X) (n : ℕ) (x y : X) → IsIn y (set xs n x) → IsIn y xs ⊎ (y ≡ x)
 set_only [] n x y i = inl i
 set_only (z ∷ zs) zero x y (inl e) = inr e
 set_only (z ∷ zs) zero x y (inr i) = inl (inr i)

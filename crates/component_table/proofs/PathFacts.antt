@@ -6,7 +6,7 @@ use Rattle.component_table.specs.declared.markets.MarketKey.{MarketKey}
 use Rattle.component_table.specs.declared.ways.Flown.{Flown}
 use Rattle.component_table.specs.Markets.{StandsAt}
 use Rattle.component_table.specs.Tails.{HasNoFares}
-use Rattle.component_table.specs.Tables.{EndsAt, GoesOn, GroupDone, HasGroup, HasPut, IsDone, IsEntry, IsOfPath, IsOver, IsPathFrom, IsPathOver, IsTable, MarketDone, PathAdded, PutsIn, WayDone}
+use Rattle.component_table.specs.Tables.{GoesOn, GroupDone, HasGroup, HasPut, IsDone, IsEntry, IsOfPath, IsOver, IsPathFrom, IsPathOver, IsTable, MarketDone, PathAdded, PutsIn, WayDone}
 use Rattle.component_table.proofs.GroupFacts.{path_some}
 use Rattle.component_table.proofs.Lower.{goes_on, goes_self, has_group_on, path_done_on}
 use Rattle.fare_book.specs.Keeping.{NoFare}
@@ -46,7 +46,7 @@ end_to false from to = to
 pub one_more : {X : Type 0} (xs : List X) (i : ℕ) (d x : X) → i < length xs → x ≡ get_or xs i d → take (i + 1) xs ≡ take i xs ++ x ∷ []
 one_more xs i d x lt e = let one : i + 1 ≡ suc i = omega arith in ap (λ n. take n xs) one ∙ take-suc xs i d lt ∙ ap (λ z. take i xs ++ z ∷ []) (sym e)
 
-in_one : {X : Type 0} (x y : X) → IsIn x (y ∷ []) → x ≡ y
+pub in_one : {X : Type 0} (x y : X) → IsIn x (y ∷ []) → x ≡ y
 in_one x y (inl e) = e
 in_one x y (inr n) = absurd n
 
@@ -64,7 +64,7 @@ on_last_as P [] f h p = absurd h
 on_last_as P (x ∷ []) f h p = subst P h p
 on_last_as P (x ∷ y ∷ fs) f h p = on_last_as P (y ∷ fs) f h p
 
-on_last_to : (P Q : Flight → Type 0) (fs : List Flight) → ((f : Flight) → P f → Q f) → OnLast P fs → OnLast Q fs
+pub on_last_to : (P Q : Flight → Type 0) (fs : List Flight) → ((f : Flight) → P f → Q f) → OnLast P fs → OnLast Q fs
 on_last_to P Q [] to h = absurd h
 on_last_to P Q (f ∷ []) to h = to f h
 on_last_to P Q (f ∷ g ∷ fs) to h = on_last_to P Q (g ∷ fs) to h
@@ -155,9 +155,6 @@ module _ (b : Book) (q : Request) (at : Position) where
   apart_done : (path : Path) (fs : List Flight) (place : Place) (table : List Entry) → HasNoFares b at.place place → IsPath b q.slices at path.flights fs path.after → OnLast (λ f. f.to ≡ place) fs → (reverse : Bool) → PathDone b q at path fs reverse table
   apart_done path fs place table none is ends true = record { from = place; to = at.place; market = path_over b q at path.flights fs path.after place is ends true; done = inl none.1 }
   apart_done path fs place table none is ends false = record { from = at.place; to = place; market = path_over b q at path.flights fs path.after place is ends false; done = inl none.0 }
-
-  pub apart_added : (path : Path) (place : Place) (old : List Entry) → NoFare b at.place place → NoFare b place at.place → EndsAt b path.flights place → PathAdded b q at path old old
-  apart_added path place old there back ends = record { goes = goes_self b q at old; done = λ fs is reverse. apart_done path fs place old (there, back) is (ends fs (path_numbers b q at path.flights fs path.after is)) reverse }
 
   -- a path of the position more
   pub put_more : (path : Path) (before : List Path) (old new : List Entry) → (IsPathFrom b q at path → PathAdded b q at path old new) → PutsIn (record { book = b; request = q; at = at; entries = old }) before → PutsIn (record { book = b; request = q; at = at; entries = new }) (before ++ path ∷ [])

@@ -1,18 +1,20 @@
 -- A path adds nothing with the fares of carriers but its first flight's: category 9 asks in every form that the fare's carrier is the first flight's.
-use Rattle.std.proofs.Common.{◌≡◌, ℕ, suc, ◌+◌, ◌<◌, ◌≤◌, Bool, true, false, List, [], ◌∷◌, length, get_or, slice_get, All, Option, Some, None, MatchOption, MatchBool, sym, ap, subst, ◌∙◌, inl, inr, arith}
+use Rattle.std.proofs.Common.{◌≡◌, ℕ, suc, ◌+◌, ◌<◌, ◌≤◌, Bool, true, false, List, [], ◌∷◌, length, get_or, slice_get, All, Option, Some, None, MatchOption, MatchBool, refl, sym, ap, subst, ◌∙◌, inl, inr, arith}
 use Rattle.std.proofs.lemmas.List.Elements.{All-head}
 use Rattle.component_table.specs.declared.ends.End.{End}
+use Rattle.component_table.specs.declared.ends.EndKey.{EndKey}
 use Rattle.component_table.specs.declared.filed.Filed.{Filed}
 use Rattle.component_table.specs.declared.markets.Market.{Market}
 use Rattle.component_table.specs.declared.ways.Flown.{Flown}
 use Rattle.component_table.specs.Markets.{AreMarkets, IsMarket}
 use Rattle.component_table.specs.Reaches.{FiledAt, IsEnd, IsUnserved, StandBetween, filed_of}
-use Rattle.component_table.specs.Tables.{BeginsWith, EndsAt, GoesOn, GroupDone, HasGroup, HasLegs, PathAdded}
+use Rattle.component_table.specs.Tables.{GoesOn, GroupDone, HasGroup, HasLegs, PathAdded}
 use Rattle.component_table.proofs.GroupFacts.{path_some, some_counted}
 use Rattle.component_table.proofs.FiledFacts.{below_or, some_same}
 use Rattle.component_table.proofs.Lower.{goes_on, goes_self, has_group_on}
-use Rattle.component_table.proofs.PathFacts.{end_from, end_to, got_at, path_numbers, path_over}
+use Rattle.component_table.proofs.PathFacts.{end_from, end_to, got_at, on_last_to, path_numbers, path_over}
 use Rattle.component_table.proofs.ReachFacts.{end_found}
+use Rattle.component_table.proofs.SomeLegs.{no_class, some_legs}
 use Rattle.fare_book.specs.Keeping.{Limited, NoFare}
 use Rattle.fare_groups.specs.declared.group.FareGroup.{FareGroup}
 use Rattle.fare_groups.specs.Groups.{Permits}
@@ -67,7 +69,7 @@ groups_between b path fs classes reverse table gs carrier f some first between h
     let within = between k.0 g k.1 own in
     has k.0 g k.1 within.0 within.1 rule live permits least cheap
 
-not_between : (from to i : ℕ) → to ≤ from → from ≤ i → i < to → ⊥
+pub not_between : (from to i : ℕ) → to ≤ from → from ≤ i → i < to → ⊥
 not_between from to i h k l = absurd (omega (arith, h, k, l))
 
 -- where none is, nothing is to be put in
@@ -75,19 +77,39 @@ pub groups_apart : (b : Book) (path : Path) (fs : List Flight) (classes : ℕ) (
     → (g : FareGroup) → IsIn g gs → HasGroup b path fs classes reverse g table
 groups_apart b path fs classes reverse table gs carrier f some first between none = groups_between b path fs classes reverse table gs carrier f some first between (λ i g got low high. absurd (not_between f.from f.to i none low high))
 
-module _ (b : Book) (q : Request) (at : Position) (path : Path) (ms : List Market) (e : End) (classes : ℕ) (are : AreMarkets b ms) (limited : Limited b) (end : IsEnd b at.place ms e) (legs : (fs : List Flight) → Numbers b path.flights fs → HasLegs b q fs classes) where
-  unserved_done : (fs : List Flight) (table : List Entry) → IsPath b q.slices at path.flights fs path.after → OnLast (λ f. f.to ≡ e.key.place) fs → OnFirst (λ f. f.carrier ≡ e.key.carrier) fs → (r : Bool) → IsUnserved (filed_of e r) → PathDone b q at path fs r table
-  unserved_done fs table is ends begins r unserved = by_found (filed_of e r) (end_found b at.place ms e r end) unserved
+unserved_none : (o : Option Filed) (f : Filed) (i : ℕ) → o ≡ Some f → IsUnserved o → f.from ≤ i → i < f.to → ⊥
+unserved_none o f i e unserved = not_between f.from f.to i (subst IsUnserved e unserved)
+
+-- the flights of a path begin with the end's carrier, and end at its place
+pub record ReachesEnd (e : End) (fs : List Flight) : Type 0 where
+  pub ends : OnLast (λ f. f.to ≡ e.key.place) fs
+  pub begins : OnFirst (λ f. f.carrier ≡ e.key.carrier) fs
+
+begins_as : (e : End) (first : Flight) (fs : List Flight) → e.key.carrier ≡ first.carrier → OnFirst (λ f. f ≡ first) fs → OnFirst (λ f. f.carrier ≡ e.key.carrier) fs
+begins_as e first [] own h = absurd h
+begins_as e first (f ∷ fs) own h = ap (λ (x : Flight). x.carrier) h ∙ sym own
+
+pub reaches_as : (e : End) (first last : Flight) (fs : List Flight) → e.key ≡ record { place = last.to; carrier = first.carrier } → OnFirst (λ f. f ≡ first) fs → OnLast (λ f. f ≡ last) fs → ReachesEnd e fs
+reaches_as e first last fs key begins ends = record {
+  ends = on_last_to (λ f. f ≡ last) (λ f. f.to ≡ e.key.place) fs (λ f k. ap (λ (x : Flight). x.to) k ∙ sym (ap (λ (x : EndKey). x.place) key)) ends;
+  begins = begins_as e first fs (ap (λ (x : EndKey). x.carrier) key) begins;
+}
+
+module _ (b : Book) (q : Request) (at : Position) (path : Path) (ms : List Market) (e : End) (are : AreMarkets b ms) (limited : Limited b) (end : IsEnd b at.place ms e) where
+  -- a path is done one way once the groups of its first carrier are
+  pub served_done : (classes : ℕ) (fs : List Flight) (table : List Entry) → IsPath b q.slices at path.flights fs path.after → HasLegs b q fs classes → ReachesEnd e fs → (r : Bool)
+      → ((f : Filed) → filed_of e r ≡ Some f → (m : Market) → slice_get ms f.market ≡ Some m → (i : ℕ) (g : FareGroup) → slice_get m.groups i ≡ Some g → f.from ≤ i → i < f.to → HasGroup b path fs classes r g table) → PathDone b q at path fs r table
+  served_done classes fs table is has reaches r groups = by_found (filed_of e r) (end_found b at.place ms e r end) groups
     where
       over : MarketOver r fs (end_from r at.place e.key.place) (end_to r at.place e.key.place)
-      over = path_over b q at path.flights fs path.after e.key.place is ends r
+      over = path_over b q at path.flights fs path.after e.key.place is reaches.ends r
 
-      by_found : (o : Option Filed) → MatchOption o (NoFare b (end_from r at.place e.key.place) (end_to r at.place e.key.place)) (FiledAt ms (record { from = end_from r at.place e.key.place; to = end_to r at.place e.key.place }) e.key.carrier) → IsUnserved o → PathDone b q at path fs r table
-      by_found None none u = record { from = end_from r at.place e.key.place; to = end_to r at.place e.key.place; market = over; done = inl none }
-      by_found (Some f) s u =
+      by_found : (o : Option Filed) → MatchOption o (NoFare b (end_from r at.place e.key.place) (end_to r at.place e.key.place)) (FiledAt ms (record { from = end_from r at.place e.key.place; to = end_to r at.place e.key.place }) e.key.carrier)
+          → ((f : Filed) → o ≡ Some f → (m : Market) → slice_get ms f.market ≡ Some m → (i : ℕ) (g : FareGroup) → slice_get m.groups i ≡ Some g → f.from ≤ i → i < f.to → HasGroup b path fs classes r g table) → PathDone b q at path fs r table
+      by_found None none k = record { from = end_from r at.place e.key.place; to = end_to r at.place e.key.place; market = over; done = inl none }
+      by_found (Some f) s k =
           let m = s.at.market in
           let market = each_in (IsMarket b) ms m are (got_in ms f.market m s.at.stands) in
-          let has = legs fs (path_numbers b q at path.flights fs path.after is) in
           let some = some_counted fs (path_some b q at path.flights fs path.after is) in
           let own : MarketOver r fs m.sheet.value.from m.sheet.value.to =
           subst (λ p. MarketOver r fs m.sheet.value.from p) (sym s.at.to) (subst (λ p. MarketOver r fs p (end_to r at.place e.key.place)) (sym s.at.from) over) in
@@ -101,20 +123,31 @@ module _ (b : Book) (q : Request) (at : Position) (path : Path) (ms : List Marke
               m.sheet.value,
               m.groups,
               record { path_is = is; legs_are = has.legs_are; classes_are = has.classes_are; market = own; sheet_is = market.sheet; groups_are = market.groups; limited = limited },
-              groups_apart b path fs classes r table m.groups e.key.carrier f some begins s.groups u,
+              groups_between b path fs classes r table m.groups e.key.carrier f some reaches.begins s.groups (k f refl m s.at.stands),
             );
           }
 
   -- a path of a carrier that has no fare to its end or from it is put in by leaving the table as it is
-  pub unserved_added : (old : List Entry) → EndsAt b path.flights e.key.place → BeginsWith b path.flights e.key.carrier → IsUnserved e.there → IsUnserved e.back → PathAdded b q at path old old
-  unserved_added old ends begins there back = record {
+  pub unserved_added : (old : List Entry) → ((fs : List Flight) → Numbers b path.flights fs → ReachesEnd e fs) → IsUnserved e.there → IsUnserved e.back → PathAdded b q at path old old
+  unserved_added old reaches there back = record {
     goes = goes_self b q at old;
-    done = λ fs is r. let own = path_numbers b q at path.flights fs path.after is in unserved_done fs old is (ends fs own) (begins fs own) r (both r);
+    done = λ fs is r.
+        let legs = some_legs b q fs in
+        served_done legs.0 fs old is legs.1 (reaches fs (path_numbers b q at path.flights fs path.after is)) r (λ f found m stands i g got low high. absurd (unserved_none (filed_of e r) f i found (both r) low high));
   }
     where
       both : (r : Bool) → IsUnserved (filed_of e r)
       both true = back
       both false = there
+
+  -- and so is one on which no class is open
+  pub closed_added : (classes : ℕ) (old : List Entry) → ((fs : List Flight) → Numbers b path.flights fs → ReachesEnd e fs) → ((fs : List Flight) → Numbers b path.flights fs → HasLegs b q fs classes) → classes ≡ 0 → PathAdded b q at path old old
+  closed_added classes old reaches legs none = record {
+    goes = goes_self b q at old;
+    done = λ fs is r.
+        let own = path_numbers b q at path.flights fs path.after is in
+        served_done classes fs old is (legs fs own) (reaches fs own) r (λ f found m stands i g got low high rule live permits least cheap. absurd (no_class classes cheap.fare.class none cheap.open_class));
+  }
 
 -- the groups of a market from one place on and before another were put in
 pub record BetweenIn (b : Book) (q : Request) (at : Position) (flown : Flown) (reverse : Bool) (gs : List FareGroup) (from to : ℕ) (old new : List Entry) : Type 0 where

@@ -4,3 +4,4 @@ pub mod Reaches
 pub mod Tails
 pub mod Networks
 pub mod Tables
+pub mod Classes

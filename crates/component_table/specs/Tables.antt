@@ -1,14 +1,11 @@
 -- A table as it grows: what it has stands there at no more, and each group of a path's market is put in.
 use Rattle.std.specs.Prelude.{◌≡◌, ◌≢◌, ◌⊎◌, ◌↔◌, ℕ, ◌+◌, ◌≤◌, ◌<◌, Bool, List, [], length, slice_get, Option, Some, All, IsBitSet}
 use Rattle.std.specs.Int.{IsInRange}
-use Rattle.component_table.specs.declared.ends.Reach.{Reach}
 use Rattle.component_table.specs.declared.markets.Market.{Market}
-use Rattle.component_table.specs.declared.masks.Masks.{Masks}
 use Rattle.component_table.specs.declared.ways.Flown.{Flown}
 use Rattle.component_table.specs.declared.ways.Serving.{Serving}
 use Rattle.component_table.specs.Markets.{IsMarket}
-use Rattle.component_table.specs.Masks.{AreMasks}
-use Rattle.component_table.specs.Reaches.{IsReach, StandBetween}
+use Rattle.component_table.specs.Reaches.{StandBetween}
 use Rattle.fare_book.specs.Keeping.{Limited}
 use Rattle.fare_groups.specs.declared.group.FareGroup.{FareGroup}
 use Rattle.fare_groups.specs.declared.group.GroupedFare.{GroupedFare}
@@ -16,7 +13,6 @@ use Rattle.fare_groups.specs.Grouping.{Cheapest}
 use Rattle.fare_groups.specs.Groups.{HasClass, Permits, extra_of, group_of}
 use Rattle.fare_law.specs.declared.flights.Flight.{Flight}
 use Rattle.fare_law.specs.declared.names.Carrier.{Carrier}
-use Rattle.fare_law.specs.declared.names.Place.{Place}
 use Rattle.fare_law.specs.declared.requests.Request.{Request}
 use Rattle.fare_law.specs.declared.rules.Rule.{Rule}
 use Rattle.fare_law.specs.declared.sheets.Leg.{Leg}
@@ -101,13 +97,13 @@ pub record IsOver (b : Book) (q : Request) (flown : Flown) (m : Market) : Type 0
   pub market_is : IsMarket b m
   pub limited : Limited b
 
--- the first of the flights of these numbers is of this carrier
-abbrev pub BeginsWith : Book → List ℕ → Carrier → Type 0
-BeginsWith b ns carrier = (fs : List Flight) → Numbers b ns fs → OnFirst (λ f. f.carrier ≡ carrier) fs
+-- this is the first of the flights of these numbers
+abbrev pub BeginsWith : Book → List ℕ → Flight → Type 0
+BeginsWith b ns flight = (fs : List Flight) → Numbers b ns fs → OnFirst (λ f. f ≡ flight) fs
 
--- the last of the flights of these numbers arrives at this place
-abbrev pub EndsAt : Book → List ℕ → Place → Type 0
-EndsAt b ns place = (fs : List Flight) → Numbers b ns fs → OnLast (λ f. f.to ≡ place) fs
+-- this is the last of the flights of these numbers
+abbrev pub EndsWith : Book → List ℕ → Flight → Type 0
+EndsWith b ns flight = (fs : List Flight) → Numbers b ns fs → OnLast (λ f. f ≡ flight) fs
 
 -- All groups of the first flight's carrier stand where it is served.
 pub record IsServed (fs : List Flight) (s : Serving) : Type 0 where
@@ -161,14 +157,6 @@ IsDone b q at path table = (fs : List Flight) → IsPath b q.slices at path.flig
 pub record PathAdded (b : Book) (q : Request) (at : Position) (path : Path) (old new : List Entry) : Type 0 where
   pub goes : GoesOn b q at old new
   pub done : IsDone b q at path new
-
--- What puts paths of a position into its table has this book, request and position, the markets between its place and others, and masks of flights.
-pub record IsPutting (b : Book) (q : Request) (at : Position) (book : Book) (request : Request) (position : Position) (r : Reach) (ms : Masks) : Type 0 where
-  pub book_is : book ≡ b
-  pub request_is : request ≡ q
-  pub at_is : position ≡ at
-  pub reach : IsReach book position.place r
-  pub masks : AreMasks book request ms
 
 -- A table of a position as it is made.
 pub record Put : Type 0 where

@@ -1,21 +1,25 @@
 //! The paths of a position and the groups of fares over them, put into its table.
-ghost use Rattle.std.specs.Prelude.{◌≡◌, ◌≢◌, ◌<◌, ◌≤◌, ◌+◌, [], List as Items, length, slice_get, IsTrue, OnOk, Some};
+ghost use Rattle.std.specs.Prelude.{◌≡◌, ◌≢◌, ◌<◌, ◌≤◌, ◌+◌, [], List as Items, length, slice_get, IfOk, IsTrue, OnOk, Some};
+ghost use Rattle.component_table.specs.Classes.{AreSettled, BothSettled, GroupSettled, GroupsSettled, IsLanded, WaySettled};
 ghost use Rattle.component_table.specs.Markets.{AreMarkets};
 ghost use Rattle.component_table.specs.Masks.{AreMasks};
 ghost use Rattle.component_table.specs.Reaches.{IsEnd, IsReach, IsUnserved, filed_of};
-ghost use Rattle.component_table.specs.Tables.{BeginsWith, EndsAt, GroupDone, HasLegs, HasRow, IsFlown, IsOfPath, IsOver, IsPathFrom, IsPathOver, IsRowOf, IsServed, MarketDone, PathAdded, WayDone};
+ghost use Rattle.component_table.specs.Tables.{Covers, GroupDone, HasRow, IsFlown, IsOfPath, IsOver, IsPathFrom, IsPathOver, IsRowOf, IsServed, MarketDone, PathAdded, WayDone};
+ghost use Rattle.fare_book.specs.Keeping.{Limited};
 ghost use Rattle.fare_law.specs.declared.flights.Flight.{Flight as DatedFlight};
 ghost use Rattle.fare_law.specs.Lists.{IsIn, OnFirst, OnLast};
 ghost use Rattle.fare_law.specs.Parts.{Numbers};
 ghost use Rattle.outlines.specs.ByGroups.{OutlineOver};
 
+use crate::classes::{ClassKey, PathClass};
 use crate::ends::{End, EndKey, Reach};
 use crate::filed::Filed;
-use crate::gathering::{carrier_of, end_of, flights_of};
-use crate::growing::{ClassKey, Growing};
+use crate::gathering::{first_flight, flights_of, last_flight};
+use crate::growing::Growing;
 use crate::markets::Market;
 use crate::masks::Masks;
-use crate::ways::{Flown, Origin, Serving};
+use crate::settled::Filling;
+use crate::ways::{Flown, Landed, Origin, Serving};
 use fare_groups::{FareGroup, GroupKey, extra};
 use fare_law::{Flight, MarketSheet, Mem, SheetRow};
 use flight_paths::{Path, Position};
@@ -26,10 +30,10 @@ use rule_unit::rules_stay_in_range;
 use std::alloc::Global;
 
 /// Puts a path into the table, with the fares that are filed from its beginning to its end, and those in
-/// reverse. A path whose first carrier has no fare there is looked at no further.
+/// reverse. A path whose first carrier has no fare there is looked at no further, nor is one without an open class.
 pub fn add_path(
     alloc: Global,
-    table: &mut Growing,
+    filling: &mut Filling,
     reach: &mut Reach,
     masks: &mut Masks,
     origin: &Origin,
@@ -37,26 +41,58 @@ pub fn add_path(
 ) -> Result<(), Mem>
     requires reach { IsReach origin.now.book.now origin.now.at.now.place reach.old }
     requires masks { AreMasks origin.now.book.now origin.now.request.now masks.old }
+    requires settled { AreSettled origin.now.book.now origin.now.request.now origin.now.at.now filling.old.settled.kept.items filling.old.table.entries.items }
     ensures reach { IsReach origin.now.book.now origin.now.at.now.place reach.new }
     ensures masks { AreMasks origin.now.book.now origin.now.request.now masks.new }
-    ensures done { OnOk result (IsPathFrom origin.now.book.now origin.now.request.now origin.now.at.now path.now → PathAdded origin.now.book.now origin.now.request.now origin.now.at.now path.now table.old.entries.items table.new.entries.items) }
+    ensures settled { AreSettled origin.now.book.now origin.now.request.now origin.now.at.now filling.new.settled.kept.items filling.new.table.entries.items }
+    ensures done { OnOk result (IsPathFrom origin.now.book.now origin.now.request.now origin.now.at.now path.now → PathAdded origin.now.book.now origin.now.request.now origin.now.at.now path.now filling.old.table.entries.items filling.new.table.entries.items) }
 {
     let numbers = path.flights.as_slice();
-    let Some(place) = end_of(origin.book, numbers) else {
+    let Some(first) = first_flight(origin.book, numbers) else {
         return Ok(());
     };
-    let Some(carrier) = carrier_of(origin.book, numbers) else {
+    let Some(last) = last_flight(origin.book, numbers) else {
         return Ok(());
     };
     origin.book.limits();
-    let key = EndKey { place, carrier };
-    let end = reach.find(alloc, origin.book, origin.at.place, key)?;
-    let classes = masks.classes_of(origin.book, origin.request, numbers)?;
+    let end = reach.find(alloc, origin.book, origin.at.place, key_of(first, last))?;
     if is_unserved(&end) {
         return Ok(());
     }
-    let markets = reach.markets.kept.as_slice();
-    add_both(table, origin, markets, path, classes, &end)
+    let classes = masks.classes_of(origin.book, origin.request, numbers)?;
+    if classes == 0 {
+        return Ok(());
+    }
+    let landed = Landed {
+        path,
+        end: &end,
+        class: class_of(&path.after, first, last),
+        classes,
+    };
+    add_landed(filling, origin, reach.markets.kept.as_slice(), &landed)
+}
+
+/// What the end of a path is asked for by.
+fn key_of(first: &Flight, last: &Flight) -> EndKey
+    ensures { result ≡ record { place = last.now.to; carrier = first.now.carrier } }
+{
+    EndKey {
+        place: last.to,
+        carrier: first.carrier,
+    }
+}
+
+/// The class of a path with these first and last flights.
+fn class_of(after: &Option<Position>, opening: &Flight, closing: &Flight) -> PathClass
+    ensures { result ≡ record { after = after.now; end = closing.now.to; carrier = opening.now.carrier; first = opening.now.day; last = closing.now.day } }
+{
+    PathClass {
+        after: *after,
+        end: closing.to,
+        carrier: opening.carrier,
+        first: opening.day,
+        last: closing.day,
+    }
 }
 
 /// Whether the carrier has no fare to this end or from it.
@@ -76,33 +112,55 @@ fn has_none(filed: Option<Filed>) -> bool
     }
 }
 
-/// Puts in a path of a carrier that has fares to its end or from it. These classes are open in each of its flights.
+/// Puts in a path to an end of its first carrier's fares, if its class isn't settled.
+fn add_landed(
+    filling: &mut Filling,
+    origin: &Origin,
+    markets: &[Market],
+    landed: &Landed,
+) -> Result<(), Mem>
+    requires markets { AreMarkets origin.now.book.now markets.now }
+    requires landed { IsLanded origin.now.book.now origin.now.request.now origin.now.at.now markets.now landed.now }
+    requires limited { Limited origin.now.book.now }
+    requires settled { AreSettled origin.now.book.now origin.now.request.now origin.now.at.now filling.old.settled.kept.items filling.old.table.entries.items }
+    ensures settled { AreSettled origin.now.book.now origin.now.request.now origin.now.at.now filling.new.settled.kept.items filling.new.table.entries.items }
+    ensures done { OnOk result (IsPathFrom origin.now.book.now origin.now.request.now origin.now.at.now landed.now.path.now → PathAdded origin.now.book.now origin.now.request.now origin.now.at.now landed.now.path.now filling.old.table.entries.items filling.new.table.entries.items) }
+{
+    if filling.settled.has(&landed.class, landed.classes) {
+        return Ok(());
+    }
+    if add_both(&mut filling.table, origin, markets, landed)? {
+        filling.settled.put(&landed.class, landed.classes)?;
+    }
+    Ok(())
+}
+
+/// Puts in such a path. Returns whether each of its groups then stands at its least share, so that no path of the
+/// class on which no other classes of seats are open can lower one.
 fn add_both(
     table: &mut Growing,
     origin: &Origin,
     markets: &[Market],
-    path: &Path,
-    classes: u32,
-    end: &End,
-) -> Result<(), Mem>
+    landed: &Landed,
+) -> Result<bool, Mem>
     requires markets { AreMarkets origin.now.book.now markets.now }
-    requires end { IsEnd origin.now.book.now origin.now.at.now.place markets.now end.now }
-    requires some { 1 ≤ length path.now.flights }
-    requires classes { (fs : Items DatedFlight) → Numbers origin.now.book.now path.now.flights fs → HasLegs origin.now.book.now origin.now.request.now fs classes }
-    requires begins { BeginsWith origin.now.book.now path.now.flights end.now.key.carrier }
-    requires ends { EndsAt origin.now.book.now path.now.flights end.now.key.place }
-    ensures { OnOk result (IsPathFrom origin.now.book.now origin.now.request.now origin.now.at.now path.now → PathAdded origin.now.book.now origin.now.request.now origin.now.at.now path.now table.old.entries.items table.new.entries.items) }
+    requires landed { IsLanded origin.now.book.now origin.now.request.now origin.now.at.now markets.now landed.now }
+    ensures covers { Covers table.old.entries.items table.new.entries.items }
+    ensures settled { IfOk result (λ all. IsTrue all → (fs : Items DatedFlight) × Numbers origin.now.book.now landed.now.path.now.flights fs × BothSettled markets.now landed.now fs table.new.entries.items) }
+    ensures done { OnOk result (IsPathFrom origin.now.book.now origin.now.request.now origin.now.at.now landed.now.path.now → PathAdded origin.now.book.now origin.now.request.now origin.now.at.now landed.now.path.now table.old.entries.items table.new.entries.items) }
 {
-    let Some(flights) = flights_of(origin.book, path.flights.as_slice()) else {
-        return Ok(());
+    let Some(flights) = flights_of(origin.book, landed.path.flights.as_slice()) else {
+        return Ok(false);
     };
     let flown = Flown {
-        path,
+        path: landed.path,
         flights,
-        classes,
+        class: landed.class,
+        classes: landed.classes,
     };
-    add_way(table, origin, markets, &flown, end, false)?;
-    add_way(table, origin, markets, &flown, end, true)
+    let there = add_way(table, origin, markets, &flown, landed.end, false)?;
+    let back = add_way(table, origin, markets, &flown, landed.end, true)?;
+    Ok(are_both(there, back))
 }
 
 /// Puts in a path with the fares that are filed from its beginning to its end, or in reverse.
@@ -113,11 +171,13 @@ fn add_way(
     flown: &Flown,
     end: &End,
     reverse: bool,
-) -> Result<(), Mem>
+) -> Result<bool, Mem>
     requires markets { AreMarkets origin.now.book.now markets.now }
     requires end { IsEnd origin.now.book.now origin.now.at.now.place markets.now end.now }
     requires flown { IsFlown origin.now.book.now origin.now.request.now flown.now }
-    ensures { OnOk result (IsOfPath origin.now.book.now origin.now.request.now origin.now.at.now flown.now → OnFirst (λ f. f.carrier ≡ end.now.key.carrier) flown.now.flights → OnLast (λ f. f.to ≡ end.now.key.place) flown.now.flights → WayDone origin.now.book.now origin.now.request.now origin.now.at.now flown.now.path.now flown.now.flights reverse table.old.entries.items table.new.entries.items) }
+    ensures covers { Covers table.old.entries.items table.new.entries.items }
+    ensures settled { IfOk result (λ all. IsTrue all → WaySettled markets.now end.now flown.now.path.now.after flown.now.flights flown.now.classes reverse table.new.entries.items) }
+    ensures done { OnOk result (IsOfPath origin.now.book.now origin.now.request.now origin.now.at.now flown.now → OnFirst (λ f. f.carrier ≡ end.now.key.carrier) flown.now.flights → OnLast (λ f. f.to ≡ end.now.key.place) flown.now.flights → WayDone origin.now.book.now origin.now.request.now origin.now.at.now flown.now.path.now flown.now.flights reverse table.old.entries.items table.new.entries.items) }
 {
     origin.book.limits();
     match filed_of(end, reverse) {
@@ -130,7 +190,7 @@ fn add_way(
             };
             add_market(table, origin, flown, &serving)
         }
-        None => Ok(()),
+        None => Ok(true),
     }
 }
 
@@ -155,41 +215,33 @@ fn add_market(
     origin: &Origin,
     flown: &Flown,
     serving: &Serving,
-) -> Result<(), Mem>
+) -> Result<bool, Mem>
     requires over { IsOver origin.now.book.now origin.now.request.now flown.now serving.now.market.now }
     requires within { serving.now.filed.to ≤ length serving.now.market.now.groups }
-    ensures { OnOk result (IsPathOver origin.now.book.now origin.now.request.now origin.now.at.now flown.now serving.now.reverse serving.now.market.now → IsServed flown.now.flights serving.now → MarketDone origin.now.book.now origin.now.request.now origin.now.at.now flown.now serving.now.reverse serving.now.market.now table.old.entries.items table.new.entries.items) }
+    ensures covers { Covers table.old.entries.items table.new.entries.items }
+    ensures settled { IfOk result (λ all. IsTrue all → GroupsSettled flown.now.path.now.after flown.now.flights flown.now.classes serving.now.reverse serving.now.market.now.groups serving.now.filed.from serving.now.filed.to table.new.entries.items) }
+    ensures done { OnOk result (IsPathOver origin.now.book.now origin.now.request.now origin.now.at.now flown.now serving.now.reverse serving.now.market.now → IsServed flown.now.flights serving.now → MarketDone origin.now.book.now origin.now.request.now origin.now.at.now flown.now serving.now.reverse serving.now.market.now table.old.entries.items table.new.entries.items) }
 {
     let from = serving.filed.from;
     let to = serving.filed.to;
     if to <= from {
-        return Ok(());
+        return Ok(true);
     }
-    let key = class_of(flown, serving.reverse);
+    let key = ClassKey::of(&flown.class, serving.reverse);
     let begin = table.class(key, to - from)?;
     let groups = serving.market.groups.as_slice();
+    let mut settled = true;
     for at in from..to {
         let slot = begin.saturating_add(at - from);
-        add_group(table, origin, flown, serving, &groups[at], slot)?;
+        let one = add_group(table, origin, flown, serving, &groups[at], slot)?;
+        settled = are_both(settled, one);
     }
-    Ok(())
-}
-
-/// The class of a path, one way.
-fn class_of(flown: &Flown, reverse: bool) -> ClassKey
-    requires { flown.now.flights ≢ [] }
-{
-    let flights = flown.flights.as_slice();
-    ClassKey::of(
-        &flown.path.after,
-        first_of(flights),
-        last_of(flights),
-        reverse,
-    )
+    Ok(settled)
 }
 
 /// Puts in a group of a market, where its rule permits the flights and it has a fare in an open class. The rule need
-/// not be asked where the outline stands already at no more than the share, since it only adds charges.
+/// not be asked where the outline stands already at no more than the share, since it only adds charges. Returns whether
+/// it stands at no more than the share then.
 fn add_group(
     table: &mut Growing,
     origin: &Origin,
@@ -197,30 +249,47 @@ fn add_group(
     serving: &Serving,
     group: &FareGroup,
     slot: usize,
-) -> Result<(), Mem>
+) -> Result<bool, Mem>
     requires over { IsOver origin.now.book.now origin.now.request.now flown.now serving.now.market.now }
     requires group { IsIn group.now serving.now.market.now.groups }
-    ensures { OnOk result (IsPathOver origin.now.book.now origin.now.request.now origin.now.at.now flown.now serving.now.reverse serving.now.market.now → GroupDone origin.now.book.now origin.now.request.now origin.now.at.now flown.now serving.now.reverse group.now table.old.entries.items table.new.entries.items) }
+    ensures covers { Covers table.old.entries.items table.new.entries.items }
+    ensures settled { IfOk result (λ all. IsTrue all → GroupSettled flown.now.path.now.after flown.now.flights flown.now.classes serving.now.reverse group.now table.new.entries.items) }
+    ensures done { OnOk result (IsPathOver origin.now.book.now origin.now.request.now origin.now.at.now flown.now serving.now.reverse serving.now.market.now → GroupDone origin.now.book.now origin.now.request.now origin.now.at.now flown.now serving.now.reverse group.now table.old.entries.items table.new.entries.items) }
 {
     origin.book.limits();
     limits_are_met();
     rules_stay_in_range();
     let Some(share) = group.cheapest(flown.classes) else {
-        return Ok(());
+        return Ok(true);
     };
     let flights = flown.flights.as_slice();
     let outline = outline_over(&flown.path.after, flights, group.key, serving.reverse);
     let found = table.find(slot, &outline);
     if table.is_below(found, share) {
-        return Ok(());
+        return Ok(true);
     }
     let sheet: &MarketSheet = &serving.market.sheet;
     let row = first_row(sheet, group);
     let Some(charges) = extra(&row.rule, group.key.carrier, flights) else {
-        return Ok(());
+        return Ok(false);
     };
     let price = sum(share, charges);
-    table.put(found, slot, &outline, &row.rule, price)
+    table.put(found, slot, &outline, &row.rule, price)?;
+    Ok(is_free(charges))
+}
+
+/// Whether both hold.
+fn are_both(one: bool, other: bool) -> bool
+    ensures { IsTrue result → IsTrue one × IsTrue other }
+{
+    one && other
+}
+
+/// Whether a rule adds no charges.
+fn is_free(charges: u64) -> bool
+    ensures { IsTrue result → charges ≡ 0 }
+{
+    charges == 0
 }
 
 /// A share with the charges of a rule.

@@ -6,7 +6,6 @@ ghost use Rattle.component_table.specs.Reaches.{IsEndAt, IsKnown, IsReach};
 use crate::filed::{Filed, filed_at};
 use crate::markets::{MarketKey, Markets};
 use crate::recent::{Recent, spot_of};
-use crate::same::{same_carrier, same_place};
 use fare_book::Book;
 use fare_law::{Carrier, Mem, Place};
 use indexmap::IndexMap;
@@ -44,7 +43,7 @@ impl EndKey {
     fn is(self, other: EndKey) -> bool
         ensures { IsTrue result ↔ (self ≡ other) }
     {
-        same_place(self.place, other.place) && same_carrier(self.carrier, other.carrier)
+        self.place.is(other.place) && self.carrier.is(other.carrier)
     }
 
     /// The letters, as one number.

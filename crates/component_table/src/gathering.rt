@@ -1,13 +1,13 @@
 //! What is known of the flights of a path.
 ghost use Rattle.std.specs.Prelude.{◌≡◌, ◌≢◌, ◌≤◌, [], All, IfNone, IfSome, List as Items, length, option_copied, slice_get};
-ghost use Rattle.component_table.specs.Tables.{BeginsWith, EndsAt};
+ghost use Rattle.component_table.specs.Tables.{BeginsWith, EndsWith};
 ghost use Rattle.fare_law.specs.declared.flights.Flight.{Flight as DatedFlight};
 ghost use Rattle.fare_law.specs.Limits.{IsFlight};
 ghost use Rattle.fare_law.specs.Parts.{Numbers};
 ghost use Rattle.flight_paths.specs.Plans.{HasPlan};
 
 use fare_book::Book;
-use fare_law::{ArrayVec, Carrier, Flight, Place};
+use fare_law::{ArrayVec, Flight};
 use schedule_book::Schedule;
 
 /// The places and the flights of a book.
@@ -24,32 +24,30 @@ pub fn flight_of(all: &[Flight], number: u32) -> Option<&Flight>
     all.get(number as usize)
 }
 
-/// Where the last of the flights of these numbers arrives. None where there is no number, or the last is that of
-/// no flight.
-pub fn end_of(book: &Book, numbers: &[u32]) -> Option<Place>
-    ensures some { IfSome result (λ place. (1 ≤ length numbers.now) × EndsAt book.now numbers.now place) }
+/// The first of the flights of these numbers. None where there is no number, or the first is that of no flight.
+pub fn first_flight<'a>(book: &'a Book, numbers: &[u32]) -> Option<&'a Flight>
+    ensures some { IfSome result (λ f. BeginsWith book.now numbers.now f.now) }
     ensures none { IfNone result ((fs : Items DatedFlight) → Numbers book.now numbers.now fs → numbers.now ≢ [] → ⊥) }
 {
     let all = schedule_of(book).flights();
     match numbers {
-        [.., last] => match flight_of(all, *last) {
-            Some(flight) => Some(flight.to),
+        [first, ..] => match flight_of(all, *first) {
+            Some(flight) => Some(flight),
             None => None,
         },
         [] => None,
     }
 }
 
-/// The carrier of the first of the flights of these numbers. None where there is no number, or the first is that of
-/// no flight.
-pub fn carrier_of(book: &Book, numbers: &[u32]) -> Option<Carrier>
-    ensures some { IfSome result (BeginsWith book.now numbers.now) }
+/// The last of the flights of these numbers. None where there is no number, or the last is that of no flight.
+pub fn last_flight<'a>(book: &'a Book, numbers: &[u32]) -> Option<&'a Flight>
+    ensures some { IfSome result (λ f. (1 ≤ length numbers.now) × EndsWith book.now numbers.now f.now) }
     ensures none { IfNone result ((fs : Items DatedFlight) → Numbers book.now numbers.now fs → numbers.now ≢ [] → ⊥) }
 {
     let all = schedule_of(book).flights();
     match numbers {
-        [first, ..] => match flight_of(all, *first) {
-            Some(flight) => Some(flight.carrier),
+        [.., last] => match flight_of(all, *last) {
+            Some(flight) => Some(flight),
             None => None,
         },
         [] => None,

@@ -1,71 +1,14 @@
 //! A table as it grows, entry by entry.
 ghost use Rattle.std.specs.Prelude.{◌≡◌, ◌↔◌, ◌≤◌, [], IfSome, IsTrue, OnOk, Some, slice_get};
-ghost use Rattle.component_table.specs.Tables.{HasAt, IsBelow, Lowered};
+ghost use Rattle.component_table.specs.Tables.{Covers, HasAt, IsBelow, Lowered};
 
-use crate::recent::{Recent, mixed, spot_of};
-use crate::same::{same_carrier, same_place};
-use fare_law::{FareKind, Flight, Mem, Place, Rule, Shared};
-use flight_paths::Position;
+use crate::classes::ClassKey;
+use crate::recent::Recent;
+use crate::same::same_after;
+use fare_law::{FareKind, Mem, Rule, Shared};
 use indexmap::IndexMap;
 use outlines::{Entry, Outline};
 use std::alloc::Global;
-
-/// What the paths of a class have in common: where they lead, where and when they begin and end, the carrier of their
-/// first flight, and which way the fares are filed. It is packed into numbers, by which places are looked up.
-#[derive(Clone, Copy, PartialEq, Eq, Hash, Debug)]
-pub struct ClassKey {
-    range: u64,
-    places: u64,
-    ends: u64,
-    days: u64,
-}
-
-impl ClassKey {
-    /// The class of the paths over these flights, one way.
-    pub fn of(after: &Option<Position>, first: &Flight, last: &Flight, reverse: bool) -> ClassKey {
-        let [a, b, c] = last.to.0;
-        let [d, e] = first.carrier.0;
-        ClassKey {
-            range: range_of(after),
-            places: places_of(after),
-            ends: u64::from_le_bytes([a, b, c, d, e, u8::from(reverse), 0, 0]),
-            days: days_of(first.day, last.day),
-        }
-    }
-
-    /// The spot of the class.
-    fn spot(&self) -> usize {
-        spot_of(mixed(mixed(mixed(self.range, self.ends), self.places), self.days))
-    }
-}
-
-/// The days on which the first and the last flight depart, as one number.
-fn days_of(first: i32, last: i32) -> u64 {
-    let [a, b, c, d] = first.to_le_bytes();
-    let [e, f, g, h] = last.to_le_bytes();
-    u64::from_le_bytes([a, b, c, d, e, f, g, h])
-}
-
-/// The range of a position, as one number.
-fn range_of(after: &Option<Position>) -> u64 {
-    match after {
-        Some(position) => u64::from(position.lo) << 32 | u64::from(position.hi),
-        None => u64::MAX,
-    }
-}
-
-/// What else a position has, as one number.
-fn places_of(after: &Option<Position>) -> u64 {
-    let Some(position) = after else {
-        return u64::MAX;
-    };
-    let [a, b, c] = position.place.0;
-    let [d, e, f] = match position.via {
-        Some(via) => via.0,
-        None => [0; 3],
-    };
-    u64::from_le_bytes([a, b, c, d, e, f, position.slice, position.leg])
-}
 
 /// The entries so far.
 #[derive(Drop)]
@@ -147,7 +90,8 @@ impl Growing {
         price: u64,
     ) -> Result<(), Mem>
         requires { IfSome found (HasAt self.old.entries.items outline.now) }
-        ensures { OnOk result (Lowered (record { outline = outline.now; rule = rule.now; price = price }) self.old.entries.items self.new.entries.items) }
+        ensures covers { Covers self.old.entries.items self.new.entries.items }
+        ensures lowered { OnOk result (Lowered (record { outline = outline.now; rule = rule.now; price = price }) self.old.entries.items self.new.entries.items) }
     {
         match found {
             Some(at) => lower_at(&mut self.entries, at, outline, rule, price),
@@ -163,7 +107,8 @@ impl Growing {
         rule: &Shared<Rule>,
         price: u64,
     ) -> Result<(), Mem>
-        ensures { OnOk result (Lowered (record { outline = outline.now; rule = rule.now; price = price }) self.old.entries.items self.new.entries.items) }
+        ensures covers { Covers self.old.entries.items self.new.entries.items }
+        ensures lowered { OnOk result (Lowered (record { outline = outline.now; rule = rule.now; price = price }) self.old.entries.items self.new.entries.items) }
     {
         tell(self.slots.as_mut_slice(), slot, self.entries.len());
         let rule = rule.share()?;
@@ -210,7 +155,8 @@ fn lower_at(
     price: u64,
 ) -> Result<(), Mem>
     requires { HasAt entries.old.items outline.now at }
-    ensures { OnOk result (Lowered (record { outline = outline.now; rule = rule.now; price = price }) entries.old.items entries.new.items) }
+    ensures covers { Covers entries.old.items entries.new.items }
+    ensures lowered { OnOk result (Lowered (record { outline = outline.now; rule = rule.now; price = price }) entries.old.items entries.new.items) }
 {
     if entries[at].price <= price {
         return Ok(());
@@ -229,10 +175,10 @@ pub fn same_outline(one: &Outline, other: &Outline) -> bool
     ensures { IsTrue result ↔ (one.now ≡ other.now) }
 {
     same_after(&one.after, &other.after)
-        && same_place(one.end, other.end)
+        && one.end.is(other.end)
         && one.first == other.first
         && one.last == other.last
-        && same_carrier(one.carrier, other.carrier)
+        && one.carrier.is(other.carrier)
         && one.number == other.number
         && same_kind(one.kind, other.kind)
         && one.reverse == other.reverse
@@ -245,37 +191,5 @@ fn same_kind(one: FareKind, other: FareKind) -> bool
         FareKind::O => matches!(other, FareKind::O),
         FareKind::R => matches!(other, FareKind::R),
         FareKind::S => matches!(other, FareKind::S),
-    }
-}
-
-fn same_after(one: &Option<Position>, other: &Option<Position>) -> bool
-    ensures { IsTrue result ↔ (one.now ≡ other.now) }
-{
-    match (one, other) {
-        (Some(one), Some(other)) => same_position(one, other),
-        (None, None) => true,
-        _ => false,
-    }
-}
-
-/// Whether the positions are one.
-pub fn same_position(one: &Position, other: &Position) -> bool
-    ensures { IsTrue result ↔ (one.now ≡ other.now) }
-{
-    one.slice == other.slice
-        && one.leg == other.leg
-        && same_place(one.place, other.place)
-        && same_via(&one.via, &other.via)
-        && one.lo == other.lo
-        && one.hi == other.hi
-}
-
-fn same_via(one: &Option<Place>, other: &Option<Place>) -> bool
-    ensures { IsTrue result ↔ (one.now ≡ other.now) }
-{
-    match (one, other) {
-        (Some(one), Some(other)) => same_place(*one, *other),
-        (None, None) => true,
-        _ => false,
     }
 }

@@ -4,6 +4,7 @@
 #![tactic(auto)]
 
 mod adding;
+mod classes;
 mod ends;
 mod filed;
 mod gathering;
@@ -15,12 +16,13 @@ mod networks;
 mod recent;
 mod same;
 mod scenes;
+mod settled;
 mod tables;
 mod visiting;
 mod ways;
 
-pub use growing::same_position;
 pub use markets::{Market, MarketKey, Markets};
 pub use masks::Masks;
 pub use networks::{FareTails, Network};
+pub use same::same_position;
 pub use tables::outlines_of;

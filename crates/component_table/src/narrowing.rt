@@ -7,7 +7,6 @@ ghost use Rattle.indexmap.specs.IndexMap.{get};
 
 use crate::gathering::schedule_of;
 use crate::recent::{Recent, spot_of};
-use crate::same::same_place;
 use fare_book::Book;
 use fare_law::{Flight, List, Mem, Place};
 use flight_paths::{Ends, Path, tails_to};
@@ -58,11 +57,7 @@ fn known_at(known: &IndexMap<Place, bool>, found: Option<usize>, place: Place) -
     ensures { IfSome result (λ wanted. get ⟦<Place as PartialEq>⟧.eq known.now place ≡ Some wanted) }
 {
     let (end, wanted) = known.get_index(found?)?;
-    if same_place(*end, place) {
-        Some(*wanted)
-    } else {
-        None
-    }
+    if end.is(place) { Some(*wanted) } else { None }
 }
 
 impl Ends for FareEnds {

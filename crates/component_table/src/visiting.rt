@@ -10,6 +10,7 @@ use crate::growing::Growing;
 use crate::markets::Markets;
 use crate::masks::Masks;
 use crate::scenes::Scene;
+use crate::settled::{Filling, Settled};
 use crate::ways::Origin;
 use fare_law::Mem;
 use flight_paths::{Path, PathVisitor};
@@ -24,7 +25,7 @@ pub struct Putting<'a, S: Scene> {
     origin: Origin<'a>,
     reach: Reach,
     masks: Masks,
-    table: Growing,
+    filling: Filling,
     of: PhantomData<S>,
 }
 
@@ -38,14 +39,14 @@ pub struct Made {
 
 impl<'a, S: Scene> Model for Putting<'a, S> {
     ghost use Rattle.std.specs.Prelude.{List};
-    ghost use Rattle.component_table.specs.Tables.{IsPutting};
+    ghost use Rattle.component_table.specs.Classes.{IsPutting};
     ghost use Rattle.outlines.specs.declared.outline.Entry.{Entry as OneEntry};
 
     ghost Value = { List OneEntry };
 
-    ghost view = { λ p. p.table.entries.items };
+    ghost view = { λ p. p.filling.table.entries.items };
 
-    ghost invariant = { λ p. IsPutting S.book S.request S.at p.origin.book.now p.origin.request.now p.origin.at.now p.reach p.masks };
+    ghost invariant = { λ p. IsPutting S.book S.request S.at p.origin.book.now p.origin.request.now p.origin.at.now p.reach p.masks p.filling };
 }
 
 impl<'a, S: Scene> PathVisitor for Putting<'a, S> {
@@ -54,7 +55,7 @@ impl<'a, S: Scene> PathVisitor for Putting<'a, S> {
     fn visit(&mut self, path: &Path) -> Result<(), Mem> {
         add_path(
             self.alloc,
-            &mut self.table,
+            &mut self.filling,
             &mut self.reach,
             &mut self.masks,
             &self.origin,
@@ -78,7 +79,10 @@ impl<'a, S: Scene> Putting<'a, S> {
             origin: *origin,
             reach: Reach::new(alloc, origin.book, origin.at.place, markets),
             masks,
-            table: Growing::new(alloc),
+            filling: Filling {
+                table: Growing::new(alloc),
+                settled: Settled::new(alloc),
+            },
             of: PhantomData,
         }
     }
@@ -92,11 +96,11 @@ impl<'a, S: Scene> Putting<'a, S> {
         let Putting {
             reach,
             masks,
-            table,
+            filling,
             ..
         } = self;
         let Reach { markets, .. } = reach;
-        let Growing { entries, .. } = table;
+        let Growing { entries, .. } = filling.table;
         Made {
             entries,
             markets,

@@ -1,5 +1,7 @@
 //! Paths of a position as they are put into its table.
 
+use crate::classes::PathClass;
+use crate::ends::End;
 use crate::filed::Filed;
 use crate::markets::Market;
 use fare_book::Book;
@@ -14,11 +16,21 @@ pub struct Origin<'a> {
     pub at: &'a Position,
 }
 
+/// A path to an end of its first carrier's fares, with its class and the classes of seats that are open in every leg.
+#[derive(Clone, Copy)]
+pub struct Landed<'a> {
+    pub path: &'a Path,
+    pub end: &'a End,
+    pub class: PathClass,
+    pub classes: u32,
+}
+
 /// A path with its flights, and the classes that are open in every leg.
 #[derive(Drop)]
 pub struct Flown<'a> {
     pub path: &'a Path,
     pub flights: ArrayVec<Flight, 4>,
+    pub class: PathClass,
     pub classes: u32,
 }
 

@@ -1,13 +1,14 @@
 use Rattle.std.proofs.Common.{◌<◌, ap, length, slice_get, subst, ◌∙◌, arith}
-use Rattle.component_table.specs.Tables.{GoesOn}
-use Rattle.component_table.proofs.Lower.{goes_self}
+use Rattle.component_table.specs.Tables.{Covers, GoesOn}
+use Rattle.component_table.proofs.Lower.{covers_on, goes_self}
 use Rattle.component_table.proofs.PathFacts.{read_in}
 use Rattle.component_table.proofs.Served.{between_more, groups_apart, groups_between}
+use Rattle.component_table.proofs.SettledFacts.{groups_next}
 use Rattle.fare_law.specs.Lists.{IsIn}
 use Rattle.component_table.proofs.adding.add_market.Goals as goal
 
-pub returns-then-to-from : goal.returns-then-to-from
-returns-then-to-from c = λ p s.
+pub returns-then-to-from-clause-done : goal.returns-then-to-from-clause-done
+returns-then-to-from-clause-done c = λ p s.
     let b = c.args.origin.now.book.now in
     let flown = c.args.flown.now in
     let serving = c.args.serving.now in
@@ -22,19 +23,29 @@ add_group-requires-clause-group c =
     let lt : c.loop-at.at < length c.as_slice-groups.result.now = omega (arith, c.loop-at-test.true, c.requires.within, ap length c.as_slice-groups.ensures) in
     subst (IsIn c.index-groups-at.result) c.as_slice-groups.ensures (read_in c.as_slice-groups.result.now c.loop-at.at _ c.index-groups-at.result lt c.index-groups-at.is)
 
-pub loop-at-preserved : goal.loop-at-preserved
-loop-at-preserved c = λ p.
-    let lt : c.loop-at.at < length c.as_slice-groups.result.now = omega (arith, c.loop-at-test.true, c.requires.within, ap length c.as_slice-groups.ensures) in
-    between_more c.args.origin.now.book.now c.args.origin.now.request.now c.args.origin.now.at.now c.args.flown.now c.args.serving.now.reverse c.as_slice-groups.result.now c.args.serving.now.filed.from c.loop-at.at _ c.index-groups-at.result
-    c.class.new.self.entries.items c.loop-at.table.entries.items c.add_group.new.table.entries.items lt c.index-groups-at.is (c.loop-at.invariant p) (c.in_ok-add_group.ensures p)
+pub returns-in_err-one-clause-covers : goal.returns-in_err-one-clause-covers
+returns-in_err-one-clause-covers c = subst (λ es. Covers es c.add_group.new.table.entries.items) c.class.ensures (covers_on c.class.new.self.entries.items c.loop-at.table.entries.items c.add_group.new.table.entries.items c.loop-at.invariant.covers c.in_err-one.ensures.covers)
 
-pub returns : goal.returns
-returns c = λ p s.
+pub loop-at-preserved : goal.loop-at-preserved
+loop-at-preserved c =
+    let lt : c.loop-at.at < length c.as_slice-groups.result.now = omega (arith, c.loop-at-test.true, c.requires.within, ap length c.as_slice-groups.ensures) in
+    let mid = c.loop-at.table.entries.items in
+    let new = c.add_group.new.table.entries.items in
+    let f = c.args.flown.now in
+    record {
+      covers = covers_on c.class.new.self.entries.items mid new c.loop-at.invariant.covers c.in_ok-one.ensures.covers;
+      settled = λ all. let both = c.are_both-settled.ensures all in groups_next f.path.now.after f.flights f.classes c.args.serving.now.reverse mid new c.in_ok-one.ensures.covers c.as_slice-groups.result.now c.args.serving.now.filed.from c.loop-at.at _ c.index-groups-at.result lt c.index-groups-at.is (c.loop-at.invariant.settled both.0) (c.in_ok-one.ensures.settled both.1);
+      done = λ p. between_more c.args.origin.now.book.now c.args.origin.now.request.now c.args.origin.now.at.now f c.args.serving.now.reverse c.as_slice-groups.result.now c.args.serving.now.filed.from c.loop-at.at _ c.index-groups-at.result
+          c.class.new.self.entries.items mid new lt c.index-groups-at.is (c.loop-at.invariant.done p) (c.in_ok-one.ensures.done p);
+    }
+
+pub returns-clause-done : goal.returns-clause-done
+returns-clause-done c = λ p s.
     let b = c.args.origin.now.book.now in
     let flown = c.args.flown.now in
     let serving = c.args.serving.now in
     let new = c.loop-at.table.entries.items in
-    let put = c.loop-at.invariant p in
+    let put = c.loop-at.invariant.done p in
     record {
       goes = subst (λ es. GoesOn b c.args.origin.now.request.now c.args.origin.now.at.now es new) c.class.ensures put.goes;
       has = groups_between b flown.path.now flown.flights flown.classes serving.reverse new serving.market.now.groups s.carrier serving.filed c.requires.over.flown_is.count.0 s.first s.groups

@@ -1,7 +1,12 @@
-use Rattle.component_table.specs.Tables.{IsPathOver}
+use Rattle.std.proofs.Common.{IsTrue}
+use Rattle.component_table.specs.Classes.{GroupsSettled}
+use Rattle.component_table.specs.Tables.{Covers, IsPathOver}
 use Rattle.component_table.proofs.Served.{BetweenIn}
 use Rattle.component_table.proofs.adding.add_market.Given as goal
 
 abbrev pub invariant-loop-at : goal.invariant-loop-at
-invariant-loop-at l =
-    IsPathOver l.origin.book.now l.origin.request.now l.origin.at.now l.flown l.serving.reverse l.serving.market.now → BetweenIn l.origin.book.now l.origin.request.now l.origin.at.now l.flown l.serving.reverse l.groups l.from l.at l.initial.table.entries.items l.table.entries.items
+invariant-loop-at l = record {
+  covers : Covers l.initial.table.entries.items l.table.entries.items;
+  settled : IsTrue l.settled → GroupsSettled l.flown.path.now.after l.flown.flights l.flown.classes l.serving.reverse l.groups l.from l.at l.table.entries.items;
+  done : IsPathOver l.origin.book.now l.origin.request.now l.origin.at.now l.flown l.serving.reverse l.serving.market.now → BetweenIn l.origin.book.now l.origin.request.now l.origin.at.now l.flown l.serving.reverse l.groups l.from l.at l.initial.table.entries.items l.table.entries.items;
+}

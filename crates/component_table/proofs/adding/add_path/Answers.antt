@@ -1,8 +1,10 @@
-use Rattle.std.proofs.Common.{subst, sym, ◌∙◌}
+use Rattle.std.proofs.Common.{◌≤◌, ap, length, subst, sym, ◌∙◌}
+use Rattle.component_table.specs.declared.classes.PathClass.{PathClass}
 use Rattle.component_table.specs.declared.ends.EndKey.{EndKey}
-use Rattle.component_table.specs.Tables.{BeginsWith, EndsAt}
+use Rattle.component_table.specs.Reaches.{IsEnd}
 use Rattle.component_table.proofs.PathFacts.{path_numbers}
-use Rattle.component_table.proofs.Served.{unserved_added}
+use Rattle.component_table.proofs.Served.{closed_added, reaches_as, unserved_added}
+use Rattle.component_table.proofs.SettledFacts.{of_class}
 use Rattle.fare_law.specs.Parts.{Numbers}
 use Rattle.component_table.proofs.adding.add_path.Goals as goal
 
@@ -13,22 +15,49 @@ returns-in_default-clause-done c = λ p.
     let ns = c.args.path.now.flights in
     absurd (c.in_default.ensures.none p.0 (subst (λ l. Numbers b l p.0) (sym c.as_slice-numbers.ensures.items) (path_numbers b c.args.origin.now.request.now c.args.origin.now.at.now ns p.0 path.after p.1)) (λ e. p.1.some (sym c.as_slice-numbers.ensures.items ∙ e)))
 
-pub returns-in_default-carrier_of-clause-done : goal.returns-in_default-carrier_of-clause-done
-returns-in_default-carrier_of-clause-done c = λ p.
+pub returns-in_default-last_flight-clause-done : goal.returns-in_default-last_flight-clause-done
+returns-in_default-last_flight-clause-done c = λ p.
     let b = c.args.origin.now.book.now in
     let path = c.args.path.now in
     let ns = c.args.path.now.flights in
-    absurd (c.in_default-carrier_of.ensures.none p.0 (subst (λ l. Numbers b l p.0) (sym c.as_slice-numbers.ensures.items) (path_numbers b c.args.origin.now.request.now c.args.origin.now.at.now ns p.0 path.after p.1)) (λ e. p.1.some (sym c.as_slice-numbers.ensures.items ∙ e)))
+    absurd (c.in_default-last_flight.ensures.none p.0 (subst (λ l. Numbers b l p.0) (sym c.as_slice-numbers.ensures.items) (path_numbers b c.args.origin.now.request.now c.args.origin.now.at.now ns p.0 path.after p.1)) (λ e. p.1.some (sym c.as_slice-numbers.ensures.items ∙ e)))
 
 pub returns-then-is_unserved-clause-done : goal.returns-then-is_unserved-clause-done
 returns-then-is_unserved-clause-done c = λ p.
     let b = c.args.origin.now.book.now in
-    let q = c.args.origin.now.request.now in
-    let path = c.args.path.now in
     let e = c.in_ok-end.end in
     let is = c.in_ok-end.ensures.end in
     let none = c.is_unserved.ensures c.if-is_unserved.true in
-    let ends = subst (λ l. EndsAt b l e.key.place) c.as_slice-numbers.ensures.items (subst (λ (k : EndKey). EndsAt b c.as_slice-numbers.result.now k.place) (sym is.key_is) c.in-Some.ensures.some.1) in
-    let begins = subst (λ l. BeginsWith b l e.key.carrier) c.as_slice-numbers.ensures.items (subst (λ (k : EndKey). BeginsWith b c.as_slice-numbers.result.now k.carrier) (sym is.key_is) c.in-Some-carrier_of.ensures.some) in
-    unserved_added b q c.args.origin.now.at.now path c.find.new.self.markets.kept.items e c.in_ok-classes.classes c.in_ok-end.ensures.reach.markets c.limits.ensures is.end
-    (λ fs m. c.in_ok-classes.ensures.classes fs (subst (λ l. Numbers b l fs) (sym c.as_slice-numbers.ensures.items) m)) c.args.table.now.entries.items ends begins none.0 none.1
+    unserved_added b c.args.origin.now.request.now c.args.origin.now.at.now c.args.path.now c.find.new.self.markets.kept.items e c.in_ok-end.ensures.reach.markets c.limits.ensures is.end c.args.filling.now.table.entries.items
+    (λ fs m.
+    let own = subst (λ l. Numbers b l fs) (sym c.as_slice-numbers.ensures.items) m in
+    reaches_as e c.in-Some.first.now c.in-Some-last_flight.last.now fs (is.key_is ∙ c.key_of.ensures) (c.in-Some.ensures.some fs own) (c.in-Some-last_flight.ensures.some.1 fs own))
+    none.0 none.1
+
+pub returns-then-classes-eq0-clause-done : goal.returns-then-classes-eq0-clause-done
+returns-then-classes-eq0-clause-done c = λ p.
+    let b = c.args.origin.now.book.now in
+    let e = c.in_ok-end.end in
+    let is = c.in_ok-end.ensures.end in
+    closed_added b c.args.origin.now.request.now c.args.origin.now.at.now c.args.path.now c.find.new.self.markets.kept.items e c.in_ok-end.ensures.reach.markets c.limits.ensures is.end c.in_ok-classes.classes c.args.filling.now.table.entries.items
+    (λ fs m.
+    let own = subst (λ l. Numbers b l fs) (sym c.as_slice-numbers.ensures.items) m in
+    reaches_as e c.in-Some.first.now c.in-Some-last_flight.last.now fs (is.key_is ∙ c.key_of.ensures) (c.in-Some.ensures.some fs own) (c.in-Some-last_flight.ensures.some.1 fs own))
+    (λ fs m. c.in_ok-classes.ensures.classes fs (subst (λ l. Numbers b l fs) (sym c.as_slice-numbers.ensures.items) m)) c.if-classes-eq0.true
+
+pub add_landed-requires-clause-landed : goal.add_landed-requires-clause-landed
+add_landed-requires-clause-landed c =
+    let b = c.args.origin.now.book.now in
+    let e = c.in_ok-end.end in
+    let is = c.in_ok-end.ensures.end in
+    let key = is.key_is ∙ c.key_of.ensures in
+    record {
+      end = subst (λ ms. IsEnd b c.args.origin.now.at.now.place ms e) (sym c.as_slice.ensures.value) is.end;
+      some = subst (λ l. 1 ≤ length l) c.as_slice-numbers.ensures.items c.in-Some-last_flight.ensures.some.0;
+      classes = λ fs m. c.in_ok-classes.ensures.classes fs (subst (λ l. Numbers b l fs) (sym c.as_slice-numbers.ensures.items) m);
+      class = λ fs m.
+          let own = subst (λ l. Numbers b l fs) (sym c.as_slice-numbers.ensures.items) m in
+          of_class c.class_of.result c.in-Some.first.now c.in-Some-last_flight.last.now c.args.path.now.after fs c.class_of.ensures (c.in-Some.ensures.some fs own) (c.in-Some-last_flight.ensures.some.1 fs own);
+      place_is = ap (λ (x : PathClass). x.end) c.class_of.ensures ∙ sym (ap (λ (x : EndKey). x.place) key);
+      carrier_is = ap (λ (x : PathClass). x.carrier) c.class_of.ensures ∙ sym (ap (λ (x : EndKey). x.carrier) key);
+    }

@@ -1,48 +1,18 @@
-use Rattle.std.proofs.Common.{◌≤◌, length, slice_get, MatchOption, subst, sym, ◌∙◌}
+use Rattle.std.proofs.Common.{slice_get, MatchOption, subst, sym, ◌∙◌}
 use Rattle.component_table.specs.declared.markets.Market.{Market}
 use Rattle.component_table.specs.Markets.{IsMarket}
 use Rattle.component_table.specs.Reaches.{FiledAt, StandBetween}
 use Rattle.component_table.specs.Tables.{IsOver, IsPathOver}
 use Rattle.component_table.proofs.FiledFacts.{some_same}
-use Rattle.component_table.proofs.PathFacts.{end_from, end_to, got_lt, market_over, none_done, on_ok, path_over, way_done}
+use Rattle.component_table.proofs.PathFacts.{end_from, end_to, market_over, none_done, on_ok, path_over, way_done}
 use Rattle.component_table.proofs.ReachFacts.{end_found}
 use Rattle.fare_book.specs.Keeping.{NoFare}
 use Rattle.fare_groups.proofs.Grouped.{each_in}
 use Rattle.residual_keys.proofs.Sheeted.{got_in}
 use Rattle.component_table.proofs.adding.add_way.Goals as goal
 
-pub market_at-market-requires : goal.market_at-market-requires
-market_at-market-requires c =
-    let b = c.args.origin.now.book.now in
-    let p = c.args.origin.now.at.now.place in
-    let e = c.args.end.now in
-    let r = c.args.reverse in
-    let ms = c.args.markets.now in
-    let f = c.in-Some.filed in
-    let found = subst (λ o. MatchOption o (NoFare b (end_from r p e.key.place) (end_to r p e.key.place)) (FiledAt ms (record { from = end_from r p e.key.place; to = end_to r p e.key.place }) e.key.carrier)) (sym c.filed_of.ensures ∙ c.in-Some.is) (end_found b p ms e r c.requires.end) in
-    got_lt ms f.market found.at.market found.at.stands
-
-pub add_market-requires-clause-over : goal.add_market-requires-clause-over
-add_market-requires-clause-over c =
-    let b = c.args.origin.now.book.now in
-    let ms = c.args.markets.now in
-    let m = c.market_at-market.result.now in
-    record { flown_is = c.requires.flown; market_is = each_in (IsMarket b) ms m c.requires.markets (got_in ms c.in-Some.filed.market m c.market_at-market.ensures); limited = c.limits.ensures }
-
-pub add_market-requires-clause-within : goal.add_market-requires-clause-within
-add_market-requires-clause-within c =
-    let b = c.args.origin.now.book.now in
-    let p = c.args.origin.now.at.now.place in
-    let e = c.args.end.now in
-    let r = c.args.reverse in
-    let ms = c.args.markets.now in
-    let f = c.in-Some.filed in
-    let found = subst (λ o. MatchOption o (NoFare b (end_from r p e.key.place) (end_to r p e.key.place)) (FiledAt ms (record { from = end_from r p e.key.place; to = end_to r p e.key.place }) e.key.carrier)) (sym c.filed_of.ensures ∙ c.in-Some.is) (end_found b p ms e r c.requires.end) in
-    let m = c.market_at-market.result.now in
-    subst (λ (x : Market). f.to ≤ length x.groups) (some_same (slice_get ms f.market) found.at.market m found.at.stands c.market_at-market.ensures) found.within
-
-pub returns-in-Some : goal.returns-in-Some
-returns-in-Some c =
+pub returns-in-Some-clause-done : goal.returns-in-Some-clause-done
+returns-in-Some-clause-done c =
     let b = c.args.origin.now.book.now in
     let q = c.args.origin.now.request.now in
     let at = c.args.origin.now.at.now in
@@ -63,10 +33,10 @@ returns-in-Some c =
       market = market_over b q at flown r (record { from = end_from r p e.key.place; to = end_to r p e.key.place }) ms f.market m found.at c.market_at-market.ensures (path_over b q at flown.path.now.flights flown.flights flown.path.now.after e.key.place path ends r);
     } in
     way_done b q at flown r m c.args.table.now.entries.items c.add_market.new.table.entries.items is over (d over (record { carrier = e.key.carrier; first = begins; groups = subst (λ (x : Market). StandBetween x.groups e.key.carrier f) same found.groups })))
-    c.add_market.ensures
+    c.add_market.ensures.done
 
-pub returns-in-None : goal.returns-in-None
-returns-in-None c = λ path begins ends.
+pub returns-in-None-clause-done : goal.returns-in-None-clause-done
+returns-in-None-clause-done c = λ path begins ends.
     let b = c.args.origin.now.book.now in
     let at = c.args.origin.now.at.now in
     let p = at.place in

@@ -11,7 +11,7 @@ returns g c =
     let s = c.self.inside in
     let i = c.self.invariant in
     on_ok c.add_path.result _ _
-    (λ d before h. put_more b q at c.args.path.now before s.table.entries.items c.add_path.new.table.entries.items
-    (added_for b q at s.origin.book.now s.origin.request.now s.origin.at.now i.book_is i.request_is i.at_is c.args.path.now s.table.entries.items c.add_path.new.table.entries.items d)
+    (λ d before h. put_more b q at c.args.path.now before s.filling.table.entries.items c.add_path.new.filling.table.entries.items
+    (added_for b q at s.origin.book.now s.origin.request.now s.origin.at.now i.book_is i.request_is i.at_is c.args.path.now s.filling.table.entries.items c.add_path.new.filling.table.entries.items d)
     (subst (λ es. PutsIn (record { book = b; request = q; at = at; entries = es }) before) (sym c.self.view_is) h))
     c.add_path.ensures.done

@@ -1,6 +1,6 @@
 use Rattle.std.proofs.Common.{◌-◌, ap, get_or, length, option_copied, slice_get, sym, ◌∙◌}
 use Rattle.component_table.proofs.Collected.{last_number_ends, last_unknown}
-use Rattle.component_table.proofs.gathering.end_of.Goals as goal
+use Rattle.component_table.proofs.gathering.last_flight.Goals as goal
 
 pub returns-in-Some-clause-some : goal.returns-in-Some-clause-some
 returns-in-Some-clause-some c =

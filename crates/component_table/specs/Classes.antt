@@ -1,0 +1,84 @@
+-- Classes of paths, and when a class is settled.
+use Rattle.std.specs.Prelude.{◌≡◌, ℕ, ◌≤◌, ◌<◌, Bool, List, length, slice_get, Option, Some, IsBitSet}
+use Rattle.component_table.specs.declared.classes.PathClass.{PathClass}
+use Rattle.component_table.specs.declared.ends.End.{End}
+use Rattle.component_table.specs.declared.ends.Reach.{Reach}
+use Rattle.component_table.specs.declared.filed.Filed.{Filed}
+use Rattle.component_table.specs.declared.markets.Market.{Market}
+use Rattle.component_table.specs.declared.masks.Masks.{Masks}
+use Rattle.component_table.specs.declared.settled.Filling.{Filling}
+use Rattle.component_table.specs.declared.settled.SettledClass.{SettledClass}
+use Rattle.component_table.specs.declared.ways.Landed.{Landed}
+use Rattle.component_table.specs.Masks.{AreMasks}
+use Rattle.component_table.specs.Reaches.{IsEnd, IsReach, filed_of}
+use Rattle.component_table.specs.Tables.{HasLegs}
+use Rattle.fare_groups.specs.declared.group.FareGroup.{FareGroup}
+use Rattle.fare_groups.specs.declared.group.GroupedFare.{GroupedFare}
+use Rattle.fare_law.specs.declared.flights.Flight.{Flight}
+use Rattle.fare_law.specs.declared.requests.Request.{Request}
+use Rattle.fare_law.specs.Book.{Book}
+use Rattle.fare_law.specs.Lists.{Each, IsIn, OnFirst, OnLast}
+use Rattle.fare_law.specs.Parts.{Numbers}
+use Rattle.flight_paths.specs.declared.positions.Path.{Path}
+use Rattle.flight_paths.specs.declared.positions.Position.{Position}
+use Rattle.flight_paths.specs.Positions.{IsPath}
+use Rattle.outlines.specs.declared.outline.Entry.{Entry}
+use Rattle.outlines.specs.ByGroups.{OutlineOver, PathDone}
+
+-- A path on these flights that leads there is one of the class.
+pub record IsOfClass (c : PathClass) (after : Option Position) (fs : List Flight) : Type 0 where
+  pub after_is : after ≡ c.after
+  pub first : OnFirst (λ f. (f.day ≡ c.first) × (f.carrier ≡ c.carrier)) fs
+  pub last : OnLast (λ f. (f.to ≡ c.end) × (f.day ≡ c.last)) fs
+
+-- these classes of seats are all among others
+abbrev pub AreAmong : ℕ → ℕ → Type 0
+AreAmong classes others = (class : ℕ) → IsBitSet classes class → IsBitSet others class
+
+-- each path of the class on which none but these classes of seats are open is done
+abbrev pub ClassDone : Book → Request → Position → SettledClass → List Entry → Type 0
+ClassDone b q at s table = (path : Path) (fs : List Flight) → IsPath b q.slices at path.flights fs path.after → IsOfClass s.class path.after fs → (classes : ℕ) → HasLegs b q fs classes → AreAmong classes s.classes → (reverse : Bool) → PathDone b q at path fs reverse table
+
+-- each of these classes is done as the table stands
+abbrev pub AreSettled : Book → Request → Position → List SettledClass → List Entry → Type 0
+AreSettled b q at kept table = Each (λ s. ClassDone b q at s table) kept
+
+-- the class is settled at this place
+pub record IsSettledAt (kept : List SettledClass) (class : PathClass) (at : ℕ) : Type 0 where
+  pub one : SettledClass
+  pub stands : slice_get kept at ≡ Some one
+  pub class_is : one.class ≡ class
+
+-- The table has a group's outline on these flights at no more than the share of any of its fares whose class is open.
+abbrev pub GroupSettled : Option Position → List Flight → ℕ → Bool → FareGroup → List Entry → Type 0
+GroupSettled after fs classes reverse g table = (fare : GroupedFare) → IsIn fare g.fares → IsBitSet classes fare.class → (e : Entry) × IsIn e table × OutlineOver e.outline after fs g.key reverse × (e.price ≤ fare.share)
+
+-- so it has those between two places
+abbrev pub GroupsSettled : Option Position → List Flight → ℕ → Bool → List FareGroup → ℕ → ℕ → List Entry → Type 0
+GroupsSettled after fs classes reverse gs from to table = (i : ℕ) (g : FareGroup) → slice_get gs i ≡ Some g → from ≤ i → i < to → GroupSettled after fs classes reverse g table
+
+-- and those of a carrier that are filed this way
+abbrev pub WaySettled : List Market → End → Option Position → List Flight → ℕ → Bool → List Entry → Type 0
+WaySettled ms e after fs classes reverse table = (f : Filed) → filed_of e reverse ≡ Some f → (m : Market) → slice_get ms f.market ≡ Some m → GroupsSettled after fs classes reverse m.groups f.from f.to table
+
+-- A path to an end of its first carrier's fares, with its class and the classes of seats that are open in every leg.
+pub record IsLanded (b : Book) (q : Request) (at : Position) (ms : List Market) (l : Landed) : Type 0 where
+  pub end : IsEnd b at.place ms l.end.now
+  pub some : 1 ≤ length l.path.now.flights
+  pub classes : (fs : List Flight) → Numbers b l.path.now.flights fs → HasLegs b q fs l.classes
+  pub class : (fs : List Flight) → Numbers b l.path.now.flights fs → IsOfClass l.class l.path.now.after fs
+  pub place_is : l.class.end ≡ l.end.now.key.place
+  pub carrier_is : l.class.carrier ≡ l.end.now.key.carrier
+
+-- The table has such a path's groups both ways.
+abbrev pub BothSettled : List Market → Landed → List Flight → List Entry → Type 0
+BothSettled ms l fs table = (reverse : Bool) → WaySettled ms l.end.now l.path.now.after fs l.classes reverse table
+
+-- What puts paths of a position into its table has this book, request and position, the markets between its place and others, masks of flights, and classes that are settled.
+pub record IsPutting (b : Book) (q : Request) (at : Position) (book : Book) (request : Request) (position : Position) (r : Reach) (ms : Masks) (f : Filling) : Type 0 where
+  pub book_is : book ≡ b
+  pub request_is : request ≡ q
+  pub at_is : position ≡ at
+  pub reach : IsReach book position.place r
+  pub masks : AreMasks book request ms
+  pub settled : AreSettled book request position f.settled.kept.items f.table.entries.items

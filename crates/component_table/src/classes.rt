@@ -1,0 +1,87 @@
+//! Classes of paths: those of one class have their outlines in common.
+ghost use Rattle.std.specs.Prelude.{◌≡◌, ◌↔◌, IsTrue};
+
+use crate::recent::{mixed, spot_of};
+use crate::same::same_after;
+use fare_law::{Carrier, Place};
+use flight_paths::Position;
+
+/// What the paths of a class have in common: where they lead, where they end, the carrier of their first flight, and
+/// the days on which their first and their last flight depart.
+#[derive(Clone, Copy, PartialEq, Eq, Debug)]
+pub struct PathClass {
+    pub after: Option<Position>,
+    pub end: Place,
+    pub carrier: Carrier,
+    pub first: i32,
+    pub last: i32,
+}
+
+/// A class and which way the fares are filed, packed into numbers, by which places are looked up.
+#[derive(Clone, Copy, PartialEq, Eq, Hash, Debug)]
+pub struct ClassKey {
+    range: u64,
+    places: u64,
+    ends: u64,
+    days: u64,
+}
+
+impl PathClass {
+    /// Whether it is the same class.
+    pub fn is(&self, other: &PathClass) -> bool
+        ensures { IsTrue result ↔ (self.now ≡ other.now) }
+    {
+        same_after(&self.after, &other.after)
+            && self.end.is(other.end)
+            && self.carrier.is(other.carrier)
+            && self.first == other.first
+            && self.last == other.last
+    }
+}
+
+impl ClassKey {
+    /// The key of a class, one way.
+    pub fn of(class: &PathClass, reverse: bool) -> ClassKey {
+        let [a, b, c] = class.end.0;
+        let [d, e] = class.carrier.0;
+        ClassKey {
+            range: range_of(&class.after),
+            places: places_of(&class.after),
+            ends: u64::from_le_bytes([a, b, c, d, e, u8::from(reverse), 0, 0]),
+            days: days_of(class.first, class.last),
+        }
+    }
+
+    /// The spot of the key.
+    pub fn spot(&self) -> usize {
+        spot_of(mixed(mixed(mixed(self.range, self.ends), self.places), self.days))
+    }
+}
+
+/// The days on which the first and the last flight depart, as one number.
+fn days_of(first: i32, last: i32) -> u64 {
+    let [a, b, c, d] = first.to_le_bytes();
+    let [e, f, g, h] = last.to_le_bytes();
+    u64::from_le_bytes([a, b, c, d, e, f, g, h])
+}
+
+/// The range of a position, as one number.
+fn range_of(after: &Option<Position>) -> u64 {
+    match after {
+        Some(position) => u64::from(position.lo) << 32 | u64::from(position.hi),
+        None => u64::MAX,
+    }
+}
+
+/// What else a position has, as one number.
+fn places_of(after: &Option<Position>) -> u64 {
+    let Some(position) = after else {
+        return u64::MAX;
+    };
+    let [a, b, c] = position.place.0;
+    let [d, e, f] = match position.via {
+        Some(via) => via.0,
+        None => [0; 3],
+    };
+    u64::from_le_bytes([a, b, c, d, e, f, position.slice, position.leg])
+}
