@@ -1,5 +1,5 @@
 -- What the keys of a graph's residuals ask for, settled node by node.
-use Rattle.std.specs.Prelude.{◌≡◌, ℕ, ◌<◌, List, Option, Some, option_map, slice_get}
+use Rattle.std.specs.Prelude.{◌≡◌, ℕ, ◌≤◌, List, Option, Some, option_map, slice_get}
 use Rattle.fare_component.specs.Keys.{Asked, asked}
 use Rattle.fare_law.specs.declared.market.OfferKey.{OfferKey}
 use Rattle.fare_law.specs.declared.requests.Request.{Request}
@@ -11,6 +11,6 @@ use Rattle.residual_keys.specs.Residuals.{State}
 abbrev pub HasKeysSettled : Book → Request → (Asked → Type 0) → State → Type 0
 HasKeysSettled b q Settled x = (key : OfferKey) → KeyOf b q x key → Settled (asked key)
 
--- so it is for each node before this one
-abbrev pub AreSettledBefore : Book → Request → (Asked → Type 0) → List (State × Option ℕ) → ℕ → Type 0
-AreSettledBefore b q Settled nodes n = (m : ℕ) (x : State) → m < n → option_map (λ node. node.0) (slice_get nodes m) ≡ Some x → HasKeysSettled b q Settled x
+-- so it is for each node from this one on
+abbrev pub AreSettledFrom : Book → Request → (Asked → Type 0) → List (State × Option ℕ) → ℕ → Type 0
+AreSettledFrom b q Settled nodes n = (m : ℕ) (x : State) → n ≤ m → option_map (λ node. node.0) (slice_get nodes m) ≡ Some x → HasKeysSettled b q Settled x

@@ -13,3 +13,6 @@ pub mod SameKeys
 pub mod LeftByNumber
 pub mod ListsByNumber
 pub mod RowsByNumber
+pub mod OfferedFacts
+pub mod ServedPaths
+pub mod TakenKeys

@@ -8,3 +8,4 @@ pub mod Giving
 pub mod Shortening
 pub mod Numbers
 pub mod Placed
+pub mod Settling

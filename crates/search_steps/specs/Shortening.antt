@@ -1,7 +1,5 @@
 -- Lists of marks without what another of the list makes idle.
-use Rattle.std.specs.Prelude.{◌≡◌, ◌⊎◌, ℕ, ◌≤◌, List, [], ◌∷◌, ◌++◌}
-use Rattle.fare_law.specs.declared.rules.EndOnEnd.{EndOnEnd}
-use Rattle.fare_law.specs.declared.rules.EndOnEnd.TheVariants.{Free, SameCarrier, Never}
+use Rattle.std.specs.Prelude.{◌≡◌, ◌⊎◌, ◌≤◌, List, [], ◌∷◌, ◌++◌}
 use Rattle.fare_law.specs.Lists.{Each, IsIn}
 use Rattle.outlines.specs.declared.marks.Listed.{Listed}
 
@@ -17,9 +15,3 @@ pub record IsShorter (old new : List Listed) : Type 0 where
 -- one was added at the end, or the list had its mark at no higher price
 abbrev pub OnceMore : List Listed → Listed → List Listed → Type 0
 OnceMore old x new = (new ≡ old ++ x ∷ []) ⊎ ((new ≡ old) × HasNoDearer old x)
-
--- what is asked of the whole ticket, as a number to sort by
-abbrev pub end_number : EndOnEnd → ℕ
-end_number Free = 0
-end_number SameCarrier = 1
-end_number Never = 2

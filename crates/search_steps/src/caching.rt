@@ -1,14 +1,18 @@
 //! A case with the tables of its positions.
-ghost use Rattle.std.specs.Prelude.{◌≡◌, ◌<◌, ◌≤◌, IfErr, IfOk, length, map};
+ghost use Rattle.std.specs.Prelude.{◌≡◌, ◌<◌, ◌≤◌, IfErr, IfOk, OnOk, length, map};
+ghost use Rattle.fare_component.specs.Keys.{Asked, asked};
+ghost use Rattle.fare_law.specs.declared.market.OfferKey.{OfferKey};
 ghost use Rattle.fare_law.specs.Limits.{IsRequest};
 ghost use Rattle.graph_walk.specs.Steps.{AreLive, AreOutcomes, ExceedsIf, LeadToLive, outcomes_of, rows_of};
 ghost use Rattle.graph_walk.specs.Walks.{AreLeast, AreReached, IsShort, Reached, states};
+ghost use Rattle.residual_keys.specs.AskedKeys.{KeyOf};
 ghost use Rattle.search_steps.specs.Keys.{IsKey, residual_of};
 ghost use Rattle.search_steps.specs.Leads.{leads_of, level_of};
 ghost use Rattle.search_steps.specs.LeastMoves.{AreLeastMoves, BoundBy, LeaveLive, least_as};
 
 use crate::numbered_case::NumberedCase;
 use crate::{Bounds, Case, Key, LeastMove};
+use fare_component::OfferSource;
 use fare_law::{List, Mem};
 use graph_walk::{Outcome, WalkFault};
 use indexmap::IndexMap;
@@ -73,6 +77,22 @@ impl<'a> TabledCase<'a> {
         ensures live { IfOk result (LeaveLive IsKey) }
     {
         self.numbered.least_moves(alloc, residual, bounds, wanted)
+    }
+
+    /// Has a source of offers settle what the keys of a residual ask for.
+    pub fn settle<O: OfferSource>(
+        &mut self,
+        alloc: Global,
+        residual: &Residual,
+        offers: &mut O,
+    ) -> Result<(), Mem>
+        requires { IsRequest self.old.request.now }
+        ensures same { self.new ≡ self.old }
+        ensures base { O.base offers.new ≡ O.base offers.old }
+        ensures stays { (a : Asked) → O.settled offers.old a → O.settled offers.new a }
+        ensures asked { OnOk result ((key : OfferKey) → KeyOf self.old.book.now self.old.request.now residual.now key → O.settled offers.new (asked key)) }
+    {
+        self.numbered.settle(alloc, residual, offers)
     }
 
     /// All residuals that are reached from one, each once, with the least price of a run from it.

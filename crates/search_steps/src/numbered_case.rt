@@ -1,11 +1,14 @@
 //! A case with the tables of its positions, and its residuals by numbers.
 ghost use Rattle.std.specs.Prelude.{◌≡◌, ◌<◌, ◌≤◌, IfErr, IfOk, OnOk, Some, length, map, slice_get};
+ghost use Rattle.fare_component.specs.Keys.{Asked, asked};
+ghost use Rattle.fare_law.specs.declared.market.OfferKey.{OfferKey};
 ghost use Rattle.fare_law.specs.Limits.{IsRequest};
 ghost use Rattle.std.specs.List.Sorted.{IsPermutation};
 ghost use Rattle.fare_law.specs.Lists.{AllDifferent};
 ghost use Rattle.search_steps.specs.Numbers.{AreReadFrom};
 ghost use Rattle.graph_walk.specs.Steps.{AreLive, AreOutcomes, ExceedsIf, LeadToLive, TellsStates, outcomes_of, rows_of};
 ghost use Rattle.graph_walk.specs.Walks.{AreLeast, AreReached, IsShort, Reached, states};
+ghost use Rattle.residual_keys.specs.AskedKeys.{KeyOf};
 ghost use Rattle.residual_keys.specs.Kept.{IsResidual};
 ghost use Rattle.residual_table.specs.Keys.{Grows, IsLive, residual_at};
 ghost use Rattle.search_steps.specs.Keys.{IsKey, residual_of};
@@ -18,7 +21,9 @@ use crate::nearest::least_by;
 use crate::numbered::StepLists;
 use crate::tabled::outcomes_by;
 use crate::tables::Tables;
+use crate::taking::take_keys;
 use crate::{Bounds, Case, Key, LeastMove};
+use fare_component::OfferSource;
 use fare_law::{List, Mem};
 use graph_walk::{Outcome, WalkFault, walk};
 use indexmap::IndexMap;
@@ -110,6 +115,23 @@ impl<'a> NumberedCase<'a> {
     {
         let case = self.case;
         least_by(alloc, &case, &mut self.tables, residual, bounds, wanted)
+    }
+
+    /// Has a source of offers settle what the keys of a residual ask for.
+    pub fn settle<O: OfferSource>(
+        &mut self,
+        alloc: Global,
+        residual: &Residual,
+        offers: &mut O,
+    ) -> Result<(), Mem>
+        requires { IsRequest self.old.case.request.now }
+        ensures same { self.new ≡ self.old }
+        ensures base { O.base offers.new ≡ O.base offers.old }
+        ensures stays { (a : Asked) → O.settled offers.old a → O.settled offers.new a }
+        ensures asked { OnOk result ((key : OfferKey) → KeyOf self.old.case.book.now self.old.case.request.now residual.now key → O.settled offers.new (asked key)) }
+    {
+        let case = self.case;
+        take_keys(alloc, &case, &mut self.tables.network, residual, offers)
     }
 
     /// All residuals that are reached from one, each once, with the least price of a run from it.

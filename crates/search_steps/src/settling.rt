@@ -14,7 +14,7 @@ use crate::{Key, SearchSteps};
 use component_table::same_position;
 use fare_component::OfferSource;
 use fare_law::Mem;
-use residual_keys::{OpenUnits, Residual, moves};
+use residual_keys::{OpenUnits, Residual};
 use std::alloc::Global;
 
 impl<'a, O: OfferSource> SearchSteps<'a, O> {
@@ -37,23 +37,21 @@ impl<'a, O: OfferSource> SearchSteps<'a, O> {
         ensures base { O.base self.new.offers.now ≡ O.base self.old.offers.now }
         ensures stays { (a : Asked) → O.settled self.old.offers.now a → O.settled self.new.offers.now a }
     {
-        let case = self.case.case();
-        moves(alloc, case.book, case.request, &key.residual, self.offers)?;
-        Ok(())
+        self.case.settle(alloc, &key.residual, self.offers)
     }
 }
 
-/// Whether residuals stand at one position, and a unit is open in both or in none. Then they have the
-/// same keys.
-pub fn have_same_keys(one: &Residual, other: &Residual) -> bool
+/// Whether residuals stand at one position, and a unit is open in the other where it is in the one. Then the
+/// other has all keys of the one.
+pub fn has_keys_of(one: &Residual, other: &Residual) -> bool
     ensures { IsTrue result → (b : Version) (q : Asking) (key : OfferKey) → KeyOf b q one.now key → KeyOf b q other.now key }
 {
-    same_position(&one.at, &other.at) && open_alike(one, other)
+    same_position(&one.at, &other.at) && open_too(one, other)
 }
 
-/// Whether a unit is open in both or in none.
-fn open_alike(one: &Residual, other: &Residual) -> bool
+/// Whether a unit is open in the other where it is in the one.
+fn open_too(one: &Residual, other: &Residual) -> bool
     ensures { IsTrue result → one.now.units ≢ [] → other.now.units ≢ [] }
 {
-    OpenUnits::of(one).is_empty() == OpenUnits::of(other).is_empty()
+    OpenUnits::of(one).is_empty() || !OpenUnits::of(other).is_empty()
 }

@@ -2,9 +2,10 @@
 ghost use Rattle.std.specs.Prelude.{◌≡◌, ◌≤◌, ◌↔◌, IfOk, IfSome, IsTrue, OnOk};
 ghost use Rattle.std.specs.List.Sorted.{IsPermutation};
 ghost use Rattle.open_unit.specs.Ranges.{UnitInRanges};
-ghost use Rattle.search_steps.specs.Shortening.{IsShorter, OnceMore, end_number};
+ghost use Rattle.search_steps.specs.Shortening.{IsShorter, OnceMore};
 ghost use Rattle.search_steps.specs.Tables.{UnitsKept};
 
+use crate::digests::digest_of;
 use crate::laws::units_tell;
 use component_table::same_position;
 use fare_law::{EndOnEnd, List, Mem};
@@ -19,35 +20,16 @@ pub fn shortened(alloc: Global, list: List<Listed>) -> Result<List<Listed>, Mem>
     ensures { IfOk result (IsShorter list) }
 {
     let mut sorted = list.into_vec();
-    put_in_order(sorted.as_mut_slice());
+    put_in_order(&mut sorted)?;
     once_each(alloc, sorted.as_slice())
 }
 
 /// Puts a list in order, so that the prices of a mark stand together and ascend.
-fn put_in_order(list: &mut [Listed])
-    ensures { IsPermutation list.old list.new }
+fn put_in_order(list: &mut Vec<Listed>) -> Result<(), Mem>
+    ensures { OnOk result (IsPermutation list.old.items list.new.items) }
 {
-    list.sort_unstable_by_key(|listed| {
-        let mark = &listed.mark;
-        (
-            mark.after,
-            mark.unit,
-            mark.carrier,
-            end_number(mark.ends),
-            listed.price,
-        )
-    });
-}
-
-/// What is asked of the whole ticket, as a number to sort by.
-fn end_number(end: EndOnEnd) -> u8
-    ensures { result ≡ end_number end }
-{
-    match end {
-        EndOnEnd::Free => 0,
-        EndOnEnd::SameCarrier => 1,
-        EndOnEnd::Never => 2,
-    }
+    list.sort_by_cached_key(|listed| (digest_of(&listed.mark), listed.price))?;
+    Ok(())
 }
 
 /// The list without those that the one kept before makes idle.

@@ -1,10 +1,9 @@
-use Rattle.std.proofs.Common.{◌∙◌, length, arith}
+use Rattle.std.proofs.Common.{◌∙◌, arith}
 use Rattle.graph_walk.specs.Steps.{rows_of}
 use Rattle.residual_keys.proofs.SortedWords.{same_length}
 use Rattle.search_steps.specs.Keys.{IsKey, residual_of}
 use Rattle.search_steps.proofs.RowsInOrder.{still_each}
-use Rattle.pricing_graph.specs.Settled.{AreSettledBefore}
-use Rattle.pricing_graph.proofs.Keyed.{as_many_rows}
+use Rattle.pricing_graph.specs.Settled.{AreSettledFrom}
 use Rattle.pricing_graph.proofs.Reordered.{graph_of, within_budget}
 use Rattle.pricing_graph.proofs.SettledNodes.{all_settled}
 use Rattle.pricing_graph.proofs.Whole.{said_of}
@@ -36,8 +35,8 @@ returns-clause-settled g c =
     let rows = c.in_ok-rows.ensures in
     let kept = c.in_ok-settle_nodes.ensures in
     let Settled = g.O.OfferSource.settled new.offers.now in
-    all_settled old.case.book.now old.case.request.now nodes Settled (length es) (returns-clause-graph g c) (as_many_rows residual_of es)
-    (said_of (λ b q. AreSettledBefore b q Settled nodes (length es)) new.case.book.now old.case.book.now new.case.request.now old.case.request.now (kept.case.book ∙ rows.case.book) (kept.case.request ∙ rows.case.request) kept.settled)
+    all_settled old.case.book.now old.case.request.now nodes Settled (returns-clause-graph g c)
+    (said_of (λ b q. AreSettledFrom b q Settled nodes 0) new.case.book.now old.case.book.now new.case.request.now old.case.request.now (kept.case.book ∙ rows.case.book) (kept.case.request ∙ rows.case.request) kept.settled)
 
 pub invariant_of-graph : goal.invariant_of-graph
 invariant_of-graph g c = record {

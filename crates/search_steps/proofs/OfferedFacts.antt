@@ -1,0 +1,143 @@
+-- Where no group of a market has an offered fare, no key of the flights and the market's sheet has an offer.
+use Rattle.std.proofs.Common.{◌≡◌, ◌≢◌, ◌⊎◌, ℕ, suc, ◌+◌, ◌<◌, ◌≤◌, Bool, true, false, List, [], ◌∷◌, ◌++◌, length, take, get_or, All, IsBitSet, slice_get, Option, Some, None, is_none, is_some, IfNone, MatchOption, MatchBool, sym, ap, ap₂, subst, ◌∙◌, inl, inr, refl, arith}
+use Rattle.std.proofs.lemmas.List.Elements.{All-head}
+use Rattle.std.proofs.Math.Seq.{take-suc}
+use Rattle.cheap_moves.specs.Making.{HasRows, IsRowIn}
+use Rattle.component_table.specs.declared.markets.Market.{Market}
+use Rattle.component_table.specs.Markets.{IsMarket}
+use Rattle.fare_book.specs.Keeping.{Limited}
+use Rattle.fare_component.specs.Keys.{asked}
+use Rattle.fare_groups.specs.declared.group.FareGroup.{FareGroup}
+use Rattle.fare_groups.specs.declared.group.GroupedFare.{GroupedFare}
+use Rattle.fare_groups.specs.Grouping.{Cheapest, IsGroup, fare_at}
+use Rattle.fare_groups.specs.Groups.{HasClass, Permits, group_of}
+use Rattle.fare_groups.proofs.ByGroup.{offered_by_group, one_rule_all}
+use Rattle.fare_groups.proofs.Grouped.{each_in, in_each, in_either}
+use Rattle.fare_groups.proofs.OneGroup.{classes_are_low, each_stands_once, fares_are_rows}
+use Rattle.fare_law.specs.declared.flights.Flight.{Flight}
+use Rattle.fare_law.specs.declared.market.OfferKey.{OfferKey}
+use Rattle.fare_law.specs.declared.names.Carrier.{Carrier}
+use Rattle.fare_law.specs.declared.requests.Request.{Request}
+use Rattle.fare_law.specs.declared.rules.TransferRule.{TransferRule}
+use Rattle.fare_law.specs.declared.sheets.Leg.{Leg}
+use Rattle.fare_law.specs.declared.sheets.SheetRow.{SheetRow}
+use Rattle.fare_law.specs.Book.{Book}
+use Rattle.fare_law.specs.Lists.{Each, IsIn, Less, Matched, OnFirst}
+use Rattle.fare_law.specs.Offers.{IsOffered, flights_of}
+use Rattle.fare_law.specs.Parts.{TransfersHold, transfers}
+use Rattle.fare_law.specs.RuleLimits.{IsRule}
+use Rattle.fare_law.specs.Sheets.{IsLiveRow, Sheet}
+use Rattle.residual_keys.specs.AskedKeys.{IsKey, IsLeg}
+use Rattle.residual_keys.specs.Gathered.{AreLegs}
+use Rattle.residual_keys.proofs.Markets.{legs_one}
+use Rattle.residual_keys.proofs.OneNext.{some_one}
+use Rattle.residual_keys.proofs.Sheeted.{got_in, sheet_one}
+use Rattle.search_steps.specs.declared.offered.Flown.{Flown}
+use Rattle.search_steps.specs.Settling.{IsFlown, NoneOffered, NoneOver, OffersNone}
+
+-- legs that match flights are over them
+legs_over : (b : Book) (party : ℕ) (fs : List Flight) (legs : List Leg) → Matched (IsLeg b party) fs legs → flights_of legs ≡ fs
+legs_over b party [] [] h = refl
+legs_over b party [] (l ∷ legs) h = absurd h
+legs_over b party (f ∷ fs) [] h = absurd h
+legs_over b party (f ∷ fs) (l ∷ legs) h = ap₂ (λ x xs. x ∷ xs) h.0.flight (legs_over b party fs legs h.1)
+
+first_of_all : (P : Flight → Type 0) (f : Flight) (fs : List Flight) → OnFirst (λ x. f ≡ x) fs → All P fs → P f
+first_of_all P f [] first h = absurd first
+first_of_all P f (g ∷ fs) first h = subst P (sym first) (All-head P g fs h)
+
+on_the_first : (P : Flight → Type 0) (f : Flight) (fs : List Flight) → OnFirst (λ x. f ≡ x) fs → OnFirst P fs → P f
+on_the_first P f [] first h = absurd first
+on_the_first P f (g ∷ fs) first h = subst P (sym first) h
+
+-- category 9 asks in every form that the fare's carrier is the first flight's
+first_carrier : (carrier : Carrier) (f : Flight) (fs : List Flight) → OnFirst (λ x. f ≡ x) fs → (o : Option TransferRule)
+    → MatchOption o (OnFirst (λ x. x.carrier ≡ carrier) fs) (λ c. (transfers fs ≤ c.max) × MatchBool c.online (All (λ x. x.carrier ≡ carrier) fs) (OnFirst (λ x. x.carrier ≡ carrier) fs)) → f.carrier ≡ carrier
+first_carrier carrier f fs first None h = on_the_first (λ x. x.carrier ≡ carrier) f fs first h
+first_carrier carrier f fs first (Some c) h = by_form c.online h.1
+  where
+    by_form : (t : Bool) → MatchBool t (All (λ x. x.carrier ≡ carrier) fs) (OnFirst (λ x. x.carrier ≡ carrier) fs) → f.carrier ≡ carrier
+    by_form true k = first_of_all (λ x. x.carrier ≡ carrier) f fs first k
+    by_form false k = on_the_first (λ x. x.carrier ≡ carrier) f fs first k
+
+module _ (b : Book) (q : Request) (flown : Flown) (m : Market) (g : FareGroup) (market : IsMarket b m) (flown_is : IsFlown b q flown) (limited : Limited b) (i : IsIn g m.groups) where
+  live_of : (row : SheetRow) → IsIn row m.sheet.value.rows → IsLiveRow b m.sheet.value.from m.sheet.value.to row
+  live_of row j = (market.sheet.live row).0 j
+
+  class_low : (row : SheetRow) → IsIn row m.sheet.value.rows → row.fare.class ≤ 25
+  class_low row j = (limited.fares row.fare.key row.fare (live_of row j).fare).1.class
+
+  pub low_classes : Each (λ (f : GroupedFare). f.class ≤ 25) g.fares
+  low_classes = each_in (λ (x : FareGroup). Each (λ (f : GroupedFare). f.class ≤ 25) x.fares) m.groups g (classes_are_low m.sheet.value.rows m.groups market.groups (in_each (λ (row : SheetRow). row.fare.class ≤ 25) m.sheet.value.rows class_low)) i
+
+  pub has_rows : HasRows m.sheet.value.rows g
+  has_rows = record {
+    some = (each_in (IsGroup m.sheet.value.rows) m.groups g market.groups.each i).some;
+    are = λ f j. let x = fares_are_rows m.sheet.value.rows m.groups market.groups g i f j in (x.row, x.stands, x.key_is);
+  }
+
+  pub rule_within : (row : SheetRow) → IsRowIn m.sheet.value.rows g row → IsRule row.rule
+  rule_within row r = limited.rules row.fare.key.carrier row.fare.rule row.rule (live_of row r.within).rule
+
+  -- a row that stands in the group has its key
+  key_of : (n : ℕ) (row : SheetRow) → slice_get m.sheet.value.rows n ≡ Some row → IsIn (fare_at n row) g.fares → group_of row ≡ g.key
+  key_of n row stands j =
+      let x = fares_are_rows m.sheet.value.rows m.groups market.groups g i (fare_at n row) j in
+      subst (λ (r : SheetRow). group_of r ≡ g.key) (some_one (slice_get m.sheet.value.rows n) x.row row x.stands stands) x.key_is
+
+  -- the group's carrier isn't the first flight's
+  pub none_first : (f : Flight) → OnFirst (λ x. f ≡ x) flown.flights → g.key.carrier ≢ f.carrier → NoneOver b q m.sheet.value.rows flown.flights g
+  none_first f first other legs are n row stands j o =
+      let own : TransfersHold row.rule row.fare.key.carrier flown.flights = subst (TransfersHold row.rule row.fare.key.carrier) are.flights o.transfers in
+      let same = first_carrier row.fare.key.carrier f flown.flights first row.rule.cat9 own in
+      other (sym (same ∙ ap (λ k. k.carrier) (key_of n row stands j)))
+
+  -- no fare of the group is in an open class
+  pub none_open : Cheapest flown.classes g.fares None → NoneOver b q m.sheet.value.rows flown.flights g
+  none_open none legs are n row stands j o =
+      let same = legs_one b q.party flown.flights legs flown_is.legs.legs are.each flown_is.legs.legs_are.each in
+      let low = class_low row (got_in m.sheet.value.rows n row stands) in
+      each_in (λ (f : GroupedFare). IsBitSet flown.classes f.class → ⊥) g.fares (fare_at n row) none j ((flown_is.legs.classes_are row.fare.class (omega (arith, low))).1 (subst (HasClass row.fare.class) same o.seats))
+
+  -- its rule does not permit the flights
+  pub none_permitted : (first : SheetRow) → IsRowIn m.sheet.value.rows g first → (Permits first.rule g.key.carrier flown.flights → ⊥) → NoneOver b q m.sheet.value.rows flown.flights g
+  none_permitted first of none legs are n row stands j o =
+      let key = key_of n row stands j in
+      let rule = one_rule_all b m.sheet.value.from m.sheet.value.to m.sheet.value market.sheet row first (got_in m.sheet.value.rows n row stands) of.within (key ∙ sym of.key) in
+      let permits = ((offered_by_group g.key first.rule legs row key rule o.direction).0 o).0 in
+      none (subst (Permits first.rule g.key.carrier) are.flights permits)
+
+-- the groups of a market before a place have no offered fare
+abbrev pub NoneBefore : Book → Request → List SheetRow → List Flight → List FareGroup → Type 0
+NoneBefore b q rows fs gs = (g : FareGroup) → IsIn g gs → NoneOver b q rows fs g
+
+in_one : {X : Type 0} (x y : X) → IsIn x (y ∷ []) → x ≡ y
+in_one x y (inl e) = e
+in_one x y (inr n) = absurd n
+
+one_more : {X : Type 0} (xs : List X) (i : ℕ) (d x : X) → i < length xs → x ≡ get_or xs i d → take (i + 1) xs ≡ take i xs ++ x ∷ []
+one_more xs i d x lt e = let one : i + 1 ≡ suc i = omega arith in ap (λ n. take n xs) one ∙ take-suc xs i d lt ∙ ap (λ z. take i xs ++ z ∷ []) (sym e)
+
+module _ (b : Book) (q : Request) (rows : List SheetRow) (fs : List Flight) (gs : List FareGroup) where
+  -- nor has one group more
+  pub none_more : (i : ℕ) (d g : FareGroup) → i < length gs → g ≡ get_or gs i d → NoneBefore b q rows fs (take i gs) → NoneOver b q rows fs g → NoneBefore b q rows fs (take (i + 1) gs)
+  none_more i d g lt e h one x j = elim (in_either x (take i gs) (g ∷ []) (subst (IsIn x) (one_more gs i d g lt e) j)) [ inl k ↦ h x k | inr k ↦ subst (NoneOver b q rows fs) (sym (in_one x g k)) one ]
+
+pub cheapest_none : (classes : ℕ) (fares : List GroupedFare) (o : Option ℕ) → is_some o ≡ false → Cheapest classes fares o → Cheapest classes fares None
+cheapest_none classes fares None e h = h
+cheapest_none classes fares (Some n) e h = absurd (cc)
+
+pub none_when : {X : Type 0} (o : Option X) (P : Type 0) → is_some o ≡ false → IfNone o P → P
+none_when None P e h = h
+none_when (Some x) P e h = absurd (cc)
+
+module _ (never : (w : List ℕ) → Less w w → ⊥) (trans : (u v w : List ℕ) → Less u v → Less v w → Less u w) (total : (v w : List ℕ) → Less v w ⊎ ((v ≡ w) ⊎ Less w v)) where
+  -- no key of the market's sheet has an offer
+  pub none_filed : (b : Book) (q : Request) (fs : List Flight) (m : Market) → IsMarket b m → NoneBefore b q m.sheet.value.rows fs m.groups → OffersNone b q fs m.sheet.value.from m.sheet.value.to
+  none_filed b q fs m market none key k other same place price offer =
+      let sheet : key.sheet.value ≡ m.sheet.value = sheet_one never trans total b m.sheet.value.from m.sheet.value.to key.sheet.value m.sheet.value k.1 market.sheet in
+      let legs_is : other.legs ≡ key.legs = ap (λ a. a.legs) same in
+      let sheet_is : other.sheet.value ≡ m.sheet.value = ap (λ a. a.sheet) same ∙ sheet in
+      let stands = subst (λ (s : Sheet). slice_get s.rows place ≡ Some offer.row) sheet_is offer.stands in
+      let x = each_stands_once m.sheet.value.rows m.groups market.groups place offer.row stands in
+      none x.group x.within key.legs (record { each = k.0; flights = legs_over b q.party fs key.legs k.0 }) place offer.row stands x.stands (subst (λ ls. IsOffered ls offer.row) legs_is offer.offered)

@@ -1,0 +1,43 @@
+use Rattle.std.proofs.Common.{◌≡◌, ◌∙◌, ◌≤◌, not, length, ap, subst, sym}
+use Rattle.cheap_moves.specs.Making.{HasRows, IsRowIn}
+use Rattle.cheap_moves.proofs.Looking.{clash}
+use Rattle.fare_groups.specs.Groups.{Permits}
+use Rattle.fare_law.specs.Lists.{OnFirst}
+use Rattle.fare_law.specs.RuleLimits.{IsRule}
+use Rattle.fare_law.specs.Sheets.{Sheet}
+use Rattle.search_steps.proofs.OfferedFacts.{cheapest_none, has_rows, low_classes, none_first, none_open, none_permitted, none_when, rule_within}
+use Rattle.search_steps.proofs.offered.is_offered.Goals as goal
+
+pub first_of-requires : goal.first_of-requires
+first_of-requires c = subst (λ fs. 1 ≤ length fs) (sym c.as_slice-flights.ensures.items) c.requires.flown.count.0
+
+pub returns-then-not-is : goal.returns-then-not-is
+returns-then-not-is c = λ _.
+    let f = c.first_of.result.now in
+    none_first c.args.case.now.book.now c.args.case.now.request.now c.args.flown.now c.args.market.now c.args.group.now c.requires.market c.requires.flown c.requires.limited c.requires.group f
+    (subst (OnFirst (λ x. f ≡ x)) c.as_slice-flights.ensures.items c.first_of.ensures.first) (λ e. clash (c.is.ensures.1 e) c.if-not-is.true)
+
+pub cheapest-requires : goal.cheapest-requires
+cheapest-requires c = low_classes c.args.case.now.book.now c.args.case.now.request.now c.args.flown.now c.args.market.now c.args.group.now c.requires.market c.requires.flown c.requires.limited c.requires.group
+
+pub returns-then-is_none : goal.returns-then-is_none
+returns-then-is_none c = λ _.
+    none_open c.args.case.now.book.now c.args.case.now.request.now c.args.flown.now c.args.market.now c.args.group.now c.requires.market c.requires.flown c.requires.limited c.requires.group
+    (cheapest_none c.args.flown.now.classes c.args.group.now.fares c.cheapest.result (c.is_none.ensures ∙ ap not c.if-is_none.true) c.cheapest.ensures)
+
+pub first_row-row-requires : goal.first_row-row-requires
+first_row-row-requires c =
+    subst (λ (s : Sheet). HasRows s.rows c.args.group.now) (sym c.deref-sheet.ensures) (has_rows c.args.case.now.book.now c.args.case.now.request.now c.args.flown.now c.args.market.now c.args.group.now c.requires.market c.requires.flown c.requires.limited c.requires.group)
+
+pub extra-requires-clause-rule : goal.extra-requires-clause-rule
+extra-requires-clause-rule c =
+    let row = c.first_row-row.result.now in
+    let of = subst (λ (s : Sheet). IsRowIn s.rows c.args.group.now row) c.deref-sheet.ensures c.first_row-row.ensures in
+    subst IsRule (sym c.deref.ensures) (rule_within c.args.case.now.book.now c.args.case.now.request.now c.args.flown.now c.args.market.now c.args.group.now c.requires.market c.requires.flown c.requires.limited c.requires.group row of)
+
+pub returns : goal.returns
+returns c = λ e.
+    let row = c.first_row-row.result.now in
+    let of = subst (λ (s : Sheet). IsRowIn s.rows c.args.group.now row) c.deref-sheet.ensures c.first_row-row.ensures in
+    none_permitted c.args.case.now.book.now c.args.case.now.request.now c.args.flown.now c.args.market.now c.args.group.now c.requires.market c.requires.flown c.requires.limited c.requires.group row of
+    (λ p. none_when c.extra.result _ (sym c.is_some.ensures ∙ e) c.extra.ensures.none (subst (Permits c.deref.result.now c.args.group.now.key.carrier) (sym c.as_slice-flights.ensures.items) (subst (λ x. Permits x c.args.group.now.key.carrier c.args.flown.now.flights) (sym c.deref.ensures) p)))

@@ -1,0 +1,54 @@
+use Rattle.std.proofs.Common.{◌≡◌, ◌≤◌, MatchOption, ap, length, subst, sym, vec_len, ◌∙◌, arith}
+use Rattle.cheap_moves.proofs.Looking.{got_lt, on_ok}
+use Rattle.component_table.specs.declared.markets.Market.{Market}
+use Rattle.component_table.specs.Markets.{IsMarket, StandsAt}
+use Rattle.fare_book.specs.Keeping.{NoFare}
+use Rattle.fare_groups.proofs.Grouped.{each_in}
+use Rattle.residual_keys.specs.AskedKeys.{IsKey}
+use Rattle.residual_keys.specs.Steps.{MarketOver}
+use Rattle.residual_keys.proofs.Markets.{no_sheet}
+use Rattle.residual_keys.proofs.Sheeted.{got_in}
+use Rattle.search_steps.proofs.TableFacts.{got_is}
+use Rattle.search_steps.proofs.TakenKeys.{key_of_market}
+use Rattle.search_steps.proofs.taking.take_filed.Goals as goal
+
+pub market_over-ends-requires : goal.market_over-ends-requires
+market_over-ends-requires g c = subst (λ fs. 1 ≤ length fs) (sym c.as_slice.ensures.items) c.requires.flown.count.0
+
+pub returns-in_default-clause-asked : goal.returns-in_default-clause-asked
+returns-in_default-clause-asked g c = λ key k.
+    let fs = c.args.flown.now.flights in
+    let ends = c.market_over-ends.result in
+    let over = subst (λ gs. MarketOver c.args.reverse gs ends.from ends.to) c.as_slice.ensures.items c.market_over-ends.ensures in
+    let is = key_of_market c.args.case.now.book.now c.args.case.now.request.now fs c.args.reverse ends.from ends.to key over k in
+    absurd (no_sheet c.args.case.now.book.now ends.from ends.to key.sheet.value (subst (λ o. MatchOption o (NoFare c.args.case.now.book.now ends.from ends.to) (StandsAt c.find.new.self.kept.items ends)) c.in_default.is c.in_ok-at.ensures.found) is.1)
+
+pub index-requires : goal.index-requires
+index-requires g c =
+    let s = subst (λ o. MatchOption o (NoFare c.args.case.now.book.now c.market_over-ends.result.from c.market_over-ends.result.to) (StandsAt c.find.new.self.kept.items c.market_over-ends.result)) c.in-Some.is c.in_ok-at.ensures.found in
+    let lt = got_lt c.find.new.self.kept.items c.in-Some.at s.market s.stands in
+    let e : vec_len c.find.new.self.kept ≡ length c.find.new.self.kept.items = omega arith in
+    omega (arith, lt, e)
+
+pub take_offered-requires-clause-market : goal.take_offered-requires-clause-market
+take_offered-requires-clause-market g c =
+    let s = subst (λ o. MatchOption o (NoFare c.args.case.now.book.now c.market_over-ends.result.from c.market_over-ends.result.to) (StandsAt c.find.new.self.kept.items c.market_over-ends.result)) c.in-Some.is c.in_ok-at.ensures.found in
+    let ms = c.find.new.self.kept.items in
+    let same : c.index.result.now ≡ s.market = c.index.ensures ∙ got_is ms c.in-Some.at c.index.result.now s.market s.stands in
+    subst (IsMarket c.args.case.now.book.now) (sym same) (each_in (IsMarket c.args.case.now.book.now) ms s.market c.in_ok-at.ensures.kept (got_in ms c.in-Some.at s.market s.stands))
+
+pub returns-clause-asked : goal.returns-clause-asked
+returns-clause-asked g c =
+    let b = c.args.case.now.book.now in
+    let q = c.args.case.now.request.now in
+    let fs = c.args.flown.now.flights in
+    let ends = c.market_over-ends.result in
+    let s = subst (λ o. MatchOption o (NoFare c.args.case.now.book.now c.market_over-ends.result.from c.market_over-ends.result.to) (StandsAt c.find.new.self.kept.items c.market_over-ends.result)) c.in-Some.is c.in_ok-at.ensures.found in
+    let ms = c.find.new.self.kept.items in
+    let same : c.index.result.now ≡ s.market = c.index.ensures ∙ got_is ms c.in-Some.at c.index.result.now s.market s.stands in
+    let over = subst (λ gs. MarketOver c.args.reverse gs ends.from ends.to) c.as_slice.ensures.items c.market_over-ends.ensures in
+    on_ok c.take_offered.result _ _ (λ asked key k.
+    let is = key_of_market b q fs c.args.reverse ends.from ends.to key over k in
+    let from = ap (λ (m : Market). m.sheet.value.from) same ∙ s.from in
+    let to = ap (λ (m : Market). m.sheet.value.to) same ∙ s.to in
+    asked key (subst (λ p. IsKey b q fs p c.index.result.now.sheet.value.to key) (sym from) (subst (λ p. IsKey b q fs ends.from p key) (sym to) is))) c.take_offered.ensures.asked
