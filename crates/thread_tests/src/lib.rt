@@ -7,6 +7,8 @@ mod crossings;
 #[cfg(test)]
 mod desks;
 #[cfg(test)]
+mod inventing;
+#[cfg(test)]
 mod runs;
 #[cfg(test)]
 mod served;

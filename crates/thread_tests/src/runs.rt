@@ -66,7 +66,7 @@ impl<'a> Teller for Looker<'a> {
     }
 }
 
-fn too_large(number: u32) -> Reply
+pub fn too_large(number: u32) -> Reply
     ensures { result ≡ record { number = number; body = Body.TooLarge } }
 {
     Reply {
@@ -77,8 +77,16 @@ fn too_large(number: u32) -> Reply
 
 /// Holds the clerk until the first desk has an answer, for so many turns at most.
 #[derive(Drop)]
-struct Holding {
+pub struct Holding {
     answered: AtomicU64,
+}
+
+impl Holding {
+    pub fn new() -> Holding {
+        Holding {
+            answered: AtomicU64::new(0),
+        }
+    }
 }
 
 const MOST_TURNS: u64 = 1_000_000_000;
@@ -142,7 +150,7 @@ const SCRIPT: [&str; 6] = [
 ];
 
 /// A fare is put, and then another dropped that isn't there.
-fn later(alloc: Global) -> Result<List<Arc<Filing>>, Mem>
+pub fn later(alloc: Global) -> Result<List<Arc<Filing>>, Mem>
     ensures filings { IfOk result (All (λ f. IsFiling (arc_value f))) }
     ensures count { IfOk result (λ l. length l ≡ 2) }
 {
@@ -153,7 +161,7 @@ fn later(alloc: Global) -> Result<List<Arc<Filing>>, Mem>
 }
 
 /// The script's lines, numbered from 1.
-fn script_lines(alloc: Global) -> Result<Vec<TextLine>, Mem> {
+pub fn script_lines(alloc: Global) -> Result<Vec<TextLine>, Mem> {
     let mut lines = Vec::new(alloc);
     for (line, text) in (1..99).zip(SCRIPT.as_slice()) {
         let bytes = List::from_vec(text.as_bytes().to_vec(alloc)?);
@@ -162,7 +170,7 @@ fn script_lines(alloc: Global) -> Result<Vec<TextLine>, Mem> {
     Ok(lines)
 }
 
-fn asks(alloc: Global) -> Result<List<Ask>, Mem>
+pub fn asks(alloc: Global) -> Result<List<Ask>, Mem>
     ensures { IfOk result (λ l. length l ≡ 1) }
 {
     let mut asks = List::new(alloc);
@@ -179,9 +187,7 @@ fn run_two<R: Threads + Wait + Sync>(alloc: Global, rt: &R) -> Result<Log, Fail>
         asks: asks(alloc)?,
         script: read_script(alloc, script_lines(alloc)?.as_slice(), 2, 1)?,
     };
-    let gate = Holding {
-        answered: AtomicU64::new(0),
-    };
+    let gate = Holding::new();
     let (clerk, watches) = begin(rt, alloc, opening(alloc)?, 2)?;
     match two_lookers(alloc, &clerk, watches, &work.asks) {
         Ok(tellers) => Ok(drive(rt, alloc, clerk, tellers, &work, &gate)?),

@@ -1,15 +1,16 @@
 //! What a watch sees of a filing that is taken and of one that is refused.
-ghost use Rattle.std.specs.Prelude.{◌≡◌, ◌≤◌, IfOk};
+ghost use Rattle.std.specs.Prelude.{◌≡◌, ◌≤◌, All, IfOk, IfSome};
 ghost use Rattle.std.specs.Arc.{arc_value};
 ghost use Rattle.fare_law.specs.FilingLimits.{IsAction, IsFiling};
 ghost use Rattle.fare_law.specs.Limits.{IsFareKey};
+ghost use Rattle.fare_versions.specs.Seen.{HasSeen};
 
 use fare_book::{Book, Timetable};
 use fare_law::{
     Action, ArrayVec, Basis, BookWhy, Carrier, Fare, FareKey, FareKind, Filing, FlightRow, List,
     Mem, Place, PlaceRow, Refused, SeatRow,
 };
-use fare_versions::{Clerk, FileFault, Watch, begin};
+use fare_versions::{Clerk, FileFault, Receipt, Watch, begin};
 use schedule_book::Schedule;
 use std::alloc::Global;
 use std::sync::{Arc, Wait};
@@ -162,5 +163,48 @@ fn publishes_what_is_filed(rt: HostRuntime) -> Result<(), Fail> {
     };
     assert_eq!(rt; answers?, expected);
     assert_eq!(rt; count, 2);
+    Ok(())
+}
+
+/// What came of filing the put of a fare.
+fn file_put<R: Wait>(rt: &R, alloc: Global, clerk: &mut Clerk) -> Result<Receipt, FileFault>
+    ensures house { clerk.new.house ≡ clerk.old.house }
+    ensures receipt { IfOk result (λ r. r.house ≡ clerk.new.house) }
+{
+    match put(alloc) {
+        Ok(filing) => clerk.file(rt, alloc, filing),
+        Err(Mem) => Err(FileFault::Mem),
+    }
+}
+
+/// The watch that was asked for, of the clerk's house.
+fn one_watch(clerk: &Clerk, watches: List<Watch>) -> Option<Watch>
+    requires { All (HasSeen clerk.now) watches }
+    ensures { IfSome result (λ w. w.house ≡ clerk.now.house) }
+{
+    let _clerk = clerk;
+    let mut watches = watches.into_vec();
+    watches.pop()
+}
+
+/// A watch that lives on when the clerk has ended. It may see nothing any more, but knows what it saw.
+#[test]
+fn ends_while_a_watch_lives(rt: HostRuntime) -> Result<(), Fail> {
+    let alloc = rt.alloc();
+    let (mut clerk, watches) = begin(&rt, alloc, opening(alloc)?, 1)?;
+    let Some(mut watch) = one_watch(&clerk, watches) else {
+        clerk.end(&rt);
+        return Err(Fail::new("no watch"));
+    };
+    let filed = file_put(&rt, alloc, &mut clerk);
+    let before = watch.look();
+    clerk.end(&rt);
+    let number = before?.number();
+    let receipt = filed?;
+    watch.learn(&receipt);
+    let after = watch.look().map_or(number, |book: Arc<Book>| book.number());
+    assert_eq!(rt; number, 1);
+    assert_eq!(rt; after, 1);
+    assert_eq!(rt; watch.seen(), 1);
     Ok(())
 }
