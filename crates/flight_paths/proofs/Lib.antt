@@ -27,3 +27,4 @@ pub mod Seeing
 pub mod Timely
 pub mod Ranging
 pub mod Wanting
+pub mod Skipping

@@ -129,6 +129,10 @@ module _ (b : Book) (sl : List Slice) (at : Position) where
 pub saw_none : (told : List Path → Type 0) (P : List Path → Type 0) → P [] → Saw told told P
 saw_none told P h = record { seen = []; are = h; told = λ before t. subst told (sym (append-nil before)) t }
 
+-- nor was anything that was told lost
+pub saw_still : (old new : List Path → Type 0) (P : List Path → Type 0) → ((before : List Path) → old before → new before) → P [] → Saw old new P
+saw_still old new P stays h = record { seen = []; are = h; told = λ before t. subst new (sym (append-nil before)) (stays before t) }
+
 pub saw_more : (old mid new : List Path → Type 0) (P Q R : List Path → Type 0) → Saw old mid P → Saw mid new Q → ((ps qs : List Path) → P ps → Q qs → R (ps ++ qs)) → Saw old new R
 saw_more old mid new P Q R a c f = record {
   seen = a.seen ++ c.seen;
