@@ -9,3 +9,4 @@ pub mod Collected
 pub mod MaskFacts
 pub mod SomeLegs
 pub mod SettledFacts
+pub mod Halves

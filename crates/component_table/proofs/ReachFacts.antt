@@ -1,15 +1,16 @@
 -- Markets and ends, as more are found.
-use Rattle.std.proofs.Common.{◌≡◌, ℕ, zero, suc, List, [], ◌∷◌, ◌++◌, append-nil, append_assoc, slice_get, Option, Some, None, MatchOption, sym, ap, ◌∙◌, Bool, true, false}
+use Rattle.std.proofs.Common.{◌≡◌, ℕ, zero, suc, List, [], ◌∷◌, ◌++◌, append-nil, append_assoc, slice_get, Option, Some, None, MatchOption, sym, ap, subst, ◌∙◌, Bool, true, false}
 use Rattle.component_table.specs.declared.markets.Market.{Market}
 use Rattle.component_table.specs.declared.markets.MarketKey.{MarketKey}
 use Rattle.component_table.specs.declared.ends.End.{End}
 use Rattle.component_table.specs.declared.ends.EndKey.{EndKey}
 use Rattle.component_table.specs.declared.filed.Filed.{Filed}
 use Rattle.component_table.specs.Markets.{StandsAt}
+use Rattle.component_table.proofs.FiledFacts.{some_same}
 use Rattle.component_table.proofs.PathFacts.{end_from, end_to}
 use Rattle.fare_book.specs.Keeping.{NoFare}
 use Rattle.residual_keys.proofs.Sheeted.{got_in}
-use Rattle.component_table.specs.Reaches.{FiledAt, IsEnd, IsEndAt, IsKnown, filed_of}
+use Rattle.component_table.specs.Reaches.{EndStands, FiledAt, IsEnd, IsEndAt, IsKnown, filed_of}
 use Rattle.fare_groups.proofs.Grouped.{each_in, in_each}
 use Rattle.fare_law.specs.declared.names.Carrier.{Carrier}
 use Rattle.fare_law.specs.declared.names.Place.{Place}
@@ -51,8 +52,12 @@ pub each_last : {X : Type 0} (P : X → Type 0) (xs : List X) (x : X) → Each P
 each_last P [] x h k = (k, tt)
 each_last P (y ∷ xs) x h k = (h.0, each_last P xs x h.1 k)
 
-pub known_end : (b : Book) (from : Place) (key : EndKey) (ms : List Market) (es : List End) (e : End) → Each (IsEnd b from ms) es → IsKnown es key e → IsEndAt b from key ms e
-known_end b from key ms es e h k = record { key_is = k.key_is; end = each_in (IsEnd b from ms) es e h (got_in es k.at e k.stands) }
+pub known_end : (b : Book) (from : Place) (key : EndKey) (ms : List Market) (es : List End) (at : ℕ) → Each (IsEnd b from ms) es → IsKnown es key at → EndStands b from key ms es at
+known_end b from key ms es at h k = record { one = k.one; stands = k.stands; is = record { key_is = k.key_is; end = each_in (IsEnd b from ms) es k.one h (got_in es at k.one k.stands) } }
+
+-- what stands there is the end
+pub end_stands : (b : Book) (from : Place) (key : EndKey) (ms : List Market) (es : List End) (at : ℕ) (e : End) → EndStands b from key ms es at → slice_get es at ≡ Some e → IsEndAt b from key ms e
+end_stands b from key ms es at e h got = subst (IsEndAt b from key ms) (some_same (slice_get es at) h.one e h.stands got) h.is
 
 -- where a carrier's groups stand between a place and an end, this way
 pub end_found : (b : Book) (from : Place) (ms : List Market) (e : End) (r : Bool) → IsEnd b from ms e → MatchOption (filed_of e r) (NoFare b (end_from r from e.key.place) (end_to r from e.key.place)) (FiledAt ms (record { from = end_from r from e.key.place; to = end_to r from e.key.place }) e.key.carrier)

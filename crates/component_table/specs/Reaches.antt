@@ -48,8 +48,14 @@ pub record IsEndAt (b : Book) (from : Place) (key : EndKey) (ms : List Market) (
   pub key_is : e.key ≡ key
   pub end : IsEnd b from ms e
 
--- one of these ends is that of this key
-pub record IsKnown (ends : List End) (key : EndKey) (e : End) : Type 0 where
-  pub at : ℕ
-  pub stands : slice_get ends at ≡ Some e
-  pub key_is : e.key ≡ key
+-- the end of this key stands at this place
+pub record IsKnown (ends : List End) (key : EndKey) (at : ℕ) : Type 0 where
+  pub one : End
+  pub stands : slice_get ends at ≡ Some one
+  pub key_is : one.key ≡ key
+
+-- the end of this key stands at this place, as it is over these markets
+pub record EndStands (b : Book) (from : Place) (key : EndKey) (ms : List Market) (ends : List End) (at : ℕ) : Type 0 where
+  pub one : End
+  pub stands : slice_get ends at ≡ Some one
+  pub is : IsEndAt b from key ms one

@@ -55,8 +55,10 @@ pub fn add_path(
         return Ok(());
     };
     origin.book.limits();
-    let end = reach.find(alloc, origin.book, origin.at.place, key_of(first, last))?;
-    if is_unserved(&end) {
+    let at = reach.find(alloc, origin.book, origin.at.place, key_of(first, last))?;
+    let ends = reach.ends.as_slice();
+    let end = end_at(ends, at);
+    if is_unserved(end) {
         return Ok(());
     }
     let classes = masks.classes_of(origin.book, origin.request, numbers)?;
@@ -65,7 +67,7 @@ pub fn add_path(
     }
     let landed = Landed {
         path,
-        end: &end,
+        end,
         class: class_of(&path.after, first, last),
         classes,
     };
@@ -73,7 +75,7 @@ pub fn add_path(
 }
 
 /// What the end of a path is asked for by.
-fn key_of(first: &Flight, last: &Flight) -> EndKey
+pub fn key_of(first: &Flight, last: &Flight) -> EndKey
     ensures { result ≡ record { place = last.now.to; carrier = first.now.carrier } }
 {
     EndKey {
@@ -83,7 +85,7 @@ fn key_of(first: &Flight, last: &Flight) -> EndKey
 }
 
 /// The class of a path with these first and last flights.
-fn class_of(after: &Option<Position>, opening: &Flight, closing: &Flight) -> PathClass
+pub fn class_of(after: &Option<Position>, opening: &Flight, closing: &Flight) -> PathClass
     ensures { result ≡ record { after = after.now; end = closing.now.to; carrier = opening.now.carrier; first = opening.now.day; last = closing.now.day } }
 {
     PathClass {
@@ -95,8 +97,16 @@ fn class_of(after: &Option<Position>, opening: &Flight, closing: &Flight) -> Pat
     }
 }
 
+/// The end at a place.
+pub fn end_at(ends: &[End], at: usize) -> &End
+    requires { at < length ends.now }
+    ensures { slice_get ends.now at ≡ Some result.now }
+{
+    &ends[at]
+}
+
 /// Whether the carrier has no fare to this end or from it.
-fn is_unserved(end: &End) -> bool
+pub fn is_unserved(end: &End) -> bool
     ensures { IsTrue result → IsUnserved end.now.there × IsUnserved end.now.back }
 {
     has_none(end.there) && has_none(end.back)

@@ -1,7 +1,7 @@
 //! The markets between the place of a position and the ends of its paths, found as they are asked for.
 ghost use Rattle.std.specs.Prelude.{◌≡◌, ◌↔◌, IfOk, IfSome, IsTrue};
 ghost use Rattle.component_table.specs.Markets.{AreMarkets};
-ghost use Rattle.component_table.specs.Reaches.{IsEndAt, IsKnown, IsReach};
+ghost use Rattle.component_table.specs.Reaches.{EndStands, IsKnown, IsReach};
 
 use crate::filed::{Filed, filed_at};
 use crate::markets::{MarketKey, Markets};
@@ -69,29 +69,43 @@ impl Reach {
         }
     }
 
-    /// An end, seen from a place.
-    pub fn find(&mut self, alloc: Global, book: &Book, from: Place, key: EndKey) -> Result<End, Mem>
-        requires { IsReach book.now from self.old }
-        ensures reach { IsReach book.now from self.new }
-        ensures end { IfOk result (IsEndAt book.now from key self.new.markets.kept.items) }
+    /// Where an end stands that was asked for of late. None says nothing.
+    pub fn recall(&self, key: EndKey) -> Option<usize>
+        ensures { IfSome result (IsKnown self.now.ends.items key) }
     {
         let spot = spot_of(key.letters());
-        if let Some(end) = known(self.ends.as_slice(), self.recent.get(spot), key) {
-            return Ok(end);
+        known(self.ends.as_slice(), self.recent.get(spot), key)
+    }
+
+    /// Where an end stands, seen from a place.
+    pub fn find(
+        &mut self,
+        alloc: Global,
+        book: &Book,
+        from: Place,
+        key: EndKey,
+    ) -> Result<usize, Mem>
+        requires { IsReach book.now from self.old }
+        ensures reach { IsReach book.now from self.new }
+        ensures end { IfOk result (EndStands book.now from key self.new.markets.kept.items self.new.ends.items) }
+    {
+        let spot = spot_of(key.letters());
+        if let Some(at) = known(self.ends.as_slice(), self.recent.get(spot), key) {
+            return Ok(at);
         }
         let found = self.places.get(&key.letters()).copied();
         self.recent.put(spot, found.unwrap_or(self.ends.len()));
-        if let Some(end) = known(self.ends.as_slice(), found, key) {
-            return Ok(end);
+        if let Some(at) = known(self.ends.as_slice(), found, key) {
+            return Ok(at);
         }
         self.add(alloc, book, from, key)
     }
 
     /// Adds an end.
-    fn add(&mut self, alloc: Global, book: &Book, from: Place, key: EndKey) -> Result<End, Mem>
+    fn add(&mut self, alloc: Global, book: &Book, from: Place, key: EndKey) -> Result<usize, Mem>
         requires { IsReach book.now from self.old }
         ensures reach { IsReach book.now from self.new }
-        ensures end { IfOk result (IsEndAt book.now from key self.new.markets.kept.items) }
+        ensures end { IfOk result (EndStands book.now from key self.new.markets.kept.items self.new.ends.items) }
     {
         let to = key.place;
         let there = self.markets.find(alloc, book, MarketKey { from, to })?;
@@ -101,17 +115,18 @@ impl Reach {
         let kept = self.markets.kept.as_slice();
         let there = filed_at(kept, there, key.carrier);
         let back = filed_at(kept, back, key.carrier);
-        let end = End { key, there, back };
-        self.places.insert(key.letters(), self.ends.len())?;
-        self.ends.push(end)?;
-        Ok(end)
+        let at = self.ends.len();
+        self.places.insert(key.letters(), at)?;
+        self.ends.push(End { key, there, back })?;
+        Ok(at)
     }
 }
 
-/// An end, if it stands at a place.
-fn known(ends: &[End], found: Option<usize>, key: EndKey) -> Option<End>
+/// A place, if the end stands there.
+fn known(ends: &[End], found: Option<usize>, key: EndKey) -> Option<usize>
     ensures { IfSome result (IsKnown ends.now key) }
 {
-    let end = ends.get(found?)?;
-    if end.key.is(key) { Some(*end) } else { None }
+    let at = found?;
+    let end = ends.get(at)?;
+    if end.key.is(key) { Some(at) } else { None }
 }

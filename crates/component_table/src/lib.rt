@@ -17,6 +17,7 @@ mod recent;
 mod same;
 mod scenes;
 mod settled;
+mod skipping;
 mod tables;
 mod visiting;
 mod ways;

@@ -3,7 +3,8 @@ ghost use Rattle.std.specs.Prelude.{◌≡◌, ◌<◌, [], IfOk, IfSome, List a
 ghost use Rattle.component_table.specs.Masks.{AreMasks, IsMask, IsMaskOf, KnowsNoMore, PutsMask};
 ghost use Rattle.component_table.specs.Tables.{HasLegs};
 ghost use Rattle.fare_law.specs.declared.flights.Flight.{Flight as DatedFlight};
-ghost use Rattle.fare_law.specs.Book.{flight_at};
+ghost use Rattle.fare_law.specs.declared.requests.Request.{Request as Asked};
+ghost use Rattle.fare_law.specs.Book.{Book as Version, flight_at};
 ghost use Rattle.fare_law.specs.Parts.{Numbers};
 
 use crate::gathering::{flight_of, schedule_of};
@@ -43,6 +44,20 @@ impl Masks {
             classes &= self.mask(book, request, *number)?;
         }
         Ok(classes)
+    }
+
+    /// The classes that are open for the party in each of the flights of these numbers, if all their masks are known.
+    pub fn known_of(&self, numbers: &[u32]) -> Option<u32>
+        ensures { (b : Version) (q : Asked) → AreMasks b q self.now → IfSome result (λ classes. (fs : Items DatedFlight) → Numbers b numbers.now fs → HasLegs b q fs classes) }
+    {
+        let mut classes = u32::MAX;
+        for number in numbers {
+            let Some(mask) = known(self.known.as_slice(), *number) else {
+                return None;
+            };
+            classes &= mask;
+        }
+        Some(classes)
     }
 
     /// The classes with seats for the party on the flight of this number. A number of no flight may have any.

@@ -4,33 +4,33 @@
 /// For each spot a place of a list.
 #[derive(Drop)]
 pub struct Recent {
-    places: [usize; 256],
+    places: [u32; 1024],
 }
 
 impl Recent {
     /// No place that a list has.
     pub fn new() -> Recent {
         Recent {
-            places: [usize::MAX; 256],
+            places: [u32::MAX; 1024],
         }
     }
 
     /// The place at a spot.
     pub fn get(&self, spot: usize) -> Option<usize> {
-        self.places.get(spot).copied()
+        self.places.get(spot).map(|place| *place as usize)
     }
 
     /// Puts a place at a spot.
     pub fn put(&mut self, spot: usize, place: usize) {
         if let Some(known) = self.places.get_mut(spot) {
-            *known = place;
+            *known = u32::try_from(place).unwrap_or(u32::MAX);
         }
     }
 }
 
 /// The spot of a key that is packed into a number.
 pub fn spot_of(packed: u64) -> usize {
-    (packed.wrapping_mul(0x9e3779b97f4a7c15) >> 56) as usize
+    (packed.wrapping_mul(0x9e3779b97f4a7c15) >> 54) as usize
 }
 
 /// One number of two.

@@ -11,6 +11,7 @@ use crate::markets::Markets;
 use crate::masks::Masks;
 use crate::scenes::Scene;
 use crate::settled::{Filling, Settled};
+use crate::skipping::adds_nothing;
 use crate::ways::Origin;
 use fare_law::Mem;
 use flight_paths::{Path, PathVisitor};
@@ -60,6 +61,17 @@ impl<'a, S: Scene> PathVisitor for Putting<'a, S> {
             &mut self.masks,
             &self.origin,
             path,
+        )
+    }
+
+    fn skips(&mut self, head: &Path, tail: &Path) -> bool {
+        adds_nothing(
+            &mut self.filling,
+            &self.reach,
+            &self.masks,
+            &self.origin,
+            head,
+            tail,
         )
     }
 }

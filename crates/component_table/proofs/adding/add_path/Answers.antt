@@ -1,8 +1,9 @@
-use Rattle.std.proofs.Common.{◌≤◌, ap, length, subst, sym, ◌∙◌}
+use Rattle.std.proofs.Common.{◌≤◌, ap, length, slice_get, subst, sym, ◌∙◌, arith}
 use Rattle.component_table.specs.declared.classes.PathClass.{PathClass}
 use Rattle.component_table.specs.declared.ends.EndKey.{EndKey}
 use Rattle.component_table.specs.Reaches.{IsEnd}
-use Rattle.component_table.proofs.PathFacts.{path_numbers}
+use Rattle.component_table.proofs.PathFacts.{got_lt, path_numbers}
+use Rattle.component_table.proofs.ReachFacts.{end_stands}
 use Rattle.component_table.proofs.Served.{closed_added, reaches_as, unserved_added}
 use Rattle.component_table.proofs.SettledFacts.{of_class}
 use Rattle.fare_law.specs.Parts.{Numbers}
@@ -25,10 +26,11 @@ returns-in_default-last_flight-clause-done c = λ p.
 pub returns-then-is_unserved-clause-done : goal.returns-then-is_unserved-clause-done
 returns-then-is_unserved-clause-done c = λ p.
     let b = c.args.origin.now.book.now in
-    let e = c.in_ok-end.end in
-    let is = c.in_ok-end.ensures.end in
+    let e = c.end_at-end.result.now in
+    let key = c.key_of.result in
+    let is = end_stands b c.args.origin.now.at.now.place key c.find.new.self.markets.kept.items c.find.new.self.ends.items c.in_ok-at.at e c.in_ok-at.ensures.end (ap (λ xs. slice_get xs c.in_ok-at.at) (sym c.as_slice-ends.ensures.value) ∙ c.end_at-end.ensures) in
     let none = c.is_unserved.ensures c.if-is_unserved.true in
-    unserved_added b c.args.origin.now.request.now c.args.origin.now.at.now c.args.path.now c.find.new.self.markets.kept.items e c.in_ok-end.ensures.reach.markets c.limits.ensures is.end c.args.filling.now.table.entries.items
+    unserved_added b c.args.origin.now.request.now c.args.origin.now.at.now c.args.path.now c.find.new.self.markets.kept.items e c.in_ok-at.ensures.reach.markets c.limits.ensures is.end c.args.filling.now.table.entries.items
     (λ fs m.
     let own = subst (λ l. Numbers b l fs) (sym c.as_slice-numbers.ensures.items) m in
     reaches_as e c.in-Some.first.now c.in-Some-last_flight.last.now fs (is.key_is ∙ c.key_of.ensures) (c.in-Some.ensures.some fs own) (c.in-Some-last_flight.ensures.some.1 fs own))
@@ -37,20 +39,27 @@ returns-then-is_unserved-clause-done c = λ p.
 pub returns-then-classes-eq0-clause-done : goal.returns-then-classes-eq0-clause-done
 returns-then-classes-eq0-clause-done c = λ p.
     let b = c.args.origin.now.book.now in
-    let e = c.in_ok-end.end in
-    let is = c.in_ok-end.ensures.end in
-    closed_added b c.args.origin.now.request.now c.args.origin.now.at.now c.args.path.now c.find.new.self.markets.kept.items e c.in_ok-end.ensures.reach.markets c.limits.ensures is.end c.in_ok-classes.classes c.args.filling.now.table.entries.items
+    let e = c.end_at-end.result.now in
+    let key = c.key_of.result in
+    let is = end_stands b c.args.origin.now.at.now.place key c.find.new.self.markets.kept.items c.find.new.self.ends.items c.in_ok-at.at e c.in_ok-at.ensures.end (ap (λ xs. slice_get xs c.in_ok-at.at) (sym c.as_slice-ends.ensures.value) ∙ c.end_at-end.ensures) in
+    closed_added b c.args.origin.now.request.now c.args.origin.now.at.now c.args.path.now c.find.new.self.markets.kept.items e c.in_ok-at.ensures.reach.markets c.limits.ensures is.end c.in_ok-classes.classes c.args.filling.now.table.entries.items
     (λ fs m.
     let own = subst (λ l. Numbers b l fs) (sym c.as_slice-numbers.ensures.items) m in
     reaches_as e c.in-Some.first.now c.in-Some-last_flight.last.now fs (is.key_is ∙ c.key_of.ensures) (c.in-Some.ensures.some fs own) (c.in-Some-last_flight.ensures.some.1 fs own))
     (λ fs m. c.in_ok-classes.ensures.classes fs (subst (λ l. Numbers b l fs) (sym c.as_slice-numbers.ensures.items) m)) c.if-classes-eq0.true
 
+pub end_at-end-requires : goal.end_at-end-requires
+end_at-end-requires c =
+    let s = c.in_ok-at.ensures.end in
+    omega (arith, got_lt c.find.new.self.ends.items c.in_ok-at.at s.one s.stands, ap length c.as_slice-ends.ensures.value)
+
 pub add_landed-requires-clause-landed : goal.add_landed-requires-clause-landed
 add_landed-requires-clause-landed c =
     let b = c.args.origin.now.book.now in
-    let e = c.in_ok-end.end in
-    let is = c.in_ok-end.ensures.end in
-    let key = is.key_is ∙ c.key_of.ensures in
+    let e = c.end_at-end.result.now in
+    let key = c.key_of.result in
+    let is = end_stands b c.args.origin.now.at.now.place key c.find.new.self.markets.kept.items c.find.new.self.ends.items c.in_ok-at.at e c.in_ok-at.ensures.end (ap (λ xs. slice_get xs c.in_ok-at.at) (sym c.as_slice-ends.ensures.value) ∙ c.end_at-end.ensures) in
+    let own = is.key_is ∙ c.key_of.ensures in
     record {
       end = subst (λ ms. IsEnd b c.args.origin.now.at.now.place ms e) (sym c.as_slice.ensures.value) is.end;
       some = subst (λ l. 1 ≤ length l) c.as_slice-numbers.ensures.items c.in-Some-last_flight.ensures.some.0;
@@ -58,6 +67,6 @@ add_landed-requires-clause-landed c =
       class = λ fs m.
           let own = subst (λ l. Numbers b l fs) (sym c.as_slice-numbers.ensures.items) m in
           of_class c.class_of.result c.in-Some.first.now c.in-Some-last_flight.last.now c.args.path.now.after fs c.class_of.ensures (c.in-Some.ensures.some fs own) (c.in-Some-last_flight.ensures.some.1 fs own);
-      place_is = ap (λ (x : PathClass). x.end) c.class_of.ensures ∙ sym (ap (λ (x : EndKey). x.place) key);
-      carrier_is = ap (λ (x : PathClass). x.carrier) c.class_of.ensures ∙ sym (ap (λ (x : EndKey). x.carrier) key);
+      place_is = ap (λ (x : PathClass). x.end) c.class_of.ensures ∙ sym (ap (λ (x : EndKey). x.place) own);
+      carrier_is = ap (λ (x : PathClass). x.carrier) c.class_of.ensures ∙ sym (ap (λ (x : EndKey). x.carrier) own);
     }

@@ -1,7 +1,8 @@
-use Rattle.std.proofs.Common.{MatchOption, refl, subst, sym}
+use Rattle.std.proofs.Common.{◌≡◌, [], ◌∷◌, ◌++◌, MatchOption, ap, length, refl, slice_get, subst, sym, ◌∙◌, arith}
 use Rattle.component_table.specs.declared.ends.End.{End}
 use Rattle.component_table.specs.Markets.{StandsAt}
 use Rattle.component_table.specs.Reaches.{FiledAt, IsEnd}
+use Rattle.component_table.proofs.PathFacts.{last_got}
 use Rattle.component_table.proofs.ReachFacts.{each_last, ends_on, found_on, prefix_on}
 use Rattle.fare_book.specs.Keeping.{NoFare}
 use Rattle.fare_law.specs.Lists.{Each}
@@ -67,10 +68,17 @@ returns-clause-end c =
     let key = c.args.key in
     let one = c.find.new.self.kept.items in
     let two = c.find-2.new.self.kept.items in
+    let end : End = record { key = key; there = c.filed_at-there.result; back = c.filed_at-back.result } in
+    let ends = c.args.self.now.ends.items in
+    let n : c.len-at.result ≡ length ends = omega (arith, c.len-at.ensures) in
     record {
-      key_is = refl;
-      end = record {
-        there = subst (λ ms. MatchOption c.filed_at-there.result (NoFare b from key.place) (FiledAt ms (record { from = from; to = key.place }) key.carrier)) c.as_slice-kept.ensures.value (c.filed_at-there.ensures b (record { from = from; to = key.place }) (subst (λ ms. MatchOption c.in_ok-there.there (NoFare b from key.place) (StandsAt ms (record { from = from; to = key.place }))) (sym c.as_slice-kept.ensures.value) (found_on _ one two _ c.in_ok-there.there c.in_ok-back.ensures.grows c.in_ok-there.ensures.found)));
-        back = subst (λ ms. MatchOption c.filed_at-back.result (NoFare b key.place from) (FiledAt ms (record { from = key.place; to = from }) key.carrier)) c.as_slice-kept.ensures.value (c.filed_at-back.ensures b (record { from = key.place; to = from }) (subst (λ ms. MatchOption c.in_ok-back.back (NoFare b key.place from) (StandsAt ms (record { from = key.place; to = from }))) (sym c.as_slice-kept.ensures.value) c.in_ok-back.ensures.found));
+      one = end;
+      stands = ap (λ xs. slice_get xs c.len-at.result) c.in_ok-push.ensures.items ∙ ap (slice_get (ends ++ end ∷ [])) n ∙ last_got ends end;
+      is = record {
+        key_is = refl;
+        end = record {
+          there = subst (λ ms. MatchOption c.filed_at-there.result (NoFare b from key.place) (FiledAt ms (record { from = from; to = key.place }) key.carrier)) c.as_slice-kept.ensures.value (c.filed_at-there.ensures b (record { from = from; to = key.place }) (subst (λ ms. MatchOption c.in_ok-there.there (NoFare b from key.place) (StandsAt ms (record { from = from; to = key.place }))) (sym c.as_slice-kept.ensures.value) (found_on _ one two _ c.in_ok-there.there c.in_ok-back.ensures.grows c.in_ok-there.ensures.found)));
+          back = subst (λ ms. MatchOption c.filed_at-back.result (NoFare b key.place from) (FiledAt ms (record { from = key.place; to = from }) key.carrier)) c.as_slice-kept.ensures.value (c.filed_at-back.ensures b (record { from = key.place; to = from }) (subst (λ ms. MatchOption c.in_ok-back.back (NoFare b key.place from) (StandsAt ms (record { from = key.place; to = from }))) (sym c.as_slice-kept.ensures.value) c.in_ok-back.ensures.found));
+        };
       };
     }

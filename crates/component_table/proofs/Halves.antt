@@ -1,0 +1,89 @@
+-- A path of a head and a tail, by what is known of the two.
+use Rattle.std.proofs.Common.{◌≡◌, ℕ, List, [], ◌∷◌, ◌++◌, All, IsBitSet, bit_and, refl, sym, ap, subst, ◌∙◌}
+use Rattle.std.proofs.lemmas.List.Elements.{All-append, All-cons, All-nil, All-head, All-tail}
+use Rattle.component_table.specs.declared.ends.End.{End}
+use Rattle.component_table.specs.Tables.{BeginsWith, EndsWith, HasLegs}
+use Rattle.component_table.proofs.Served.{ReachesEnd, reaches_as}
+use Rattle.fare_groups.proofs.Bits.{both_set}
+use Rattle.fare_law.specs.declared.flights.Flight.{Flight}
+use Rattle.fare_law.specs.declared.requests.Request.{Request}
+use Rattle.fare_law.specs.declared.sheets.Leg.{Leg}
+use Rattle.fare_law.specs.Book.{Book}
+use Rattle.fare_law.specs.Lists.{Matched, OnFirst, OnLast}
+use Rattle.fare_law.specs.Offers.{flights_of}
+use Rattle.fare_law.specs.Parts.{Numbers}
+use Rattle.residual_keys.specs.AskedKeys.{IsLeg}
+
+-- the flights of the one's numbers and of the other's
+record Halves (b : Book) (ns ms : List ℕ) (fs : List Flight) : Type 0 where
+  front : List Flight
+  back : List Flight
+  parts : fs ≡ front ++ back
+  fronts : Numbers b ns front
+  backs : Numbers b ms back
+
+halves : (b : Book) (ns ms : List ℕ) (fs : List Flight) → Numbers b (ns ++ ms) fs → Halves b ns ms fs
+halves b [] ms fs h = record { front = []; back = fs; parts = refl; fronts = tt; backs = h }
+halves b (n ∷ ns) ms [] h = absurd h
+halves b (n ∷ ns) ms (f ∷ fs) h =
+    let r = halves b ns ms fs h.1 in
+    record { front = f ∷ r.front; back = r.back; parts = ap (λ gs. f ∷ gs) r.parts; fronts = (h.0, r.fronts); backs = r.backs }
+
+first_left : (P : Flight → Type 0) (fs gs : List Flight) → OnFirst P fs → OnFirst P (fs ++ gs)
+first_left P [] gs h = absurd h
+first_left P (f ∷ fs) gs h = h
+
+last_right : (P : Flight → Type 0) (fs gs : List Flight) → OnLast P gs → OnLast P (fs ++ gs)
+last_right P [] gs h = h
+last_right P (f ∷ []) [] h = absurd h
+last_right P (f ∷ []) (g ∷ gs) h = h
+last_right P (f ∷ e ∷ fs) gs h = last_right P (e ∷ fs) gs h
+
+-- the first flight is the head's first, the last one the tail's last
+pub joined_begins : (b : Book) (ns ms : List ℕ) (first : Flight) → BeginsWith b ns first → BeginsWith b (ns ++ ms) first
+joined_begins b ns ms first h fs m = let x = halves b ns ms fs m in subst (OnFirst (λ f. f ≡ first)) (sym x.parts) (first_left (λ f. f ≡ first) x.front x.back (h x.front x.fronts))
+
+pub joined_ends : (b : Book) (ns ms : List ℕ) (last : Flight) → EndsWith b ms last → EndsWith b (ns ++ ms) last
+joined_ends b ns ms last h fs m = let x = halves b ns ms fs m in subst (OnLast (λ f. f ≡ last)) (sym x.parts) (last_right (λ f. f ≡ last) x.front x.back (h x.back x.backs))
+
+-- so the path reaches an end of the first carrier's fares
+pub joined_reaches : (b : Book) (ns ms : List ℕ) (e : End) (first last : Flight) → e.key ≡ record { place = last.to; carrier = first.carrier } → BeginsWith b ns first → EndsWith b ms last → (fs : List Flight) → Numbers b (ns ++ ms) fs → ReachesEnd e fs
+joined_reaches b ns ms e first last key begins ends fs m = reaches_as e first last fs key (joined_begins b ns ms first begins fs m) (joined_ends b ns ms last ends fs m)
+
+all_front : (P : Leg → Type 0) (xs ys : List Leg) → All P (xs ++ ys) → All P xs
+all_front P [] ys h = All-nil P
+all_front P (x ∷ xs) ys h = All-cons P x xs (All-head P x (xs ++ ys) h) (all_front P xs ys (All-tail P x (xs ++ ys) h))
+
+all_back : (P : Leg → Type 0) (xs ys : List Leg) → All P (xs ++ ys) → All P ys
+all_back P [] ys h = h
+all_back P (x ∷ xs) ys h = all_back P xs ys (All-tail P x (xs ++ ys) h)
+
+matched_both : (R : Flight → Leg → Type 0) (xs zs : List Flight) (ys ws : List Leg) → Matched R xs ys → Matched R zs ws → Matched R (xs ++ zs) (ys ++ ws)
+matched_both R [] zs [] ws h k = k
+matched_both R [] zs (y ∷ ys) ws h k = absurd h
+matched_both R (x ∷ xs) zs [] ws h k = absurd h
+matched_both R (x ∷ xs) zs (y ∷ ys) ws h k = (h.0, matched_both R xs zs ys ws h.1 k)
+
+flights_both : (xs ys : List Leg) → flights_of (xs ++ ys) ≡ flights_of xs ++ flights_of ys
+flights_both [] ys = refl
+flights_both (x ∷ xs) ys = ap (λ fs. x.flight ∷ fs) (flights_both xs ys)
+
+legs_both : (b : Book) (q : Request) (fs gs : List Flight) (here there : ℕ) → HasLegs b q fs here → HasLegs b q gs there → HasLegs b q (fs ++ gs) (bit_and here there)
+legs_both b q fs gs here there h k = record {
+  legs = h.legs ++ k.legs;
+  legs_are = record {
+    each = matched_both (IsLeg b q.party) fs gs h.legs k.legs h.legs_are.each k.legs_are.each;
+    flights = flights_both h.legs k.legs ∙ ap (λ x. x ++ flights_of k.legs) h.legs_are.flights ∙ ap (λ y. fs ++ y) k.legs_are.flights;
+  };
+  classes_are = λ class l.
+      let one = h.classes_are class l in
+      let two = k.classes_are class l in
+      let both = both_set here there class in (
+        λ s. let t = both.0 s in All-append (λ (x : Leg). IsBitSet x.classes class) h.legs k.legs (one.0 t.0) (two.0 t.1),
+        λ a. both.1 (one.1 (all_front (λ (x : Leg). IsBitSet x.classes class) h.legs k.legs a), two.1 (all_back (λ (x : Leg). IsBitSet x.classes class) h.legs k.legs a)),
+      );
+}
+
+-- the classes that are open in both are open in all its legs
+pub joined_classes : (b : Book) (q : Request) (ns ms : List ℕ) (here there : ℕ) → ((fs : List Flight) → Numbers b ns fs → HasLegs b q fs here) → ((fs : List Flight) → Numbers b ms fs → HasLegs b q fs there) → (fs : List Flight) → Numbers b (ns ++ ms) fs → HasLegs b q fs (bit_and here there)
+joined_classes b q ns ms here there h k fs m = let x = halves b ns ms fs m in subst (λ gs. HasLegs b q gs (bit_and here there)) (sym x.parts) (legs_both b q x.front x.back here there (h x.front x.fronts) (k x.back x.backs))
