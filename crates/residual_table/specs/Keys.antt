@@ -1,5 +1,5 @@
 -- Residuals by the numbers of their positions and open units.
-use Rattle.std.specs.Prelude.{◌≡◌, ◌⊎◌, ◌<◌, ℕ, Bool, zero, suc, List, [], ◌∷◌, length, slice_get, Option, Some, None, option_map, unwrap_or}
+use Rattle.std.specs.Prelude.{◌≡◌, ◌⊎◌, ◌<◌, ◌≤◌, ℕ, Bool, zero, suc, List, [], ◌∷◌, length, slice_get, Option, Some, None, option_map, unwrap_or}
 use Rattle.fare_law.specs.Lists.{AllDifferent, Each}
 use Rattle.flight_paths.specs.declared.positions.Position.{Position}
 use Rattle.open_unit.specs.declared.units.OpenUnit.{OpenUnit}
@@ -17,11 +17,13 @@ pub record Tables : Type 0 where
 abbrev pub no_tables : Tables
 no_tables = record { positions = []; units = [] }
 
--- Each element stands once, and lies in its ranges.
+-- Each element stands once, and lies in its ranges, and one more than its number fits 32 bits.
 pub record AreTables (t : Tables) : Type 0 where
   pub positions : AllDifferent t.positions
   pub units : AllDifferent t.units
   pub units_kept : Each UnitInRanges t.units
+  pub few_positions : length t.positions ≤ 4294967295
+  pub few_units : length t.units ≤ 4294967295
 
 infixl 10 ◌>>=◌
 abbrev pub ◌>>=◌ : {A B : Type 0} → Option A → (A → Option B) → Option B

@@ -1,5 +1,5 @@
 //! Elements of a table, each with its number.
-ghost use Rattle.std.specs.Prelude.{◌≡◌, ◌<◌, IfOk, Some, slice_get, true};
+ghost use Rattle.std.specs.Prelude.{◌≡◌, ◌<◌, ◌≤◌, IfOk, Some, length, slice_get, true};
 ghost use Rattle.residual_table.specs.Keys.{IsAdded};
 
 use fare_law::Mem;
@@ -14,6 +14,7 @@ pub fn add<T: Hash + Eq + Copy>(table: &mut IndexSet<T>, element: T) -> Result<u
     ensures added { IsAdded T.eq table.old.keys element table.new.keys }
     ensures number { IfOk result (λ n. (k : T) × (slice_get table.new.keys n ≡ Some k) × (T.eq element k ≡ true)) }
     ensures small { IfOk result (λ n. n < 4294967295) }
+    ensures few { length table.old.keys ≤ 4294967295 → length table.new.keys ≤ 4294967295 }
 {
     if table.len() >= MOST {
         return Err(Mem);

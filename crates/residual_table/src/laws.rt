@@ -1,11 +1,12 @@
 //! That the tests of keys and of the parts of residuals tell whether they are one.
-ghost use Rattle.std.specs.declared.cmp.Ordering.TheVariants.{Equal};
+ghost use Rattle.std.specs.declared.cmp.Ordering.TheVariants.{Equal, Less};
 ghost use Rattle.std.specs.Prelude.{◌≡◌, ◌↔◌, IsTrue};
 ghost use Rattle.flight_paths.specs.declared.positions.Position.{Position as PositionData};
 ghost use Rattle.open_unit.specs.declared.units.OpenUnit.{OpenUnit as UnitData};
 ghost use Rattle.open_unit.specs.Ranges.{UnitInRanges};
 ghost use Rattle.residual_keys.specs.declared.parts.TicketPart.{TicketPart as PartData};
 ghost use Rattle.residual_keys.specs.Kept.{IsResidual, PartKept};
+ghost use Rattle.residual_keys.specs.ResidualOrder.{IsStrictOrder, PartBefore, PositionBefore, UnitBefore};
 ghost use Rattle.residual_keys.specs.Residuals.{State};
 
 use flight_paths::Position;
@@ -32,4 +33,17 @@ pub fn parts_tell()
     ensures parts { (s t : PartData) → PartKept s → PartKept t → IsTrue (⟦<TicketPart as PartialEq>⟧.eq s t) ↔ (s ≡ t) }
 {
     residuals_tell();
+}
+
+/// The orders of what residuals consist of are strict and total, and their comparisons tell them.
+pub fn parts_order()
+    ensures positions { IsStrictOrder PositionBefore }
+    ensures units { IsStrictOrder UnitBefore }
+    ensures parts { IsStrictOrder PartBefore }
+    ensures position_less { (a b : PositionData) → (⟦<Position as Ord>⟧.cmp a b ≡ Less) ↔ PositionBefore a b }
+    ensures unit_less { (u v : UnitData) → UnitInRanges u → UnitInRanges v → (⟦<OpenUnit as Ord>⟧.cmp u v ≡ Less) ↔ UnitBefore u v }
+    ensures part_less { (s t : PartData) → PartKept s → PartKept t → (⟦<TicketPart as Ord>⟧.cmp s t ≡ Less) ↔ PartBefore s t }
+    ensures part_same { (s t : PartData) → PartKept s → PartKept t → (⟦<TicketPart as Ord>⟧.cmp s t ≡ Equal) ↔ (s ≡ t) }
+{
+    residual_order();
 }

@@ -1,8 +1,10 @@
 //! Numbers of residuals: their positions and open units stand once each in tables, and a residual is three small
-//! numbers and its ticket part. The layer above gets keys that are equal exactly where residuals are.
+//! numbers and its ticket part. The layer above gets keys that are equal exactly where residuals are, finds the key of a
+//! residual, and sorts keys as the residuals sort.
 #![tactic(auto)]
 
 mod adding;
+mod finding;
 mod key;
 mod laws;
 mod numbering;
@@ -10,7 +12,8 @@ mod parts;
 mod ranking;
 mod reading;
 
-pub use key::ResidualKey;
+pub use finding::keys_found;
+pub use key::{ResidualKey, SortKey};
 pub use parts::ResidualParts;
-pub use ranking::Ranks;
+pub use ranking::{Ranks, ranks_order};
 pub use reading::keys_stay;

@@ -1,6 +1,6 @@
 //! What residuals consist of, by numbers.
 ghost use Rattle.std.specs.Prelude.{◌≡◌};
-ghost use Rattle.residual_table.specs.Keys.{no_tables};
+ghost use Rattle.residual_table.specs.Keys.{AreTables, no_tables};
 
 use flight_paths::Position;
 use indexmap::IndexSet;
@@ -34,5 +34,12 @@ impl ResidualParts {
             positions: IndexSet::new(alloc),
             units: IndexSet::new(alloc),
         }
+    }
+
+    /// What the type keeps of all tables.
+    pub fn keeps(&self)
+        ensures { AreTables self.now }
+    {
+        let _count = self.positions.len();
     }
 }

@@ -9,6 +9,8 @@ invariant_of-self c = record {
   positions = once_added (λ _. Unit {0}) position.ghosts.eq (λ a b h k. c.parts_tell.ensures.positions a b) c.self.inside.positions.keys c.add.new.table.keys c.args.at c.add.ensures.added c.self.invariant.positions (each_any c.self.inside.positions.keys) tt;
   units = c.self.invariant.units;
   units_kept = c.self.invariant.units_kept;
+  few_positions = c.add.ensures.few c.self.invariant.few_positions;
+  few_units = c.self.invariant.few_units;
 }
 
 pub returns-clause-grows : goal.returns-clause-grows

@@ -11,6 +11,8 @@ invariant_of-self c = record {
   positions = c.self.invariant.positions;
   units = once_added UnitInRanges unit.ghosts.eq c.parts_tell.ensures.units c.self.inside.units.keys c.add.new.table.keys c.args.unit.now c.add.ensures.added c.self.invariant.units (c.self.invariant.units_kept) c.requires;
   units_kept = each_added unit.ghosts.eq UnitInRanges c.self.inside.units.keys c.add.new.table.keys c.args.unit.now c.add.ensures.added (c.self.invariant.units_kept) c.requires;
+  few_positions = c.self.invariant.few_positions;
+  few_units = c.add.ensures.few c.self.invariant.few_units;
 }
 
 pub returns-clause-grows : goal.returns-clause-grows
