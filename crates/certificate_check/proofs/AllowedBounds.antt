@@ -18,8 +18,7 @@ use Rattle.residual_keys.specs.declared.residual.Next.TheVariants.{At, Done}
 use Rattle.residual_keys.specs.Residuals.{Moves, State, begins, part_with}
 use Rattle.residual_keys.specs.Steps.{left_at}
 use Rattle.residual_keys.proofs.LeastOne.{in_each, weaken}
-use Rattle.search_steps.specs.declared.key.Key.{Key}
-use Rattle.search_steps.specs.Keys.{residual_of}
+use Rattle.residual_table.specs.declared.key.ResidualKey.{ResidualKey}
 use Rattle.search_steps.specs.Leads.{leads_of, next_of}
 use Rattle.search_steps.proofs.Bridge.{move_ends, move_on}
 
@@ -68,12 +67,12 @@ module _ (b : Book) (q : Request) (rows : List CertRow) (row : CertRow) where
   allowed_each os are h = weaken (λ o. leads_of b q row.residual o.next o.price) (λ o. Allows rows row o.next o.price) (λ o l. h o.next o.price l) os are.attained
 
 -- what the outcomes of a row's key tell
-pub allowed_told : (b c : Book) (q r : Request) (rows : List CertRow) (row : CertRow) (x : State) (os ps : List (Outcome Key)) (result : Bool) → c ≡ b → r ≡ q → x ≡ row.residual → ps ≡ os
-    → AreOutcomes (leads_of c r) x (outcomes_of residual_of os) → IsTrue result ↔ Each (λ o. Allows rows row o.next o.price) (outcomes_of residual_of ps) → IsTrue result ↔ IsAllowed b q rows row
-allowed_told b c q r rows row x os ps result eb eq ex eo are told =
-    let here = subst (λ z. AreOutcomes (leads_of b q) z (outcomes_of residual_of os)) ex (subst (λ z. AreOutcomes (leads_of b z) x (outcomes_of residual_of os)) eq (subst (λ z. AreOutcomes (leads_of z r) x (outcomes_of residual_of os)) eb are)) in (
-      λ t. each_allowed b q rows row (outcomes_of residual_of os) here (subst (λ z. Each (λ o. Allows rows row o.next o.price) (outcomes_of residual_of z)) eo (told.0 t)),
-      λ a. told.1 (subst (λ z. Each (λ o. Allows rows row o.next o.price) (outcomes_of residual_of z)) (sym eo) (allowed_each b q rows row (outcomes_of residual_of os) here a)),
+pub allowed_told : (state : ResidualKey → State) (b c : Book) (q r : Request) (rows : List CertRow) (row : CertRow) (x : State) (os ps : List (Outcome ResidualKey)) (result : Bool) → c ≡ b → r ≡ q → x ≡ row.residual → ps ≡ os
+    → AreOutcomes (leads_of c r) x (outcomes_of state os) → IsTrue result ↔ Each (λ o. Allows rows row o.next o.price) (outcomes_of state ps) → IsTrue result ↔ IsAllowed b q rows row
+allowed_told state b c q r rows row x os ps result eb eq ex eo are told =
+    let here = subst (λ z. AreOutcomes (leads_of b q) z (outcomes_of state os)) ex (subst (λ z. AreOutcomes (leads_of b z) x (outcomes_of state os)) eq (subst (λ z. AreOutcomes (leads_of z r) x (outcomes_of state os)) eb are)) in (
+      λ t. each_allowed b q rows row (outcomes_of state os) here (subst (λ z. Each (λ o. Allows rows row o.next o.price) (outcomes_of state z)) eo (told.0 t)),
+      λ a. told.1 (subst (λ z. Each (λ o. Allows rows row o.next o.price) (outcomes_of state z)) (sym eo) (allowed_each b q rows row (outcomes_of state os) here a)),
     )
 
 pub right_told : (b c : Book) (q r : Request) (rows before : List CertRow) (row : CertRow) (result : Bool) → c ≡ b → r ≡ q → IsTrue result ↔ IsAllowed c r rows row → IsTrue result ↔ BoundRight b q rows before row

@@ -9,7 +9,7 @@ use Rattle.certificate_check.proofs.RowTables.{found, not_found, one_row}
 use Rattle.fare_law.specs.Lists.{AllDifferent}
 use Rattle.graph_walk.specs.Steps.{AreLive, TellsStates, rows_of}
 use Rattle.residual_keys.specs.Residuals.{State}
-use Rattle.search_steps.specs.declared.key.Key.{Key}
+use Rattle.residual_table.specs.declared.key.ResidualKey.{ResidualKey}
 
 some_bound : (a b : ℕ) → Some a ≡ Some b → a ≡ b
 some_bound a b e = cc
@@ -17,8 +17,8 @@ some_bound a b e = cc
 none_bound : (b : ℕ) → None ≡ Some b → ⊥
 none_bound b e = cc
 
-module _ (live : Key → Type 0) (state : Key → State) (same : Key → Key → Bool) (tells : TellsStates live state same) (es : List (Key × Option ℕ)) (rows : List CertRow) (alive : AreLive live es)
-    (are : rows_of state es ≡ map row_as rows) (differ_all : AllDifferent (map (λ row. row.residual) rows)) (row : CertRow) (next : Option Key) (key : Key) where
+module _ (live : ResidualKey → Type 0) (state : ResidualKey → State) (same : ResidualKey → ResidualKey → Bool) (tells : TellsStates live state same) (es : List (ResidualKey × Option ℕ)) (rows : List CertRow) (alive : AreLive live es)
+    (are : rows_of state es ≡ map row_as rows) (differ_all : AllDifferent (map (λ row. row.residual) rows)) (row : CertRow) (next : Option ResidualKey) (key : ResidualKey) where
   pub allows_told : (further price : ℕ) (result : Bool) → next ≡ Some key → live key → lookup (same key) es ≡ Some (Some further) → IsTrue result ↔ BoundWithin row (price + further) → IsTrue result ↔ Allows rows row (option_map state next) price
   allows_told further price result n l f told =
       let r = found live state same tells es rows key (Some further) alive are l f in

@@ -1,5 +1,5 @@
 -- Lists that are read from the front, each element by itself.
-use Rattle.std.proofs.Common.{◌≡◌, ℕ, zero, suc, ◌+◌, ◌≤◌, ◌<◌, List, [], ◌∷◌, ◌++◌, ◌⊎◌, take, length, get_or, sym, subst, inl, inr, arith}
+use Rattle.std.proofs.Common.{◌≡◌, ℕ, zero, suc, ◌+◌, ◌≤◌, ◌<◌, List, [], ◌∷◌, ◌++◌, ◌⊎◌, take, length, get_or, refl, sym, subst, inl, inr, arith}
 use Rattle.certificate_check.proofs.FromFront.{take_next, take_whole}
 use Rattle.fare_law.specs.Lists.{Each, IsIn}
 use Rattle.graph_walk.specs.declared.outcome.Outcome.{Outcome}
@@ -11,6 +11,20 @@ each_push P (y ∷ ys) x h p = (h.0, each_push P ys x h.1 p)
 
 pub each_next : {X : Type 0} (P : X → Type 0) (xs : List X) (i : ℕ) (x : X) → i < length xs → x ≡ get_or xs i x → Each P (take i xs) → P x → Each P (take (i + 1) xs)
 each_next P xs i x lt is h p = subst (Each P) (sym (take_next xs i x lt is)) (each_push P (take i xs) x h p)
+
+got_again : {X : Type 0} (xs : List X) (i : ℕ) (d : X) → i < length xs → get_or xs i d ≡ get_or xs i (get_or xs i d)
+got_again [] i d lt = absurd (omega (arith, lt))
+got_again (x ∷ xs) zero d lt = refl
+got_again (x ∷ xs) (suc i) d lt = got_again xs i d (omega (arith, lt))
+
+-- the same of what stands there, whatever is said to stand past the end
+pub each_got : {X : Type 0} (P : X → Type 0) (xs : List X) (i : ℕ) (d : X) → i < length xs → Each P (take i xs) → P (get_or xs i d) → Each P (take (i + 1) xs)
+each_got P xs i d lt h p = each_next P xs i (get_or xs i d) lt (got_again xs i d lt) h p
+
+pub got_in : {X : Type 0} (P : X → Type 0) (xs : List X) (i : ℕ) (d : X) → i < length xs → Each P xs → P (get_or xs i d)
+got_in P [] i d lt h = absurd (omega (arith, lt))
+got_in P (x ∷ xs) zero d lt h = h.0
+got_in P (x ∷ xs) (suc i) d lt h = got_in P xs i d (omega (arith, lt)) h.1
 
 pub each_done : {X : Type 0} (P : X → Type 0) (xs : List X) (i : ℕ) → length xs ≤ i → Each P (take i xs) → Each P xs
 each_done P xs i le h = subst (Each P) (take_whole xs i le) h

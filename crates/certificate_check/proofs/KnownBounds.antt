@@ -15,7 +15,7 @@ use Rattle.graph_walk.specs.Steps.{AreLive, TellsStates, rows_of}
 use Rattle.residual_keys.specs.ResidualOrder.{IsStrictOrder, StateBefore}
 use Rattle.residual_keys.specs.Residuals.{State}
 use Rattle.residual_keys.proofs.LeastOne.{below_all, pairs_rest, weaken}
-use Rattle.search_steps.specs.declared.key.Key.{Key}
+use Rattle.residual_table.specs.declared.key.ResidualKey.{ResidualKey}
 use Rattle.search_steps.specs.LeastMoves.{BoundBy}
 
 -- what stands in a strict order differs
@@ -38,8 +38,8 @@ some_one : (a b : ℕ) → Some a ≡ Some b → a ≡ b
 some_one a b e = cc
 
 -- the key of a row
-key_there : (live : Key → Type 0) (state : Key → State) (es : List (Key × Option ℕ)) (rows : List CertRow) → AreLive live es → rows_of state es ≡ map row_as rows → (row : CertRow) → IsIn row rows
-    → (key : Key) × live key × (state key ≡ row.residual)
+key_there : (live : ResidualKey → Type 0) (state : ResidualKey → State) (es : List (ResidualKey × Option ℕ)) (rows : List CertRow) → AreLive live es → rows_of state es ≡ map row_as rows → (row : CertRow) → IsIn row rows
+    → (key : ResidualKey) × live key × (state key ≡ row.residual)
 key_there live state [] [] h r row i = absurd i
 key_there live state [] (z ∷ rows) h r row i = absurd (cc)
 key_there live state (e ∷ es) [] h r row i = absurd i
@@ -50,17 +50,17 @@ key_there live state (e ∷ es) (z ∷ rows) h r row (inr i) =
     let tail : rows_of state es ≡ map row_as rows = cc in
     key_there live state es rows h.1 tail row i
 
-module _ (live : Key → Type 0) (state : Key → State) (same : Key → Key → Bool) (tells : TellsStates live state same) (es : List (Key × Option ℕ)) (rows : List CertRow) (alive : AreLive live es)
+module _ (live : ResidualKey → Type 0) (state : ResidualKey → State) (same : ResidualKey → ResidualKey → Bool) (tells : TellsStates live state same) (es : List (ResidualKey × Option ℕ)) (rows : List CertRow) (alive : AreLive live es)
     (are : rows_of state es ≡ map row_as rows) (differ_all : AllDifferent (map (λ row. row.residual) rows)) where
-  abbrev bound : Key → Option ℕ
+  abbrev bound : ResidualKey → Option ℕ
   bound key = option_and_then (λ bound. bound) (lookup (same key) es)
 
-  told : (key : Key) (rest : ℕ) (o : Option (Option ℕ)) → lookup (same key) es ≡ o → live key → option_and_then (λ bound. bound) o ≡ Some rest → (row : CertRow) × IsIn row rows × (row.residual ≡ state key) × (row.bound ≡ Some rest)
+  told : (key : ResidualKey) (rest : ℕ) (o : Option (Option ℕ)) → lookup (same key) es ≡ o → live key → option_and_then (λ bound. bound) o ≡ Some rest → (row : CertRow) × IsIn row rows × (row.residual ≡ state key) × (row.bound ≡ Some rest)
   told key rest None f l e = absurd (no_some rest e)
   told key rest (Some None) f l e = absurd (no_some rest e)
   told key rest (Some (Some more)) f l e = let r = found live state same tells es rows key (Some more) alive are l f in (r.0, r.1, r.2, r.3 ∙ e)
 
-  at_key : (key : Key) (rest : ℕ) (o : Option (Option ℕ)) → lookup (same key) es ≡ o → live key → (row : CertRow) → IsIn row rows → row.residual ≡ state key → row.bound ≡ Some rest → option_and_then (λ bound. bound) o ≡ Some rest
+  at_key : (key : ResidualKey) (rest : ℕ) (o : Option (Option ℕ)) → lookup (same key) es ≡ o → live key → (row : CertRow) → IsIn row rows → row.residual ≡ state key → row.bound ≡ Some rest → option_and_then (λ bound. bound) o ≡ Some rest
   at_key key rest None f l row i s b = absurd (not_found live state same tells es rows key alive are l f row i s)
   at_key key rest (Some more) f l row i s b =
       let r = found live state same tells es rows key more alive are l f in

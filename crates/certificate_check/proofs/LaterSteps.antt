@@ -1,11 +1,15 @@
 -- What steps that were asked keep: book and request, and what the keys of a table stand for.
-use Rattle.std.proofs.Common.{◌≡◌, ◌∙◌, refl, subst, List, Option, ℕ}
+use Rattle.std.proofs.Common.{◌≡◌, ◌∙◌, ◌<◌, refl, sym, ap, subst, List, length, map, get_or, slice_get, Option, Some, ℕ}
 use Rattle.certificate.specs.declared.parts.CertRow.{CertRow}
 use Rattle.certificate_check.specs.Tables.{HasRows, IsLater}
+use Rattle.certificate_check.proofs.RowTables.{key_at}
 use Rattle.fare_law.specs.declared.requests.Request.{Request}
 use Rattle.fare_law.specs.Book.{Book}
-use Rattle.search_steps.specs.declared.key.Key.{Key}
+use Rattle.graph_walk.specs.Steps.{KeepsStates}
+use Rattle.graph_walk.proofs.RowFacts.{live_rows, same_rows}
+use Rattle.residual_table.specs.declared.key.ResidualKey.{ResidualKey}
 use Rattle.search_steps.specs.declared.steps.SearchSteps.{SearchSteps}
+use Rattle.search_steps.specs.Keys.{live, state}
 
 pub same_steps : {O : Type 0} (s : SearchSteps O) → IsLater s s
 same_steps s = record { case = record { book = refl; request = refl }; keeps = λ k h. (h, refl); same_offers = refl }
@@ -17,8 +21,19 @@ later_still s t u h k = record {
   same_offers = k.same_offers ∙ h.same_offers;
 }
 
-pub has_still : {S T : Type 0} (s : S) (t : T) (es : List (Key × Option ℕ)) (rows : List CertRow) → HasRows s es rows → HasRows t es rows
-has_still s t es rows h = record { live = h.live; same = h.same }
+-- the keys of a table stand for the rows still
+pub has_still : {O : Type 0} (s t : SearchSteps O) → KeepsStates (live s) (live t) (state s) (state t) → (es : List (ResidualKey × Option ℕ)) (rows : List CertRow) → HasRows s es rows → HasRows t es rows
+has_still s t keeps es rows h = record {
+  live = live_rows (live s) (live t) (state s) (state t) keeps es h.live;
+  same = same_rows (live s) (live t) (state s) (state t) keeps es h.live ∙ h.same;
+}
+
+-- and the key at a row's place for the row's residual
+pub keyed_still : {O : Type 0} (s t : SearchSteps O) → KeepsStates (live s) (live t) (state s) (state t) → (es : List (ResidualKey × Option ℕ)) (rows : List CertRow) → HasRows s es rows → (keys : List ResidualKey) (i : ℕ) (key : ResidualKey) (d : CertRow) → keys ≡ map (λ e. e.0) es
+    → i < length rows → slice_get keys i ≡ Some key → live t key × (state t key ≡ (get_or rows i d).residual)
+keyed_still s t keeps es rows h keys i key d all lt at =
+    let has = has_still s t keeps es rows h in
+    key_at (live t) (state t) es rows i key d has.live has.same lt (sym (ap (λ ks. slice_get ks i) all) ∙ at)
 
 -- what is said of one book and request, of the same
 pub same_said : (P : Book → Request → Type 0) (b c : Book) (q r : Request) → c ≡ b → r ≡ q → P c r → P b q

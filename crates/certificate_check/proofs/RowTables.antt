@@ -1,15 +1,15 @@
 -- The rows of a certificate by keys: what is found by a key is the row of the residual that it stands for.
-use Rattle.std.proofs.Common.{◌≡◌, ◌≢◌, ◌∙◌, ℕ, Bool, true, false, cond, List, [], ◌∷◌, ◌++◌, map, Option, Some, None, sym, refl, ap, ap₂, inl, inr}
+use Rattle.std.proofs.Common.{◌≡◌, ◌≢◌, ◌∙◌, ℕ, zero, suc, ◌<◌, Bool, true, false, cond, List, [], ◌∷◌, ◌++◌, length, map, get_or, slice_get, Option, Some, None, sym, refl, ap, ap₂, subst, inl, inr, arith}
 use Rattle.std.specs.Map.{lookup}
 use Rattle.certificate.specs.declared.parts.CertRow.{CertRow}
 use Rattle.certificate_check.specs.Tables.{row_as}
 use Rattle.fare_law.specs.Lists.{AllDifferent, Each, IsIn}
 use Rattle.graph_walk.specs.Steps.{AreLive, TellsStates, rows_of}
 use Rattle.residual_keys.specs.Residuals.{State}
-use Rattle.search_steps.specs.declared.key.Key.{Key}
+use Rattle.residual_table.specs.declared.key.ResidualKey.{ResidualKey}
 
 abbrev pub Entry : Type 0
-Entry = Key × Option ℕ
+Entry = ResidualKey × Option ℕ
 
 abbrev pub residuals : List CertRow → List State
 residuals rows = map (λ row. row.residual) rows
@@ -17,9 +17,9 @@ residuals rows = map (λ row. row.residual) rows
 row_again : (row : CertRow) (x : State) (bound : Option ℕ) → (x, bound) ≡ row_as row → (row.residual ≡ x) × (row.bound ≡ bound)
 row_again row x bound e = (ap (λ z. z.0) (sym e), ap (λ z. z.1) (sym e))
 
-module _ (live : Key → Type 0) (state : Key → State) (same : Key → Key → Bool) (tells : TellsStates live state same) where
+module _ (live : ResidualKey → Type 0) (state : ResidualKey → State) (same : ResidualKey → ResidualKey → Bool) (tells : TellsStates live state same) where
   -- the row that is found
-  pub found : (es : List Entry) (rows : List CertRow) (key : Key) (bound : Option ℕ) → AreLive live es → rows_of state es ≡ map row_as rows → live key → lookup (same key) es ≡ Some bound
+  pub found : (es : List Entry) (rows : List CertRow) (key : ResidualKey) (bound : Option ℕ) → AreLive live es → rows_of state es ≡ map row_as rows → live key → lookup (same key) es ≡ Some bound
       → (row : CertRow) × IsIn row rows × (row.residual ≡ state key) × (row.bound ≡ bound)
   found [] rows key bound h r l e = absurd (cc)
   found (d ∷ es) [] key bound h r l e = absurd (cc)
@@ -37,7 +37,7 @@ module _ (live : Key → Type 0) (state : Key → State) (same : Key → Key →
       by false s f more = let m = more f in (m.0, inr m.1, m.2, m.3)
 
   -- where none is found, there is none
-  pub not_found : (es : List Entry) (rows : List CertRow) (key : Key) → AreLive live es → rows_of state es ≡ map row_as rows → live key → lookup (same key) es ≡ None
+  pub not_found : (es : List Entry) (rows : List CertRow) (key : ResidualKey) → AreLive live es → rows_of state es ≡ map row_as rows → live key → lookup (same key) es ≡ None
       → (row : CertRow) → IsIn row rows → row.residual ≡ state key → ⊥
   not_found [] [] key h r l e row i s = i
   not_found [] (z ∷ rows) key h r l e row i s = cc
@@ -56,7 +56,7 @@ module _ (live : Key → Type 0) (state : Key → State) (same : Key → Key →
       by false t f (inr j) more = more f j
 
   -- a row's key is not among those of rows with other residuals
-  pub is_new : (es : List Entry) (rows : List CertRow) (key : Key) → AreLive live es → rows_of state es ≡ map row_as rows → live key → Each (λ row. row.residual ≢ state key) rows → lookup (same key) es ≡ None
+  pub is_new : (es : List Entry) (rows : List CertRow) (key : ResidualKey) → AreLive live es → rows_of state es ≡ map row_as rows → live key → Each (λ row. row.residual ≢ state key) rows → lookup (same key) es ≡ None
   is_new [] rows key h r l d = refl
   is_new (e ∷ es) [] key h r l d = absurd (cc)
   is_new (e ∷ es) (z ∷ rows) key h r l d = by (same key e.0) refl (is_new es rows key h.1 (let tail : rows_of state es ≡ map row_as rows = cc in tail) l d.1)
@@ -94,3 +94,21 @@ one_row (z ∷ rows) d r s (inl i) (inl j) e = i ∙ sym j
 one_row (z ∷ rows) d r s (inl i) (inr j) e = absurd (each_not z.residual rows s d.0 j (sym (ap (λ w. w.residual) i) ∙ e))
 one_row (z ∷ rows) d r s (inr i) (inl j) e = absurd (each_not z.residual rows r d.0 i (sym (ap (λ w. w.residual) j) ∙ sym e))
 one_row (z ∷ rows) d r s (inr i) (inr j) e = one_row rows d.1 r s i j e
+
+-- the keys are as many as the rows
+pub as_many : (state : ResidualKey → State) (es : List Entry) (rows : List CertRow) → rows_of state es ≡ map row_as rows → length (map (λ e. e.0) es) ≡ length rows
+as_many state [] [] r = refl
+as_many state [] (z ∷ rows) r = absurd (cc)
+as_many state (e ∷ es) [] r = absurd (cc)
+as_many state (e ∷ es) (z ∷ rows) r = ap suc (as_many state es rows (let tail : rows_of state es ≡ map row_as rows = cc in tail))
+
+-- the key at a row's place stands for the row's residual
+pub key_at : (live : ResidualKey → Type 0) (state : ResidualKey → State) (es : List Entry) (rows : List CertRow) (i : ℕ) (key : ResidualKey) (d : CertRow) → AreLive live es → rows_of state es ≡ map row_as rows → i < length rows
+    → slice_get (map (λ e. e.0) es) i ≡ Some key → live key × (state key ≡ (get_or rows i d).residual)
+key_at live state [] rows i key d h r lt k = absurd (cc)
+key_at live state (e ∷ es) [] i key d h r lt k = absurd (omega (arith, lt))
+key_at live state (e ∷ es) (z ∷ rows) zero key d h r lt k =
+    let same : e.0 ≡ key = cc in
+    let head : (state e.0, e.1) ≡ row_as z = cc in
+    (subst live same h.0, ap state (sym same) ∙ sym (row_again z (state e.0) e.1 head).0)
+key_at live state (e ∷ es) (z ∷ rows) (suc i) key d h r lt k = key_at live state es rows i key d h.1 (let tail : rows_of state es ≡ map row_as rows = cc in tail) (omega (arith, lt)) k

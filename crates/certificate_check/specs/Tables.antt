@@ -3,7 +3,7 @@ use Rattle.std.specs.Prelude.{◌≡◌, ℕ, List, map, Option}
 use Rattle.certificate.specs.declared.parts.CertRow.{CertRow}
 use Rattle.graph_walk.specs.Steps.{AreLive, KeepsStates, rows_of}
 use Rattle.residual_keys.specs.Residuals.{State}
-use Rattle.search_steps.specs.declared.key.Key.{Key}
+use Rattle.residual_table.specs.declared.key.ResidualKey.{ResidualKey}
 use Rattle.search_steps.specs.declared.steps.SearchSteps.{SearchSteps}
 use Rattle.search_steps.specs.Cases.{IsSameCase}
 use Rattle.search_steps.specs.Keys.{live, state}
@@ -12,7 +12,7 @@ abbrev pub row_as : CertRow → State × Option ℕ
 row_as row = (row.residual, row.bound)
 
 -- The keys of these entries stand for the residuals of the rows, in order, and have their bounds.
-pub record HasRows {S : Type 0} (steps : S) (entries : List (Key × Option ℕ)) (rows : List CertRow) : Type 0 where
+pub record HasRows {O : Type 0} (steps : SearchSteps O) (entries : List (ResidualKey × Option ℕ)) (rows : List CertRow) : Type 0 where
   pub live : AreLive (live steps) entries
   pub same : rows_of (state steps) entries ≡ map row_as rows
 

@@ -14,7 +14,8 @@ use certificate::CertRow;
 use fare_component::Plain;
 use fare_law::Mem;
 use graph_walk::Outcome;
-use search_steps::{Key, SearchSteps};
+use residual_table::ResidualKey;
+use search_steps::SearchSteps;
 use std::alloc::Global;
 
 /// The place where the bound check fails, if it does.
@@ -31,28 +32,31 @@ pub fn bounds_fail(
         (BoundsFail steps.old.case.book.now steps.old.case.request.now table.now.rows.now)) }
     ensures later { IsLater steps.old steps.new }
 {
+    let keys = table.bounds.keys();
     for i in 0..table.rows.len() {
-        if !is_right(alloc, steps, table, &table.rows[i])? {
+        if !is_right(alloc, steps, table, &table.rows[i], keys[i])? {
             return Ok(Some(i as u32 + 1));
         }
     }
     Ok(None)
 }
 
-/// Whether whatever a move of a row leaves allows its bound.
+/// Whether whatever a move of a row leaves allows its bound. The key stands for the row's residual.
 fn is_right(
     alloc: Global,
     steps: &mut SearchSteps<Plain>,
     table: &Table,
     row: &CertRow,
+    key: ResidualKey,
 ) -> Result<bool, Mem>
     requires request { IsRequest steps.old.case.request.now }
     requires differ { AllDifferent (map (λ row. row.residual) table.now.rows.now) }
     requires table { HasRows steps.old table.now.bounds.entries table.now.rows.now }
+    requires live { live steps.old key }
+    requires state { state steps.old key ≡ row.now.residual }
     ensures right { IfOk result (λ right. IsTrue right ↔ IsAllowed steps.old.case.book.now steps.old.case.request.now table.now.rows.now row.now) }
     ensures later { IsLater steps.old steps.new }
 {
-    let key = steps.key_of(row.residual)?;
     let outcomes = steps.outcomes(alloc, key)?;
     Ok(all_allow(steps, table, row, outcomes.as_slice()))
 }
@@ -62,7 +66,7 @@ fn all_allow(
     steps: &SearchSteps<Plain>,
     table: &Table,
     row: &CertRow,
-    outcomes: &[Outcome<Key>],
+    outcomes: &[Outcome<ResidualKey>],
 ) -> bool
     requires differ { AllDifferent (map (λ row. row.residual) table.now.rows.now) }
     requires table { HasRows steps.now table.now.bounds.entries table.now.rows.now }
@@ -78,7 +82,12 @@ fn all_allow(
 }
 
 /// Whether an outcome allows a row's bound.
-fn allows(steps: &SearchSteps<Plain>, table: &Table, row: &CertRow, outcome: &Outcome<Key>) -> bool
+fn allows(
+    steps: &SearchSteps<Plain>,
+    table: &Table,
+    row: &CertRow,
+    outcome: &Outcome<ResidualKey>,
+) -> bool
     requires differ { AllDifferent (map (λ row. row.residual) table.now.rows.now) }
     requires table { HasRows steps.now table.now.bounds.entries table.now.rows.now }
     requires live { IfSome outcome.now.next (live steps.now) }
@@ -103,8 +112,8 @@ fn total_of(price: u64, further: u64) -> u128
 }
 
 /// The bound of the row whose key this is, where there is one.
-fn bound_of(table: &Table, key: Key) -> Option<Option<u64>>
-    ensures { result ≡ get ⟦<Key as PartialEq>⟧.eq table.now.bounds key }
+fn bound_of(table: &Table, key: ResidualKey) -> Option<Option<u64>>
+    ensures { result ≡ get ⟦<ResidualKey as PartialEq>⟧.eq table.now.bounds key }
 {
     table.bounds.get(&key).copied()
 }

@@ -14,7 +14,8 @@ use certificate::CertAnswer;
 use fare_component::Plain;
 use fare_law::{ArrayVec, Mem, Move, Request};
 use residual_keys::{Residual, one_next};
-use search_steps::{Key, LeastMove, SearchSteps};
+use residual_table::ResidualKey;
+use search_steps::{LeastMove, SearchSteps};
 use std::alloc::Global;
 use std::cmp::Ordering;
 use ticket_order::{cmp_key, code, order_laws};
@@ -48,9 +49,9 @@ pub fn front_holds(
     order_laws();
     one_next();
     let key = steps.key_of(front.residual)?;
+    steps.keys_tell();
     let wanted = count_beginning(answers, front.moves) + 1;
     let least = steps.least_moves(alloc, key, &table.bounds, wanted)?;
-    steps.keys_tell();
     match first_departing(answers, front.moves, least.as_slice()) {
         Some(departing) => Ok(comes_after(steps.case().request, answers, front, departing)),
         None => Ok(true),
@@ -61,8 +62,8 @@ pub fn front_holds(
 fn first_departing<'m>(
     answers: &[CertAnswer],
     front: &[Move],
-    moves: &'m [LeastMove<Key>],
-) -> Option<&'m LeastMove<Key>>
+    moves: &'m [LeastMove<ResidualKey>],
+) -> Option<&'m LeastMove<ResidualKey>>
     ensures { MatchOption result (TakenByAny answers.now front.now moves.now) (λ m. UntakenFirst answers.now front.now moves.now m.now) }
 {
     for departing in moves {
@@ -78,7 +79,7 @@ fn comes_after(
     request: &Request,
     answers: &[CertAnswer],
     front: &Front,
-    departing: &LeastMove<Key>,
+    departing: &LeastMove<ResidualKey>,
 ) -> bool
     requires { length front.now.moves.now < 18 }
     ensures { IsTrue result ↔ ComesAfter request.now answers.now (front.now.moves.now ++ departing.now.mv ∷ []) (front.now.price + departing.now.total) }
@@ -93,7 +94,7 @@ fn comes_after(
 }
 
 /// Whether an answer comes before a departure.
-fn is_before(last: &CertAnswer, front: &Front, departing: &LeastMove<Key>) -> bool
+fn is_before(last: &CertAnswer, front: &Front, departing: &LeastMove<ResidualKey>) -> bool
     requires { length front.now.moves.now < 18 }
     ensures { IsTrue result ↔ Before last.now.price (run_code last.now.moves) (front.now.price + departing.now.total) (run_code (front.now.moves.now ++ departing.now.mv ∷ [])) }
 {

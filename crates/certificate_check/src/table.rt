@@ -7,14 +7,15 @@ use certificate::CertRow;
 use fare_component::Plain;
 use fare_law::Mem;
 use indexmap::IndexMap;
-use search_steps::{Key, SearchSteps};
+use residual_table::ResidualKey;
+use search_steps::SearchSteps;
 use std::alloc::Global;
 
 /// The rows of a certificate, with their bounds by the keys of their residuals.
 #[derive(Drop)]
 pub struct Table<'c> {
     pub rows: &'c [CertRow],
-    pub bounds: IndexMap<Key, Option<u64>>,
+    pub bounds: IndexMap<ResidualKey, Option<u64>>,
 }
 
 /// The table of rows whose residuals differ.
@@ -37,7 +38,7 @@ fn bounds_of(
     alloc: Global,
     steps: &mut SearchSteps<Plain>,
     rows: &[CertRow],
-) -> Result<IndexMap<Key, Option<u64>>, Mem>
+) -> Result<IndexMap<ResidualKey, Option<u64>>, Mem>
     requires { AllDifferent (map (λ row. row.residual) rows.now) }
     ensures bounds { IfOk result (λ bounds. HasRows steps.new bounds.entries rows.now) }
     ensures later { IsLater steps.old steps.new }

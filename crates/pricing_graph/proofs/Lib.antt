@@ -11,3 +11,4 @@ pub mod RunsRead
 pub mod RootNode
 pub mod Answered
 pub mod SettledNodes
+pub mod SameNodes

@@ -12,7 +12,7 @@ use Rattle.graph_walk.specs.Steps.{AreLive, KeepsStates, TellsStates, rows_of}
 use Rattle.graph_walk.specs.Walks.{states}
 use Rattle.graph_walk.specs.Walks.Reached.{here}
 use Rattle.residual_keys.specs.Residuals.{State, no_part}
-use Rattle.search_steps.specs.declared.key.Key.{Key}
+use Rattle.residual_table.specs.declared.key.ResidualKey.{ResidualKey}
 use Rattle.search_steps.specs.declared.steps.SearchSteps.{SearchSteps}
 use Rattle.search_steps.specs.Cases.{IsSameCase}
 use Rattle.search_steps.specs.Keys.{live, state}
@@ -35,7 +35,7 @@ root_found b q live state same tells es key is l h graph =
     (p.0, p.1, (state key, p.2, is))
 
 -- the node of a key of the root, after steps that keep what keys stand for
-pub root_there : {O : Type 0} (old new : SearchSteps O) (b : Book) (q : Request) (same : Key → Key → Bool) (es : List (Key × Option ℕ)) (key : Key) (root : State) → b ≡ old.case.book.now → q ≡ old.case.request.now → IsSameCase old new
+pub root_there : {O : Type 0} (old new : SearchSteps O) (b : Book) (q : Request) (same : ResidualKey → ResidualKey → Bool) (es : List (ResidualKey × Option ℕ)) (key : ResidualKey) (root : State) → b ≡ old.case.book.now → q ≡ old.case.request.now → IsSameCase old new
     → KeepsStates (live old) (live new) (state old) (state new) → IsRequest old.case.request.now → AreLive (live old) es → IsGraph old.case.book.now old.case.request.now (rows_of (state old) es)
     → ((at : Position) → before_slice b 0 (slice_get q.slices 0) None ≡ Some at → root ≡ record { at = at; units = []; part = no_part }) → live new key → state new key ≡ root → TellsStates (live new) (state new) same
     → (n : ℕ) × (position (same key) (keys_of es) ≡ Some n) × IsRootNode new.case.book.now new.case.request.now (rows_of (state new) es) n

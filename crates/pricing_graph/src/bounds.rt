@@ -3,12 +3,13 @@ ghost use Rattle.std.specs.Prelude.{option_and_then};
 ghost use Rattle.indexmap.specs.IndexMap.{get};
 
 use crate::Graph;
-use search_steps::{Bounds, Key};
+use residual_table::ResidualKey;
+use search_steps::Bounds;
 
 impl Bounds for Graph {
-    ghost bound = { λ graph key. option_and_then (λ bound. bound) (get ⟦<Key as PartialEq>⟧.eq graph.rows key) };
+    ghost bound = { λ graph key. option_and_then (λ bound. bound) (get ⟦<ResidualKey as PartialEq>⟧.eq graph.rows key) };
 
-    fn bound_of(&self, key: Key) -> Option<u64> {
+    fn bound_of(&self, key: ResidualKey) -> Option<u64> {
         self.rows.bound_of(key)
     }
 }

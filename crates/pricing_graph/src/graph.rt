@@ -17,13 +17,14 @@ use crate::settling::settle_nodes;
 use fare_component::OfferSource;
 use indexmap::IndexMap;
 use residual_keys::{Residual, one_size};
-use search_steps::{Key, SearchSteps};
+use residual_table::ResidualKey;
+use search_steps::SearchSteps;
 use std::alloc::Global;
 
 /// The residuals that a search reaches, in order, each with the least price of a run from it.
 #[derive(Drop)]
 pub struct Graph {
-    pub(crate) rows: IndexMap<Key, Option<u64>>,
+    pub(crate) rows: IndexMap<ResidualKey, Option<u64>>,
     ghost small: { length rows.entries < 2 ^ 32 },
 }
 
@@ -49,7 +50,7 @@ impl Graph {
     {
         one_size();
         let mut rows = reached_rows(alloc, budget, steps)?;
-        steps.put_in_order(&mut rows)?;
+        steps.put_in_order(alloc, &mut rows)?;
         let graph = Graph { rows };
         settle_nodes(alloc, &graph, steps)?;
         Ok(graph)
@@ -83,8 +84,8 @@ impl Graph {
     }
 
     /// The node of a key. None where it isn't one of the graph.
-    pub(crate) fn node(&self, key: Key) -> Option<u64>
-        ensures { result ≡ index_of ⟦<Key as PartialEq>⟧.eq self.now.rows key }
+    pub(crate) fn node(&self, key: ResidualKey) -> Option<u64>
+        ensures { result ≡ index_of ⟦<ResidualKey as PartialEq>⟧.eq self.now.rows key }
     {
         match self.rows.get_index_of(&key) {
             Some(node) => Some(node as u64),
@@ -93,7 +94,7 @@ impl Graph {
     }
 
     /// The key of a node.
-    pub(crate) fn key(&self, node: u32) -> Key
+    pub(crate) fn key(&self, node: u32) -> ResidualKey
         requires { node < length self.now.rows.entries }
         ensures { option_map (λ row. row.0) (slice_get self.now.rows.entries node) ≡ Some result }
     {

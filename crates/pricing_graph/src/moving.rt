@@ -8,14 +8,19 @@ ghost use Rattle.pricing_graph.specs.Givers.{step_as};
 use crate::Graph;
 use best_steps::Step;
 use fare_law::{List, Mem, Move};
-use search_steps::{Key, LeastMove};
+use residual_table::ResidualKey;
+use search_steps::LeastMove;
 use std::alloc::Global;
 use ticket_order::move_code;
 
 /// The steps of moves, which lead to nodes of the graph.
-pub fn steps_of(alloc: Global, graph: &Graph, least: &[LeastMove<Key>]) -> Result<List<Step>, Mem>
+pub fn steps_of(
+    alloc: Global,
+    graph: &Graph,
+    least: &[LeastMove<ResidualKey>],
+) -> Result<List<Step>, Mem>
     requires { Each (λ m. m.total < 2 ^ 64) least.now }
-    ensures { IfOk result (λ steps. steps ≡ map (step_as (index_of ⟦<Key as PartialEq>⟧.eq graph.now.rows)) least.now) }
+    ensures { IfOk result (λ steps. steps ≡ map (step_as (index_of ⟦<ResidualKey as PartialEq>⟧.eq graph.now.rows)) least.now) }
 {
     let mut steps = List::new(alloc);
     for mv in least {
@@ -26,9 +31,9 @@ pub fn steps_of(alloc: Global, graph: &Graph, least: &[LeastMove<Key>]) -> Resul
 }
 
 /// The step of a move: its code is the word.
-fn step_of(alloc: Global, graph: &Graph, least: &LeastMove<Key>) -> Result<Step, Mem>
+fn step_of(alloc: Global, graph: &Graph, least: &LeastMove<ResidualKey>) -> Result<Step, Mem>
     requires { least.now.total < 2 ^ 64 }
-    ensures { IfOk result (λ step. step ≡ step_as (index_of ⟦<Key as PartialEq>⟧.eq graph.now.rows) least.now) }
+    ensures { IfOk result (λ step. step ≡ step_as (index_of ⟦<ResidualKey as PartialEq>⟧.eq graph.now.rows) least.now) }
 {
     let next = match least.next {
         None => None,

@@ -4,7 +4,6 @@ ghost use Rattle.fare_component.specs.Keys.{Asked};
 ghost use Rattle.fare_law.specs.Limits.{IsRequest};
 ghost use Rattle.graph_walk.specs.Steps.{AreLive, rows_of};
 ghost use Rattle.pricing_graph.specs.Settled.{AreSettledFrom};
-ghost use Rattle.search_steps.specs.Cases.{IsSameCase};
 ghost use Rattle.search_steps.specs.Keys.{live, state};
 
 use crate::Graph;
@@ -23,7 +22,7 @@ pub fn settle_nodes<O: OfferSource>(
     requires live { AreLive (live steps.old) graph.now.rows.entries }
     ensures settled { OnOk result (AreSettledFrom steps.new.case.book.now steps.new.case.request.now (O.settled steps.new.offers.now) (rows_of (state steps.new) graph.now.rows.entries) 0) }
     ensures same_offers { steps.new.offers.ghost_name ≡ steps.old.offers.ghost_name }
-    ensures case { IsSameCase steps.old steps.new }
+    ensures same { steps.new.case ≡ steps.old.case }
     ensures base { O.base steps.new.offers.now ≡ O.base steps.old.offers.now }
     ensures stays { (a : Asked) → O.settled steps.old.offers.now a → O.settled steps.new.offers.now a }
 {
@@ -53,7 +52,7 @@ fn settle_node<O: OfferSource>(
     requires behind { AreSettledFrom steps.old.case.book.now steps.old.case.request.now (O.settled steps.old.offers.now) (rows_of (state steps.old) graph.now.rows.entries) (node + 1) }
     ensures settled { OnOk result (AreSettledFrom steps.new.case.book.now steps.new.case.request.now (O.settled steps.new.offers.now) (rows_of (state steps.new) graph.now.rows.entries) node) }
     ensures same_offers { steps.new.offers.ghost_name ≡ steps.old.offers.ghost_name }
-    ensures case { IsSameCase steps.old steps.new }
+    ensures same { steps.new.case ≡ steps.old.case }
     ensures base { O.base steps.new.offers.now ≡ O.base steps.old.offers.now }
     ensures stays { (a : Asked) → O.settled steps.old.offers.now a → O.settled steps.new.offers.now a }
 {

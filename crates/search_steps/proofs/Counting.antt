@@ -1,5 +1,6 @@
 -- The moves that count, and the first of them in order.
-use Rattle.std.proofs.Common.{◌≡◌, ◌≢◌, ◌∙◌, ℕ, zero, suc, ◌+◌, ◌≤◌, List, [], ◌∷◌, length, take, map, Option, Some, None, IfSome, option_map, refl, sym, ap, subst, inl, inr, arith}
+use Rattle.std.proofs.Common.{◌≡◌, ◌≢◌, ◌∙◌, ℕ, zero, suc, ◌+◌, ◌≤◌, List, [], ◌∷◌, length, take, map, Option, Some, None, option_map, refl, sym, ap, subst, inl, inr, arith}
+use Rattle.cheap_moves.specs.Within.{rest_of}
 use Rattle.fare_law.specs.declared.moves.Move.{Move}
 use Rattle.fare_law.specs.declared.requests.Request.{Request}
 use Rattle.fare_law.specs.Book.{Book}
@@ -11,11 +12,9 @@ use Rattle.residual_keys.specs.declared.residual.Next.TheVariants.{At, Done}
 use Rattle.residual_keys.specs.Residuals.{State}
 use Rattle.residual_keys.specs.Steps.{AreMoves, IsChosen}
 use Rattle.residual_keys.proofs.LeastOne.{below_all, in_each, pairs_rest, weaken}
-use Rattle.search_steps.specs.declared.key.Key.{Key}
 use Rattle.search_steps.specs.declared.least.LeastMove.{LeastMove}
-use Rattle.search_steps.specs.Keys.{IsKey, residual_of}
-use Rattle.search_steps.specs.Leads.{next_of}
-use Rattle.search_steps.specs.LeastMoves.{AreLeastMoves, BoundBy, Counts, IsSooner, LeaveLive, RestIs, counted_in, counted_of, key_of, least_as, rest_of, with_counted}
+use Rattle.search_steps.specs.Leads.{next_of, state_of}
+use Rattle.search_steps.specs.LeastMoves.{AreLeastMoves, Counts, HasBound, IsSooner, RestIs, counted_in, counted_of, with_counted}
 use Rattle.search_steps.proofs.Sooner.{code_of}
 
 -- ---- the front of a list in order
@@ -59,86 +58,49 @@ take_long (suc k) (x ∷ xs) h = ap suc (take_long k xs (omega arith))
 pub same_least : {X : Type 0} (Has Has' : X → Type 0) (Below : X → X → Type 0) (k : ℕ) (xs : List X) → ((x : X) → Has x → Has' x) → ((x : X) → Has' x → Has x) → KLeast Has Below k xs → KLeast Has' Below k xs
 same_least Has Has' Below k xs to from h = record { ascending = h.ascending; each = weaken Has Has' to xs h.each; few = h.few; rest = λ x has out. h.rest x (from x has) out }
 
--- ---- the k least of others
-
-module _ {X Y : Type 0} (f : X → Y) (Has : X → Type 0) (Has' : Y → Type 0) (Below : X → X → Type 0) (Below' : Y → Y → Type 0)
-    (to : (x : X) → Has x → Has' (f x)) (from : (y : Y) → Has' y → (x : X) × Has x × (f x ≡ y)) (keeps : (x z : X) → Below x z → Below' (f x) (f z)) where
-  map_pairs : (xs : List X) → EachPair Below xs → EachPair Below' (map f xs)
-  map_pairs [] h = tt
-  map_pairs (x ∷ []) h = tt
-  map_pairs (x ∷ z ∷ xs) h = (keeps x z h.0, map_pairs (z ∷ xs) h.1)
-
-  map_each : (xs : List X) → Each Has xs → Each Has' (map f xs)
-  map_each [] h = tt
-  map_each (x ∷ xs) h = (to x h.0, map_each xs h.1)
-
-  map_long : (xs : List X) → length (map f xs) ≡ length xs
-  map_long [] = refl
-  map_long (x ∷ xs) = ap suc (map_long xs)
-
-  map_in : (x : X) (xs : List X) → IsIn x xs → IsIn (f x) (map f xs)
-  map_in x [] i = absurd i
-  map_in x (z ∷ xs) (inl e) = inl (ap f e)
-  map_in x (z ∷ xs) (inr i) = inr (map_in x xs i)
-
-  map_below : (x : X) (xs : List X) → Each (λ z. Below z x) xs → Each (λ z. Below' z (f x)) (map f xs)
-  map_below x [] h = tt
-  map_below x (z ∷ xs) h = (keeps z x h.0, map_below x xs h.1)
-
-  pub map_least : (k : ℕ) (xs : List X) → KLeast Has Below k xs → KLeast Has' Below' k (map f xs)
-  map_least k xs h = record {
-    ascending = map_pairs xs h.ascending;
-    each = map_each xs h.each;
-    few = let l = map_long xs in let n = h.few in omega (arith, l, n);
-    rest = λ y has out.
-        let p = from y has in
-        let r = h.rest p.0 p.1 (λ i. out (subst (λ z. IsIn z (map f xs)) p.2 (map_in p.0 xs i))) in
-        (subst (λ z. Each (λ w. Below' w z) (map f xs)) p.2 (map_below p.0 xs r.0), map_long xs ∙ r.1);
-  }
-
 -- ---- the moves that count
 
-in_one : (m : LeastMove Key) (found : Option (LeastMove Key)) (ms : List (LeastMove Key)) → found ≡ Some m → IsIn m (with_counted found ms)
+in_one : (m : LeastMove State) (found : Option (LeastMove State)) (ms : List (LeastMove State)) → found ≡ Some m → IsIn m (with_counted found ms)
 in_one m None ms e = absurd (cc)
 in_one m (Some n) ms e = let same : m ≡ n = cc in inl same
 
-in_more : (m : LeastMove Key) (found : Option (LeastMove Key)) (ms : List (LeastMove Key)) → IsIn m ms → IsIn m (with_counted found ms)
+in_more : (m : LeastMove State) (found : Option (LeastMove State)) (ms : List (LeastMove State)) → IsIn m ms → IsIn m (with_counted found ms)
 in_more m None ms i = i
 in_more m (Some n) ms i = inr i
 
-module _ (bound : Key → Option ℕ) where
-  pub counted_has : (c : Chosen) (cs : List Chosen) (m : LeastMove Key) → IsIn c cs → counted_of bound c ≡ Some m → IsIn m (counted_in bound cs)
+module _ (bound : State → Option ℕ) where
+  pub counted_has : (c : Chosen) (cs : List Chosen) (m : LeastMove State) → IsIn c cs → counted_of bound c ≡ Some m → IsIn m (counted_in bound cs)
   counted_has c [] m i e = absurd i
   counted_has c (d ∷ cs) m (inl s) e = in_one m (counted_of bound d) (counted_in bound cs) (ap (counted_of bound) (sym s) ∙ e)
   counted_has c (d ∷ cs) m (inr i) e = in_more m (counted_of bound d) (counted_in bound cs) (counted_has c cs m i e)
 
   -- where a counted move comes from
-  pub record CountedFrom (cs : List Chosen) (m : LeastMove Key) : Type 0 where
+  pub record CountedFrom (cs : List Chosen) (m : LeastMove State) : Type 0 where
     pub chosen : Chosen
     pub there : IsIn chosen cs
     pub is : counted_of bound chosen ≡ Some m
 
-  pub has_counted : (cs : List Chosen) (m : LeastMove Key) → IsIn m (counted_in bound cs) → CountedFrom cs m
+  pub has_counted : (cs : List Chosen) (m : LeastMove State) → IsIn m (counted_in bound cs) → CountedFrom cs m
   has_counted [] m i = absurd i
   has_counted (c ∷ cs) m i = by (λ j. has_counted cs m j) (counted_of bound c) refl i
     where
       further : CountedFrom cs m → CountedFrom (c ∷ cs) m
       further f = record { chosen = f.chosen; there = inr f.there; is = f.is }
 
-      by : (IsIn m (counted_in bound cs) → CountedFrom cs m) → (o : Option (LeastMove Key)) → counted_of bound c ≡ o → IsIn m (with_counted o (counted_in bound cs)) → CountedFrom (c ∷ cs) m
+      by : (IsIn m (counted_in bound cs) → CountedFrom cs m) → (o : Option (LeastMove State)) → counted_of bound c ≡ o → IsIn m (with_counted o (counted_in bound cs)) → CountedFrom (c ∷ cs) m
       by rest None e i = further (rest i)
       by rest (Some n) e (inl s) = record { chosen = c; there = inl refl; is = e ∙ ap Some (sym s) }
       by rest (Some n) e (inr i) = further (rest i)
 
   -- the codes of what counts differ where those of the moves ascend
-  others_differ : (w : List ℕ) (ms : List (LeastMove Key)) → ((m : LeastMove Key) → IsIn m ms → w ≢ code_of m) → Each (λ v. w ≢ v) (map code_of ms)
+  others_differ : (w : List ℕ) (ms : List (LeastMove State)) → ((m : LeastMove State) → IsIn m ms → w ≢ code_of m) → Each (λ v. w ≢ v) (map code_of ms)
   others_differ w [] h = tt
   others_differ w (m ∷ ms) h = (h m (inl refl), others_differ w ms (λ n i. h n (inr i)))
 
-  same_code : (c : Chosen) (m : LeastMove Key) → counted_of bound c ≡ Some m → code_of m ≡ move_code c.mv
-  same_code c m e = by (rest_of bound (key_of c.next)) e
+  same_code : (c : Chosen) (m : LeastMove State) → counted_of bound c ≡ Some m → code_of m ≡ move_code c.mv
+  same_code c m e = by (rest_of bound c.next) e
     where
-      by : (o : Option ℕ) → option_map (λ rest. record { mv = c.mv; price = c.price; next = key_of c.next; total = c.price + rest }) o ≡ Some m → code_of m ≡ move_code c.mv
+      by : (o : Option ℕ) → option_map (λ rest. record { mv = c.mv; price = c.price; next = state_of c.next; total = c.price + rest }) o ≡ Some m → code_of m ≡ move_code c.mv
       by None e = absurd (cc)
       by (Some rest) e = let same : c.mv ≡ m.mv = cc in ap move_code (sym same)
 
@@ -146,13 +108,13 @@ module _ (bound : Key → Option ℕ) where
   codes_differ never trans [] h = tt
   codes_differ never trans (c ∷ cs) h = by (counted_of bound c) refl (codes_differ never trans cs (pairs_rest (λ x y. Less (move_code x.mv) (move_code y.mv)) c cs h))
     where
-      later : (m : LeastMove Key) → IsIn m (counted_in bound cs) → Less (move_code c.mv) (code_of m)
+      later : (m : LeastMove State) → IsIn m (counted_in bound cs) → Less (move_code c.mv) (code_of m)
       later m i =
           let f = has_counted cs m i in
           let all = below_all (λ x y. Less (move_code x.mv) (move_code y.mv)) (λ x y z. trans (move_code x.mv) (move_code y.mv) (move_code z.mv)) c cs h in
           subst (λ w. Less (move_code c.mv) w) (sym (same_code f.chosen m f.is)) (in_each (λ d. Less (move_code c.mv) (move_code d.mv)) f.chosen cs all f.there)
 
-      by : (o : Option (LeastMove Key)) → counted_of bound c ≡ o → AllDifferent (map code_of (counted_in bound cs)) → AllDifferent (map code_of (with_counted o (counted_in bound cs)))
+      by : (o : Option (LeastMove State)) → counted_of bound c ≡ o → AllDifferent (map code_of (counted_in bound cs)) → AllDifferent (map code_of (with_counted o (counted_in bound cs)))
       by None e d = d
       by (Some n) e d = (
         others_differ (code_of n) (counted_in bound cs) (λ m i s. never (code_of m) (subst (λ w. Less w (code_of m)) (sym (same_code c n e) ∙ s) (later m i))),
@@ -161,54 +123,42 @@ module _ (bound : Key → Option ℕ) where
 
 -- ---- what counts
 
-module _ (b : Book) (q : Request) (x : State) (bound : Key → Option ℕ) where
-  abbrev Bound : State → ℕ → Type 0
-  Bound = BoundBy IsKey residual_of bound
-
-  pub count_one : (c : Chosen) (m : LeastMove Key) → IsChosen b q x c → IfSome m.next IsKey → counted_of bound c ≡ Some m → Counts b q Bound x (least_as residual_of m)
-  count_one c m h k e = by c.next refl
+module _ (b : Book) (q : Request) (x : State) (bound : State → Option ℕ) where
+  pub count_one : (c : Chosen) (m : LeastMove State) → IsChosen b q x c → counted_of bound c ≡ Some m → Counts b q (HasBound bound) x m
+  count_one c m h e = by c.next refl
     where
       made : (next : Next) → c.next ≡ next → IsChosen b q x (record { mv = c.mv; price = c.price; next = next })
       made next s = subst (λ n. IsChosen b q x (record { mv = c.mv; price = c.price; next = n })) s h
 
-      is : (n : LeastMove Key) → n ≡ m → Counts b q Bound x (least_as residual_of n) → Counts b q Bound x (least_as residual_of m)
-      is n s z = subst (λ y. Counts b q Bound x (least_as residual_of y)) s z
+      is : (n : LeastMove State) → Some n ≡ Some m → Counts b q (HasBound bound) x n → Counts b q (HasBound bound) x m
+      is n s z = let same : n ≡ m = cc in subst (λ y. Counts b q (HasBound bound) x y) same z
 
-      some_same : (n : LeastMove Key) → Some n ≡ Some m → n ≡ m
-      some_same n s = cc
-
-      at : (y : State) → c.next ≡ At y → (o : Option ℕ) → bound (record { residual = y }) ≡ o → option_map (λ rest. record { mv = c.mv; price = c.price; next = Some (record { residual = y }); total = c.price + rest }) o ≡ Some m → Counts b q Bound x (least_as residual_of m)
+      at : (y : State) → c.next ≡ At y → (o : Option ℕ) → bound y ≡ o → option_map (λ rest. record { mv = c.mv; price = c.price; next = Some y; total = c.price + rest }) o ≡ Some m → Counts b q (HasBound bound) x m
       at y s None f g = absurd (cc)
-      at y s (Some rest) f g =
-          let n : LeastMove Key = record { mv = c.mv; price = c.price; next = Some (record { residual = y }); total = c.price + rest } in
-          let same = some_same n g in
-          let live : IsKey (record { residual = y }) = subst (λ z. IfSome z.next IsKey) (sym same) k in
-          is n same (record { move = made (At y) s; rest = rest; bound = (record { residual = y }, live, refl, f); total = refl })
+      at y s (Some rest) f g = is (record { mv = c.mv; price = c.price; next = Some y; total = c.price + rest }) g (record { move = made (At y) s; rest = rest; bound = f; total = refl })
 
-      by : (next : Next) → c.next ≡ next → Counts b q Bound x (least_as residual_of m)
-      by Done s =
-          let n : LeastMove Key = record { mv = c.mv; price = c.price; next = None; total = c.price + 0 } in
-          is n (some_same n (sym (ap (λ z. option_map (λ rest. record { mv = c.mv; price = c.price; next = key_of z; total = c.price + rest }) (rest_of bound (key_of z))) s) ∙ e)) (record { move = made Done s; rest = 0; bound = refl; total = refl })
-      by (At y) s = at y s (bound (record { residual = y })) refl (sym (ap (λ z. option_map (λ rest. record { mv = c.mv; price = c.price; next = key_of z; total = c.price + rest }) (rest_of bound (key_of z))) s) ∙ e)
+      said : (next : Next) → c.next ≡ next → option_map (λ rest. record { mv = c.mv; price = c.price; next = state_of next; total = c.price + rest }) (rest_of bound next) ≡ Some m
+      said next s = sym (ap (λ z. option_map (λ rest. record { mv = c.mv; price = c.price; next = state_of z; total = c.price + rest }) (rest_of bound z)) s) ∙ e
 
-module _ (b : Book) (q : Request) (x : State) (bound : Key → Option ℕ) (found : List Chosen) (are : AreMoves b q x found) where
-  made_from : (mv : Move) (price total : ℕ) (next : Option State) → IsChosen b q x (record { mv = mv; price = price; next = next_of next }) → (rest : ℕ) → RestIs (BoundBy IsKey residual_of bound) next rest → total ≡ price + rest
-      → (m : LeastMove Key) × IsIn m (counted_in bound found) × (least_as residual_of m ≡ record { mv = mv; price = price; next = next; total = total })
+      by : (next : Next) → c.next ≡ next → Counts b q (HasBound bound) x m
+      by Done s = is (record { mv = c.mv; price = c.price; next = None; total = c.price + 0 }) (said Done s) (record { move = made Done s; rest = 0; bound = refl; total = refl })
+      by (At y) s = at y s (bound y) refl (said (At y) s)
+
+module _ (b : Book) (q : Request) (x : State) (bound : State → Option ℕ) (found : List Chosen) (are : AreMoves b q x found) where
+  made_from : (mv : Move) (price total : ℕ) (next : Option State) → IsChosen b q x (record { mv = mv; price = price; next = next_of next }) → (rest : ℕ) → RestIs (HasBound bound) next rest → total ≡ price + rest
+      → (m : LeastMove State) × IsIn m (counted_in bound found) × (m ≡ record { mv = mv; price = price; next = next; total = total })
   made_from mv price total None h rest z t =
       let c : Chosen = record { mv = mv; price = price; next = Done } in
       let p : price + 0 ≡ total = omega (arith, z, t) in
       (record { mv = mv; price = price; next = None; total = price + 0 }, counted_has bound c found _ ((are.are c).1 h) refl, λ i. record { mv = mv; price = price; next = None; total = p i })
-  made_from mv price total (Some y) h rest (key, live, s, f) t =
+  made_from mv price total (Some y) h rest f t =
       let c : Chosen = record { mv = mv; price = price; next = At y } in
-      let e : bound (record { residual = y }) ≡ Some rest = ap (λ r. bound (record { residual = r })) (sym s) ∙ f in
-      let m : LeastMove Key = record { mv = mv; price = price; next = Some (record { residual = y }); total = price + rest } in
-      (m, counted_has bound c found m ((are.are c).1 h) (ap (option_map (λ r. record { mv = mv; price = price; next = Some (record { residual = y }); total = price + r })) e), λ i. record { mv = mv; price = price; next = Some y; total = sym t i })
+      let m : LeastMove State = record { mv = mv; price = price; next = Some y; total = price + rest } in
+      (m, counted_has bound c found m ((are.are c).1 h) (ap (option_map (λ r. record { mv = mv; price = price; next = Some y; total = price + r })) f), λ i. record { mv = mv; price = price; next = Some y; total = sym t i })
 
-  count_from : (m : LeastMove State) → Counts b q (BoundBy IsKey residual_of bound) x m → (n : LeastMove Key) × IsIn n (counted_in bound found) × (least_as residual_of n ≡ m)
-  count_from m h = made_from m.mv m.price m.total m.next h.move h.rest h.bound h.total
+  count_in : (m : LeastMove State) → Counts b q (HasBound bound) x m → IsIn m (counted_in bound found)
+  count_in m h = let r = made_from m.mv m.price m.total m.next h.move h.rest h.bound h.total in subst (λ n. IsIn n (counted_in bound found)) r.2 r.1
 
-  pub are_least : (wanted : ℕ) (ms : List (LeastMove Key)) → LeaveLive IsKey (counted_in bound found) → KLeast (λ m. IsIn m (counted_in bound found)) IsSooner wanted ms → AreLeastMoves b q (BoundBy IsKey residual_of bound) x wanted (map (least_as residual_of) ms)
-  are_least wanted ms live h =
-      map_least (least_as residual_of) (λ m. IsIn m (counted_in bound found)) (Counts b q (BoundBy IsKey residual_of bound) x) IsSooner IsSooner
-      (λ m i. let f = has_counted bound found m i in count_one b q x bound f.chosen m ((are.are f.chosen).0 f.there) (in_each (λ n. IfSome n.next IsKey) m (counted_in bound found) live i) f.is)
-      count_from (λ m n k. k) wanted ms h
+  pub are_least : (wanted : ℕ) (ms : List (LeastMove State)) → KLeast (λ m. IsIn m (counted_in bound found)) IsSooner wanted ms → AreLeastMoves b q (HasBound bound) x wanted ms
+  are_least wanted ms h =
+      same_least (λ m. IsIn m (counted_in bound found)) (Counts b q (HasBound bound) x) IsSooner wanted ms (λ m i. let f = has_counted bound found m i in count_one b q x bound f.chosen m ((are.are f.chosen).0 f.there) f.is) count_in h

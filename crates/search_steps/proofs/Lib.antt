@@ -16,3 +16,5 @@ pub mod RowsByNumber
 pub mod OfferedFacts
 pub mod ServedPaths
 pub mod TakenKeys
+pub mod SortedKeys
+pub mod KeyedBounds

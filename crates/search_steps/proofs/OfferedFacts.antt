@@ -1,12 +1,11 @@
 -- Where no group of a market has an offered fare, no key of the flights and the market's sheet has an offer.
-use Rattle.std.proofs.Common.{◌≡◌, ◌≢◌, ◌⊎◌, ℕ, suc, ◌+◌, ◌<◌, ◌≤◌, Bool, true, false, List, [], ◌∷◌, ◌++◌, length, take, get_or, All, IsBitSet, slice_get, Option, Some, None, is_none, is_some, IfNone, MatchOption, MatchBool, sym, ap, ap₂, subst, ◌∙◌, inl, inr, refl, arith}
+use Rattle.std.proofs.Common.{◌≡◌, ◌≢◌, ◌⊎◌, ℕ, suc, ◌+◌, ◌<◌, ◌≤◌, Bool, true, false, List, [], ◌∷◌, ◌++◌, length, take, get_or, All, IsBitSet, slice_get, Option, Some, None, is_some, IfNone, MatchOption, MatchBool, sym, ap, ap₂, subst, ◌∙◌, inl, inr, refl, arith}
 use Rattle.std.proofs.lemmas.List.Elements.{All-head}
 use Rattle.std.proofs.Math.Seq.{take-suc}
 use Rattle.cheap_moves.specs.Making.{HasRows, IsRowIn}
 use Rattle.component_table.specs.declared.markets.Market.{Market}
 use Rattle.component_table.specs.Markets.{IsMarket}
 use Rattle.fare_book.specs.Keeping.{Limited}
-use Rattle.fare_component.specs.Keys.{asked}
 use Rattle.fare_groups.specs.declared.group.FareGroup.{FareGroup}
 use Rattle.fare_groups.specs.declared.group.GroupedFare.{GroupedFare}
 use Rattle.fare_groups.specs.Grouping.{Cheapest, IsGroup, fare_at}
@@ -15,7 +14,6 @@ use Rattle.fare_groups.proofs.ByGroup.{offered_by_group, one_rule_all}
 use Rattle.fare_groups.proofs.Grouped.{each_in, in_each, in_either}
 use Rattle.fare_groups.proofs.OneGroup.{classes_are_low, each_stands_once, fares_are_rows}
 use Rattle.fare_law.specs.declared.flights.Flight.{Flight}
-use Rattle.fare_law.specs.declared.market.OfferKey.{OfferKey}
 use Rattle.fare_law.specs.declared.names.Carrier.{Carrier}
 use Rattle.fare_law.specs.declared.requests.Request.{Request}
 use Rattle.fare_law.specs.declared.rules.TransferRule.{TransferRule}
@@ -27,13 +25,12 @@ use Rattle.fare_law.specs.Offers.{IsOffered, flights_of}
 use Rattle.fare_law.specs.Parts.{TransfersHold, transfers}
 use Rattle.fare_law.specs.RuleLimits.{IsRule}
 use Rattle.fare_law.specs.Sheets.{IsLiveRow, Sheet}
-use Rattle.residual_keys.specs.AskedKeys.{IsKey, IsLeg}
-use Rattle.residual_keys.specs.Gathered.{AreLegs}
+use Rattle.residual_keys.specs.AskedKeys.{IsLeg}
 use Rattle.residual_keys.proofs.Markets.{legs_one}
 use Rattle.residual_keys.proofs.OneNext.{some_one}
 use Rattle.residual_keys.proofs.Sheeted.{got_in, sheet_one}
 use Rattle.search_steps.specs.declared.offered.Flown.{Flown}
-use Rattle.search_steps.specs.Settling.{IsFlown, NoneOffered, NoneOver, OffersNone}
+use Rattle.search_steps.specs.Settling.{IsFlown, NoneOver, OffersNone}
 
 -- legs that match flights are over them
 legs_over : (b : Book) (party : ℕ) (fs : List Flight) (legs : List Leg) → Matched (IsLeg b party) fs legs → flights_of legs ≡ fs

@@ -1,5 +1,5 @@
--- Rows that are sorted by their keys stand in the order of their residuals. Given on to the crates above.
-use Rattle.std.proofs.Common.{◌≡◌, ◌↔◌, ◌⊎◌, ℕ, suc, sym, ◌+◌, Bool, true, false, List, [], ◌∷◌, map, get_or, IsTrue, Option, refl, ap, subst, arith, inl, inr}
+-- Rows that are sorted by what their keys compare by stand in the order of their residuals. Given on to the crates above.
+use Rattle.std.proofs.Common.{◌≡◌, ◌↔◌, ◌⊎◌, ℕ, suc, sym, ◌+◌, Bool, true, false, List, [], ◌∷◌, map, get_or, Option, refl, ap, subst, arith, inl, inr}
 use Rattle.std.specs.declared.cmp.Ordering.{Ordering}
 use Rattle.std.specs.declared.cmp.Ordering.TheVariants.{Less as Lower}
 use Rattle.std.specs.List.{IsDistinct}
@@ -7,26 +7,16 @@ use Rattle.std.specs.List.Sorted.{IsPermutation}
 use Rattle.std.specs.Ordering.{is_lt}
 use Rattle.std.proofs.lemmas.Map.Keys.{IsDistinct-head, IsDistinct-tail}
 use Rattle.fare_law.specs.Lists.{Each, EachPair, IsIn}
-use Rattle.graph_walk.specs.Steps.{AreLive, rows_of}
+use Rattle.graph_walk.specs.Steps.{AreLive, TellsStates, rows_of}
 use Rattle.graph_walk.specs.Walks.{states}
-use Rattle.residual_keys.specs.ResidualOrder.{StateBefore}
-use Rattle.residual_keys.specs.Residuals.{State}
 use Rattle.residual_keys.proofs.LeastOne.{in_each}
 use Rattle.residual_keys.proofs.Needed.{each_from}
 use Rattle.residual_keys.proofs.SortedWords.{NoneLower, same_elements}
-use Rattle.search_steps.specs.declared.key.Key.{Key}
-use Rattle.search_steps.specs.Keys.{IsKey, residual_of}
 
-abbrev Row : Type 0
-Row = Key × Option ℕ
-
-abbrev KeysOf : List Row → List Key
-KeysOf rows = map (λ r. r.0) rows
-
-module _ (compare : Key → Key → Ordering) (same : Key → Key → Bool) (ordered : (k l : Key) → IsKey k → IsKey l → (compare k l ≡ Lower) ↔ StateBefore (residual_of k) (residual_of l))
-    (tells : (k l : Key) → IsKey k → IsKey l → IsTrue (same k l) ↔ (residual_of k ≡ residual_of l)) (total : (x y : State) → StateBefore x y ⊎ ((x ≡ y) ⊎ StateBefore y x)) where
-  next_before : (k l : Key) → IsKey k → IsKey l → is_lt (compare l k) ≡ false → same k l ≡ false → StateBefore (residual_of k) (residual_of l)
-  next_before k l h i s d = elim (total (residual_of k) (residual_of l)) [
+module _ {K X : Type 0} (live : K → Type 0) (state : K → X) (Below : X → X → Type 0) (compare : K → K → Ordering) (same : K → K → Bool) (ordered : (k l : K) → live k → live l → (compare k l ≡ Lower) ↔ Below (state k) (state l))
+    (tells : TellsStates live state same) (total : (x y : X) → Below x y ⊎ ((x ≡ y) ⊎ Below y x)) where
+  next_before : (k l : K) → live k → live l → is_lt (compare l k) ≡ false → same k l ≡ false → Below (state k) (state l)
+  next_before k l h i s d = elim (total (state k) (state l)) [
     | inl b ↦ b
     | inr o ↦ elim o [
       | inl e ↦ let t : same k l ≡ true = (tells k l h i).1 e in absurd (cc)
@@ -34,19 +24,19 @@ module _ (compare : Key → Key → Ordering) (same : Key → Key → Bool) (ord
     ]
   ]
 
-  pub rows_ordered : (rows : List Row) → NoneLower compare (KeysOf rows) → IsDistinct same (KeysOf rows) → AreLive IsKey rows → EachPair (λ r s. StateBefore (residual_of r.0) (residual_of s.0)) rows
+  pub rows_ordered : (rows : List (K × Option ℕ)) → NoneLower (λ r s. compare r.0 s.0) rows → IsDistinct same (map (λ r. r.0) rows) → AreLive live rows → EachPair (λ r s. Below (state r.0) (state s.0)) rows
   rows_ordered [] s d h = tt
   rows_ordered (r ∷ []) s d h = tt
   rows_ordered (r ∷ t ∷ rows) s d h = (
-    next_before r.0 t.0 h.0 h.1.0 (s 0 r.0 (omega arith) (omega arith)) (IsDistinct-head same r.0 (KeysOf (t ∷ rows)) d).0,
-    rows_ordered (t ∷ rows) (λ k z low lt. rest k z (s (suc k) z (omega arith) (omega arith))) (IsDistinct-tail same r.0 (KeysOf (t ∷ rows)) d) h.1,
+    next_before r.0 t.0 h.0 h.1.0 (s 0 r (omega arith) (omega arith)) (IsDistinct-head same r.0 (map (λ z. z.0) (t ∷ rows)) d).0,
+    rows_ordered (t ∷ rows) (λ k z low lt. rest k z (s (suc k) z (omega arith) (omega arith))) (IsDistinct-tail same r.0 (map (λ z. z.0) (t ∷ rows)) d) h.1,
   )
     where
       next : (k : ℕ) → suc k + 1 ≡ suc (k + 1)
       next k = omega arith
 
-      rest : (k : ℕ) (z : Key) → is_lt (compare (get_or (KeysOf (r ∷ t ∷ rows)) (suc k + 1) z) (get_or (KeysOf (t ∷ rows)) k z)) ≡ false → is_lt (compare (get_or (KeysOf (t ∷ rows)) (k + 1) z) (get_or (KeysOf (t ∷ rows)) k z)) ≡ false
-      rest k z q = subst (λ n. is_lt (compare (get_or (KeysOf (r ∷ t ∷ rows)) n z) (get_or (KeysOf (t ∷ rows)) k z)) ≡ false) (next k) q
+      rest : (k : ℕ) (z : K × Option ℕ) → is_lt (compare (get_or (r ∷ t ∷ rows) (suc k + 1) z).0 (get_or (t ∷ rows) k z).0) ≡ false → is_lt (compare (get_or (t ∷ rows) (k + 1) z).0 (get_or (t ∷ rows) k z).0) ≡ false
+      rest k z q = subst (λ n. is_lt (compare (get_or (r ∷ t ∷ rows) n z).0 (get_or (t ∷ rows) k z).0) ≡ false) (next k) q
 
 -- what holds of each element holds of each in another order
 pub still_each : {X : Type 0} (P : X → Type 0) (old new : List X) → IsPermutation old new → Each P old → Each P new

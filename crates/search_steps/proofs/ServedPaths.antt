@@ -1,8 +1,7 @@
 -- The paths that end where fares are filed: no other has a key.
-use Rattle.std.proofs.Common.{◌≡◌, ◌≢◌, ◌⊎◌, ℕ, Bool, true, false, List, [], ◌∷◌, length, Option, Some, refl, sym, subst, inl, inr, arith}
+use Rattle.std.proofs.Common.{◌≡◌, ◌≢◌, ◌⊎◌, ℕ, Bool, true, false, List, [], ◌∷◌, Option, Some, refl, sym, subst, inl, inr}
 use Rattle.component_table.specs.Tails.{HasNoFares}
 use Rattle.fare_book.specs.Keeping.{NoFare}
-use Rattle.fare_component.specs.Keys.{Asked, asked}
 use Rattle.fare_law.specs.declared.flights.Flight.{Flight}
 use Rattle.fare_law.specs.declared.market.OfferKey.{OfferKey}
 use Rattle.fare_law.specs.declared.names.Place.{Place}

@@ -1,19 +1,13 @@
 -- The keys of steps and what they stand for.
-use Rattle.residual_keys.specs.Kept.{IsResidual}
 use Rattle.residual_keys.specs.Residuals.{State}
-use Rattle.search_steps.specs.declared.key.Key.{Key}
+use Rattle.residual_table.specs.declared.key.ResidualKey.{ResidualKey}
+use Rattle.residual_table.specs.Keys.{IsLive, residual_at}
+use Rattle.search_steps.specs.declared.steps.SearchSteps.{SearchSteps}
 
--- the key stands for a residual
-abbrev pub IsKey : Key → Type 0
-IsKey key = IsResidual key.residual
+-- the key stands for a residual with these steps
+abbrev pub live : {O : Type 0} → SearchSteps O → ResidualKey → Type 0
+live steps key = IsLive steps.case.numbers key
 
 -- the residual that it stands for
-abbrev pub residual_of : Key → State
-residual_of key = key.residual
-
--- the same, with these steps
-abbrev pub live : {S : Type 0} → S → Key → Type 0
-live steps key = IsKey key
-
-abbrev pub state : {S : Type 0} → S → Key → State
-state steps key = residual_of key
+abbrev pub state : {O : Type 0} → SearchSteps O → ResidualKey → State
+state steps key = residual_at steps.case.numbers key

@@ -1,18 +1,16 @@
 -- The least moves of a state: those that count under bounds, by their totals and codes.
 use Rattle.std.specs.Prelude.{◌≡◌, ℕ, ◌+◌, List, [], ◌∷◌, Option, Some, None, option_map, IfSome}
+use Rattle.cheap_moves.specs.Within.{rest_of}
 use Rattle.fare_law.specs.declared.requests.Request.{Request}
 use Rattle.fare_law.specs.Book.{Book}
 use Rattle.fare_law.specs.Lists.{Each, KLeast}
 use Rattle.fare_law.specs.Codes.{move_code}
 use Rattle.fare_law.specs.Best.{Before}
 use Rattle.residual_keys.specs.declared.residual.Chosen.{Chosen}
-use Rattle.residual_keys.specs.declared.residual.Next.{Next}
-use Rattle.residual_keys.specs.declared.residual.Next.TheVariants.{At, Done}
 use Rattle.residual_keys.specs.Residuals.{State}
 use Rattle.residual_keys.specs.Steps.{IsChosen}
-use Rattle.search_steps.specs.declared.key.Key.{Key}
 use Rattle.search_steps.specs.declared.least.LeastMove.{LeastMove}
-use Rattle.search_steps.specs.Leads.{next_of}
+use Rattle.search_steps.specs.Leads.{next_of, state_of}
 
 -- a move with a key, as one with the state that it stands for
 abbrev pub least_as : {K X : Type 0} → (K → X) → LeastMove K → LeastMove X
@@ -46,24 +44,23 @@ AreLeastMoves b q Bound x wanted ms = KLeast (Counts b q Bound x) IsSooner wante
 abbrev pub BoundBy : {K : Type 0} → (K → Type 0) → (K → State) → (K → Option ℕ) → State → ℕ → Type 0
 BoundBy {K} Live state bound x rest = (key : K) × Live key × (state key ≡ x) × (bound key ≡ Some rest)
 
+-- a state's bound, where it has one
+abbrev pub HasBound : (State → Option ℕ) → State → ℕ → Type 0
+HasBound bound x rest = bound x ≡ Some rest
+
+-- what the move leaves is the end or has a bound
+abbrev pub HasRest : (State → Option ℕ) → LeastMove State → Type 0
+HasRest bound m = IfSome m.next (λ x. (rest : ℕ) × (bound x ≡ Some rest))
+
 -- how the moves that were found count
-
-abbrev pub key_of : Next → Option Key
-key_of Done = None
-key_of (At x) = Some (record { residual = x })
-
-abbrev pub rest_of : (Key → Option ℕ) → Option Key → Option ℕ
-rest_of bound None = Some 0
-rest_of bound (Some key) = bound key
-
-abbrev pub counted_of : (Key → Option ℕ) → Chosen → Option (LeastMove Key)
-counted_of bound c = option_map (λ rest. record { mv = c.mv; price = c.price; next = key_of c.next; total = c.price + rest }) (rest_of bound (key_of c.next))
+abbrev pub counted_of : (State → Option ℕ) → Chosen → Option (LeastMove State)
+counted_of bound c = option_map (λ rest. record { mv = c.mv; price = c.price; next = state_of c.next; total = c.price + rest }) (rest_of bound c.next)
 
 -- one more, if it counts
-abbrev pub with_counted : Option (LeastMove Key) → List (LeastMove Key) → List (LeastMove Key)
+abbrev pub with_counted : Option (LeastMove State) → List (LeastMove State) → List (LeastMove State)
 with_counted None ms = ms
 with_counted (Some m) ms = m ∷ ms
 
-abbrev pub counted_in : (Key → Option ℕ) → List Chosen → List (LeastMove Key)
+abbrev pub counted_in : (State → Option ℕ) → List Chosen → List (LeastMove State)
 counted_in bound [] = []
 counted_in bound (c ∷ cs) = with_counted (counted_of bound c) (counted_in bound cs)

@@ -1,11 +1,11 @@
 -- Marks, lists and outcomes by the numbers of positions and of open units.
 use Rattle.std.specs.Prelude.{◌≡◌, ◌≢◌, ℕ, zero, suc, Bool, List, map, slice_get, Option, Some, None}
-use Rattle.std.specs.List.Sorted.{IsPermutation}
+use Rattle.std.specs.Borrow.{Bor}
 use Rattle.fare_law.specs.declared.requests.Request.{Request}
-use Rattle.fare_law.specs.Lists.{AllDifferent, Each, Matched}
+use Rattle.fare_law.specs.Book.{Book}
+use Rattle.fare_law.specs.Lists.{Each, Matched}
 use Rattle.graph_walk.specs.declared.outcome.Outcome.{Outcome}
-use Rattle.graph_walk.specs.Steps.{AreLive, LeadToLive, rows_of}
-use Rattle.graph_walk.specs.Walks.{states}
+use Rattle.graph_walk.specs.Steps.{LeadToLive}
 use Rattle.open_unit.specs.declared.units.OpenUnit.{OpenUnit}
 use Rattle.open_unit.specs.OpenUnits.{carrier_with}
 use Rattle.outlines.specs.declared.marks.Listed.{Listed}
@@ -18,15 +18,12 @@ use Rattle.residual_keys.specs.declared.residual.Next.TheVariants.{At, Done}
 use Rattle.residual_keys.specs.Residuals.{State, one_more, with_end}
 use Rattle.residual_table.specs.declared.key.ResidualKey.{ResidualKey}
 use Rattle.residual_table.specs.Keys.{IsLive, IsSlot, StandsFor, Tables as Numbers, residual_at, units_of}
-use Rattle.search_steps.specs.declared.case.Case.{Case}
-use Rattle.search_steps.specs.declared.key.Key.{Key}
 use Rattle.search_steps.specs.declared.numbered.PositionSteps.{PositionSteps}
 use Rattle.search_steps.specs.declared.numbered.Step.{Step}
 use Rattle.search_steps.specs.declared.numbered.StepLists.{StepLists}
 use Rattle.search_steps.specs.declared.numbered.UnitSteps.{UnitSteps}
 use Rattle.search_steps.specs.declared.tables.PositionTable.{PositionTable}
 use Rattle.search_steps.specs.Giving.{GivenBy, LeftBy}
-use Rattle.search_steps.specs.Keys.{IsKey, residual_of}
 
 -- The step is this mark with its price, by numbers.
 pub record IsStep (t : Numbers) (x : Listed) (s : Step) : Type 0 where
@@ -119,15 +116,12 @@ abbrev pub UnitStepsAt : List UnitSteps → ℕ → ℕ → Option ℕ → Type 
 UnitStepsAt us place slot None = slot ≡ 0
 UnitStepsAt us place slot (Some n) = UnitStandsAt us place slot n
 
--- a case with the numbers of its residuals
+-- a book and a request, with the numbers of residuals
 pub record Numbered : Type 0 where
-  pub case : Case
+  pub book : Bor Book
+  pub request : Bor Request
   pub numbers : Numbers
 
--- These are the rows of the residuals that keys stand for, in whatever order.
-pub record AreReadFrom (t : Numbers) (rows : List (ResidualKey × Option ℕ)) (read : List (Key × Option ℕ)) : Type 0 where
-  pub order : List (ResidualKey × Option ℕ)
-  pub same : IsPermutation rows order
-  pub once : AllDifferent (states (rows_of (residual_at t) order))
-  pub are : rows_of residual_of read ≡ rows_of (residual_at t) order
-  pub alive : AreLive IsKey read
+-- the state has a key
+abbrev pub HasKey : (State → Option ResidualKey) → State → Type 0
+HasKey find x = (k : ResidualKey) × (find x ≡ Some k)

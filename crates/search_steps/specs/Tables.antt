@@ -7,7 +7,6 @@ use Rattle.fare_law.specs.Book.{Book}
 use Rattle.fare_law.specs.Lists.{Each}
 use Rattle.flight_paths.specs.declared.positions.Position.{Position}
 use Rattle.graph_walk.specs.declared.outcome.Outcome.{Outcome}
-use Rattle.open_unit.specs.declared.units.OpenUnit.{OpenUnit}
 use Rattle.open_unit.specs.Ranges.{UnitInRanges}
 use Rattle.outlines.specs.declared.marks.Listed.{Listed}
 use Rattle.outlines.specs.declared.outline.Outcome.{Outcome as Tried}
@@ -37,10 +36,9 @@ pub record IsUnitList (q : Request) (ts : List PositionTable) (u : UnitTable) : 
   pub list : IsList (IsOfUnit table.at.place q.sale u.unit) table.entries u.list
   pub kept : UnitsKept u.list
 
--- the tables, the lists and the network are the book's and the request's
+-- the tables and the network are the book's and the request's
 pub record AreTables (b : Book) (q : Request) (t : Tables) : Type 0 where
   pub tables : Each (IsListed b q) t.kept.items
-  pub units : Each (IsUnitList q t.kept.items) t.units.items
   pub network : IsNetwork b q t.network
 
 -- a table stands at this place
@@ -52,13 +50,6 @@ pub record TableAt (ts : List PositionTable) (at : Position) (n : ℕ) : Type 0 
   pub table : PositionTable
   pub stands : slice_get ts n ≡ Some table
   pub position : table.at ≡ at
-
--- the list of an open unit, from the table at a place, stands at this place
-pub record UnitAt (us : List UnitTable) (place : ℕ) (u : OpenUnit) (n : ℕ) : Type 0 where
-  pub table : UnitTable
-  pub stands : slice_get us n ≡ Some table
-  pub of_place : table.place ≡ place
-  pub of_unit : table.unit ≡ u
 
 -- an outcome of a table, as one of states
 abbrev pub outcome_tried : Tried → Outcome State

@@ -1,10 +1,15 @@
-//! Bounds of residuals.
+//! Bounds of residuals by their keys.
 ghost use Rattle.std.specs.Prelude.{◌≡◌, ℕ, Option as Maybe, option_and_then};
 ghost use Rattle.indexmap.specs.IndexMap.{get};
-ghost use Rattle.search_steps.specs.declared.key.Key.{Key as AnyKey};
+ghost use Rattle.residual_table.specs.declared.key.ResidualKey.{ResidualKey as AnyKey};
+ghost use Rattle.residual_table.specs.Found.{key_at};
 
-use crate::Key;
+use cheap_moves::ResidualBounds;
+use flight_paths::Position;
 use indexmap::IndexMap;
+use open_unit::OpenUnit;
+use residual_keys::Residual;
+use residual_table::{ResidualKey, ResidualParts};
 
 /// What runs from residuals cost at least, of those that have a run.
 pub trait Bounds {
@@ -12,15 +17,30 @@ pub trait Bounds {
     ghost bound: { Self → AnyKey → Maybe ℕ };
 
     /// The bound of a residual. None where it has none, or isn't known.
-    fn bound_of(&self, key: Key) -> Option<u64>
+    fn bound_of(&self, key: ResidualKey) -> Option<u64>
         ensures { result ≡ bound self.now key };
 }
 
 /// Rows of residuals, each with a bound or with none.
-impl Bounds for IndexMap<Key, Option<u64>> {
-    ghost bound = { λ rows key. option_and_then (λ bound. bound) (get ⟦<Key as PartialEq>⟧.eq rows key) };
+impl Bounds for IndexMap<ResidualKey, Option<u64>> {
+    ghost bound = { λ rows key. option_and_then (λ bound. bound) (get ⟦<ResidualKey as PartialEq>⟧.eq rows key) };
 
-    fn bound_of(&self, key: Key) -> Option<u64> {
+    fn bound_of(&self, key: ResidualKey) -> Option<u64> {
         self.get(&key).copied().flatten()
+    }
+}
+
+/// Bounds of keys, as those of the residuals that they stand for.
+#[derive(Drop)]
+pub struct OfKeys<'a, B> {
+    pub bounds: &'a B,
+    pub numbers: &'a ResidualParts,
+}
+
+impl<'a, B: Bounds> ResidualBounds for OfKeys<'a, B> {
+    ghost bound = { λ s x. option_and_then (B.bound s.bounds.now) (key_at ⟦<Position as PartialEq>⟧.eq ⟦<OpenUnit as PartialEq>⟧.eq s.numbers.now x) };
+
+    fn bound_of(&self, residual: &Residual) -> Option<u64> {
+        self.bounds.bound_of(self.numbers.find(residual)?)
     }
 }

@@ -1,6 +1,6 @@
 //! What the walk of a graph says of moves is what moves, runs and residuals say.
-ghost use Rattle.std.specs.declared.cmp.Ordering.TheVariants.{Equal, Less};
-ghost use Rattle.std.specs.Prelude.{◌≡◌, ◌↔◌, ◌⊎◌, ◌≤◌, ℕ, IsTrue, List, Option as Maybe, Some, length};
+ghost use Rattle.std.specs.declared.cmp.Ordering.TheVariants.{Equal};
+ghost use Rattle.std.specs.Prelude.{◌≡◌, ◌↔◌, ◌≤◌, ℕ, IsTrue, List, Option as Maybe, Some, length};
 ghost use Rattle.fare_law.specs.declared.requests.Request.{Request};
 ghost use Rattle.fare_law.specs.Book.{Book};
 ghost use Rattle.fare_law.specs.Lists.{IsIn};
@@ -9,13 +9,9 @@ ghost use Rattle.open_unit.specs.declared.units.OpenUnit.{OpenUnit as UnitData};
 ghost use Rattle.open_unit.specs.Ranges.{UnitInRanges};
 ghost use Rattle.residual_keys.specs.Kept.{IsResidual};
 ghost use Rattle.residual_keys.specs.Residuals.{State};
-ghost use Rattle.residual_keys.specs.ResidualOrder.{StateBefore};
 ghost use Rattle.residual_keys.specs.Searches.{Least, Reached};
-ghost use Rattle.search_steps.specs.declared.key.Key.{Key as AnyKey};
-ghost use Rattle.search_steps.specs.Keys.{IsKey, residual_of};
 ghost use Rattle.search_steps.specs.Leads.{IsRoot, MovesCostLess, leads_of, level_of};
 
-use crate::Key;
 use open_unit::OpenUnit;
 use residual_keys::{Residual, residual_order, runs_are_short};
 
@@ -38,14 +34,6 @@ pub fn residuals_tell()
 {
     residual_order();
     order_tells::<Residual>();
-}
-
-/// The order of keys is that of their residuals.
-pub fn keys_in_order()
-    ensures order { (k l : AnyKey) → IsKey k → IsKey l → (⟦<Key as Ord>⟧.cmp k l ≡ Less) ↔ StateBefore (residual_of k) (residual_of l) }
-    ensures total { (x y : State) → StateBefore x y ⊎ ((x ≡ y) ⊎ StateBefore y x) }
-{
-    residual_order();
 }
 
 /// Values are equal where their order says so.

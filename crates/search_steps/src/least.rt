@@ -1,14 +1,13 @@
 //! The least moves of a residual.
-ghost use Rattle.std.specs.Prelude.{◌≡◌, ◌≤◌, length, ◌++◌, IfOk, IfSome, List as Items, map};
+ghost use Rattle.std.specs.Prelude.{◌≡◌, ◌≤◌, length, IfOk, map};
 ghost use Rattle.std.specs.List.Sorted.{IsPermutation};
 ghost use Rattle.fare_law.specs.Lists.{AllDifferent, EachPair, IsIn, KLeast};
 ghost use Rattle.fare_law.specs.Codes.{move_code};
-ghost use Rattle.search_steps.specs.Keys.{IsKey};
-ghost use Rattle.search_steps.specs.LeastMoves.{IsSooner, LeaveLive, counted_in, counted_of};
+ghost use Rattle.search_steps.specs.LeastMoves.{IsSooner, counted_in, counted_of};
 
-use crate::{Bounds, Key};
+use cheap_moves::ResidualBounds;
 use fare_law::{List, Mem, Move};
-use residual_keys::{Chosen, Next};
+use residual_keys::{Chosen, Next, Residual};
 use std::alloc::Global;
 use ticket_order::{move_code, order_laws};
 
@@ -24,13 +23,12 @@ pub struct LeastMove<K> {
 }
 
 /// The moves that count under bounds, as they come.
-pub fn counted_moves<B: Bounds>(
+pub fn counted_moves<B: ResidualBounds>(
     alloc: Global,
     found: &[Chosen],
     bounds: &B,
-) -> Result<Vec<LeastMove<Key>>, Mem>
-    ensures counted { IfOk result (λ v. v.items ≡ counted_in (B.bound bounds.now) found.now) }
-    ensures live { IfOk result (λ v. LeaveLive IsKey v.items) }
+) -> Result<Vec<LeastMove<Residual>>, Mem>
+    ensures { IfOk result (λ v. v.items ≡ counted_in (B.bound bounds.now) found.now) }
 {
     let mut counted = Vec::new(alloc);
     for chosen in found {
@@ -42,17 +40,12 @@ pub fn counted_moves<B: Bounds>(
 }
 
 /// A move with its total. None where what it leaves has no bound.
-fn counted_move<B: Bounds>(chosen: &Chosen, bounds: &B) -> Option<LeastMove<Key>>
-    ensures counted { result ≡ counted_of (B.bound bounds.now) chosen.now }
-    ensures live { IfSome result (λ m. IfSome m.next IsKey) }
+fn counted_move<B: ResidualBounds>(chosen: &Chosen, bounds: &B) -> Option<LeastMove<Residual>>
+    ensures { result ≡ counted_of (B.bound bounds.now) chosen.now }
 {
     let (next, rest) = match chosen.next {
         Next::Done => (None, 0),
-        Next::At(residual) => {
-            residual.keeps();
-            let key = Key { residual };
-            (Some(key), bounds.bound_of(key)?)
-        }
+        Next::At(residual) => (Some(residual), bounds.bound_of(&residual)?),
     };
     Some(LeastMove {
         mv: chosen.mv.copied(),
@@ -63,7 +56,7 @@ fn counted_move<B: Bounds>(chosen: &Chosen, bounds: &B) -> Option<LeastMove<Key>
 }
 
 /// The first of moves whose codes differ, as many as are wanted, by their totals and codes.
-pub fn first_of(counted: Vec<LeastMove<Key>>, wanted: usize) -> List<LeastMove<Key>>
+pub fn first_of(counted: Vec<LeastMove<Residual>>, wanted: usize) -> List<LeastMove<Residual>>
     requires { AllDifferent (map (λ m. move_code m.mv) counted.items) }
     ensures least { KLeast (λ m. IsIn m counted.items) IsSooner wanted result }
     ensures long { wanted ≤ length counted.items → length result ≡ wanted }
@@ -76,7 +69,7 @@ pub fn first_of(counted: Vec<LeastMove<Key>>, wanted: usize) -> List<LeastMove<K
 }
 
 /// Puts moves whose codes differ into the order of their totals and codes.
-fn put_in_order(counted: &mut [LeastMove<Key>])
+fn put_in_order(counted: &mut [LeastMove<Residual>])
     requires { AllDifferent (map (λ m. move_code m.mv) counted.old) }
     ensures order { EachPair IsSooner counted.new }
     ensures same { IsPermutation counted.old counted.new }

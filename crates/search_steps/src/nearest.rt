@@ -1,64 +1,61 @@
 //! The least moves of a residual, by what the table of its position lets expect of them.
-ghost use Rattle.std.specs.Prelude.{◌≡◌, ◌<◌, ◌+◌, IfOk, length, map};
+ghost use Rattle.std.specs.Prelude.{◌≡◌, ◌<◌, ◌+◌, IfOk, length};
 ghost use Rattle.cheap_moves.specs.Leads.{AreLeads};
 ghost use Rattle.fare_law.specs.Limits.{IsRequest};
 ghost use Rattle.residual_table.specs.Keys.{KeepsNumbers};
-ghost use Rattle.search_steps.specs.Keys.{IsKey, residual_of};
-ghost use Rattle.search_steps.specs.LeastMoves.{AreLeastMoves, BoundBy, LeaveLive, least_as};
+ghost use Rattle.search_steps.specs.LeastMoves.{AreLeastMoves, HasBound};
 ghost use Rattle.search_steps.specs.Tables.{AreTables};
 
 use crate::tables::Tables;
-use crate::within::{OfKeys, least_within};
-use crate::{Bounds, Case, Key, LeastMove};
-use cheap_moves::{Lead, MoveSearch, leads_of};
+use crate::within::least_within;
+use crate::{Case, LeastMove};
+use cheap_moves::{Lead, MoveSearch, ResidualBounds, leads_of};
 use fare_law::{List, Mem};
 use residual_keys::Residual;
 use std::alloc::Global;
 
 /// The moves of a residual that count under bounds, the first `wanted` of them by total and code. Its slice
 /// is one of the request's.
-pub fn least_by<B: Bounds>(
+pub fn least_by<B: ResidualBounds>(
     alloc: Global,
     case: &Case,
     tables: &mut Tables,
     residual: &Residual,
     bounds: &B,
     wanted: usize,
-) -> Result<List<LeastMove<Key>>, Mem>
+) -> Result<List<LeastMove<Residual>>, Mem>
     requires request { IsRequest case.now.request.now }
     requires known { residual.now.at.slice < length case.now.request.now.slices }
     requires right { AreTables case.now.book.now case.now.request.now tables.old }
     ensures right { AreTables case.now.book.now case.now.request.now tables.new }
     ensures stays { KeepsNumbers tables.old.kept.items tables.new.kept.items }
-    ensures least { IfOk result (λ ms. AreLeastMoves case.now.book.now case.now.request.now (BoundBy IsKey residual_of (B.bound bounds.now)) residual.now wanted (map (least_as residual_of) ms)) }
-    ensures live { IfOk result (LeaveLive IsKey) }
+    ensures least { IfOk result (AreLeastMoves case.now.book.now case.now.request.now (HasBound (B.bound bounds.now)) residual.now wanted) }
 {
-    let keyed = OfKeys { bounds };
-    let leads = leads_by(alloc, case, tables, residual, &keyed)?;
+    let leads = leads_by(alloc, case, tables, residual, bounds)?;
     let limit = limit_of(alloc, leads.as_slice(), wanted)?;
     let search = MoveSearch {
         book: case.book,
         request: case.request,
         residual,
-        bounds: &keyed,
+        bounds,
         limit,
     };
     least_over(alloc, &search, leads.as_slice(), tables, wanted)
 }
 
 /// The leads of a residual, by the table of its position.
-fn leads_by<B: Bounds>(
+fn leads_by<B: ResidualBounds>(
     alloc: Global,
     case: &Case,
     tables: &mut Tables,
     residual: &Residual,
-    keyed: &OfKeys<'_, B>,
+    bounds: &B,
 ) -> Result<List<Lead>, Mem>
     requires request { IsRequest case.now.request.now }
     requires right { AreTables case.now.book.now case.now.request.now tables.old }
     ensures right { AreTables case.now.book.now case.now.request.now tables.new }
     ensures stays { KeepsNumbers tables.old.kept.items tables.new.kept.items }
-    ensures leads { IfOk result (AreLeads case.now.book.now case.now.request.now residual.now (λ x. B.bound keyed.now.bounds.now (record { residual = x }))) }
+    ensures leads { IfOk result (AreLeads case.now.book.now case.now.request.now residual.now (B.bound bounds.now)) }
 {
     let at = residual.at;
     let place = tables.find(alloc, case, &at)?;
@@ -67,28 +64,27 @@ fn leads_by<B: Bounds>(
         book: case.book,
         request: case.request,
         residual,
-        bounds: keyed,
+        bounds,
         limit: None,
     };
     leads_of(alloc, &search, table.entries.as_slice())
 }
 
 /// The least moves that are searched for, over the tails and the markets of the tables.
-fn least_over<B: Bounds>(
+fn least_over<B: ResidualBounds>(
     alloc: Global,
-    search: &MoveSearch<'_, OfKeys<'_, B>>,
+    search: &MoveSearch<'_, B>,
     leads: &[Lead],
     tables: &mut Tables,
     wanted: usize,
-) -> Result<List<LeastMove<Key>>, Mem>
+) -> Result<List<LeastMove<Residual>>, Mem>
     requires request { IsRequest search.now.request.now }
     requires known { search.now.residual.now.at.slice < length search.now.request.now.slices }
-    requires leads { AreLeads search.now.book.now search.now.request.now search.now.residual.now (λ x. B.bound search.now.bounds.now.bounds.now (record { residual = x })) leads.now }
+    requires leads { AreLeads search.now.book.now search.now.request.now search.now.residual.now (B.bound search.now.bounds.now) leads.now }
     requires right { AreTables search.now.book.now search.now.request.now tables.old }
     ensures right { AreTables search.now.book.now search.now.request.now tables.new }
     ensures kept { tables.new.kept.items ≡ tables.old.kept.items }
-    ensures least { IfOk result (λ ms. AreLeastMoves search.now.book.now search.now.request.now (BoundBy IsKey residual_of (B.bound search.now.bounds.now.bounds.now)) search.now.residual.now wanted (map (least_as residual_of) ms)) }
-    ensures live { IfOk result (LeaveLive IsKey) }
+    ensures least { IfOk result (AreLeastMoves search.now.book.now search.now.request.now (HasBound (B.bound search.now.bounds.now)) search.now.residual.now wanted) }
 {
     let residual = search.residual;
     let at = residual.at;

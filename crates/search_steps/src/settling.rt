@@ -5,16 +5,15 @@ ghost use Rattle.fare_law.specs.declared.market.OfferKey.{OfferKey};
 ghost use Rattle.fare_law.specs.declared.requests.Request.{Request as Asking};
 ghost use Rattle.fare_law.specs.Book.{Book as Version};
 ghost use Rattle.fare_law.specs.Limits.{IsRequest};
-ghost use Rattle.graph_walk.specs.Steps.{KeepsStates};
 ghost use Rattle.residual_keys.specs.AskedKeys.{KeyOf};
-ghost use Rattle.search_steps.specs.Cases.{IsSameCase};
 ghost use Rattle.search_steps.specs.Keys.{live, state};
 
-use crate::{Key, SearchSteps};
+use crate::SearchSteps;
 use component_table::same_position;
 use fare_component::OfferSource;
 use fare_law::Mem;
 use residual_keys::{OpenUnits, Residual};
+use residual_table::ResidualKey;
 use std::alloc::Global;
 
 impl<'a, O: OfferSource> SearchSteps<'a, O> {
@@ -27,17 +26,17 @@ impl<'a, O: OfferSource> SearchSteps<'a, O> {
     }
 
     /// Has the source of offers settle what the keys of a residual ask for.
-    pub fn settle(&mut self, alloc: Global, key: Key) -> Result<(), Mem>
+    pub fn settle(&mut self, alloc: Global, key: ResidualKey) -> Result<(), Mem>
         requires request { IsRequest self.old.case.request.now }
         requires live { live self.old key }
         ensures asked { OnOk result ((k : OfferKey) → KeyOf self.old.case.book.now self.old.case.request.now (state self.old key) k → O.settled self.new.offers.now (asked k)) }
-        ensures keeps { KeepsStates (live self.old) (live self.new) (state self.old) (state self.new) }
+        ensures same { self.new.case ≡ self.old.case }
         ensures same_offers { self.new.offers.ghost_name ≡ self.old.offers.ghost_name }
-        ensures case { IsSameCase self.old self.new }
         ensures base { O.base self.new.offers.now ≡ O.base self.old.offers.now }
         ensures stays { (a : Asked) → O.settled self.old.offers.now a → O.settled self.new.offers.now a }
     {
-        self.case.settle(alloc, &key.residual, self.offers)
+        let residual = self.case.residual(&key);
+        self.case.settle(alloc, &residual, self.offers)
     }
 }
 

@@ -1,31 +1,35 @@
 //! The steps of a search.
-ghost use Rattle.std.specs.Prelude.{◌≡◌, ◌≤◌, length, map, IfErr, IfOk};
+ghost use Rattle.std.specs.Prelude.{◌≡◌, ◌≤◌, length, map, IfErr, IfOk, OnOk};
+ghost use Rattle.std.specs.List.Sorted.{IsPermutation};
 ghost use Rattle.fare_component.specs.Keys.{Asked};
 ghost use Rattle.fare_law.specs.Limits.{IsRequest};
+ghost use Rattle.fare_law.specs.Lists.{EachPair};
 ghost use Rattle.graph_walk.specs.Steps.{AreLive, AreOutcomes, ExceedsIf, KeepsStates, LeadToLive, TellsStates, outcomes_of, rows_of};
 ghost use Rattle.graph_walk.specs.Walks.{AreLeast, AreReached, IsShort, Reached, states};
+ghost use Rattle.indexmap.specs.IndexMap.{get};
+ghost use Rattle.residual_keys.specs.ResidualOrder.{StateBefore};
+ghost use Rattle.residual_table.specs.declared.key.ResidualKey.{ResidualKey as AnyKey};
 ghost use Rattle.search_steps.specs.Cases.{IsSameCase};
 ghost use Rattle.search_steps.specs.Keys.{live, state};
 ghost use Rattle.search_steps.specs.Leads.{leads_of, level_of};
 ghost use Rattle.search_steps.specs.LeastMoves.{AreLeastMoves, BoundBy, LeaveLive, least_as};
 
-use crate::laws::residuals_tell;
-use crate::least::{counted_moves, first_of};
-use crate::{Bounds, Case, Key, LeastMove, TabledCase};
+use crate::numbered_case::NumberedCase;
+use crate::{Bounds, Case, LeastMove};
 use fare_book::Book;
 use fare_component::OfferSource;
 use fare_law::{List, Mem, Request};
 use graph_walk::{Outcome, WalkFault};
 use indexmap::IndexMap;
 use residual_keys::{Residual, moves};
+use residual_table::ResidualKey;
 use std::alloc::Global;
-use ticket_order::order_laws;
 
 /// The steps of one search: its book and request, and where it has its offers from. It names residuals
 /// by keys. A key that it gave stands for its residual for as long as it lives.
 #[derive(Drop)]
 pub struct SearchSteps<'a, O> {
-    pub(crate) case: TabledCase<'a>,
+    pub(crate) case: NumberedCase<'a>,
     pub(crate) offers: &'a mut O,
 }
 
@@ -43,7 +47,7 @@ impl<'a, O: OfferSource> SearchSteps<'a, O> {
         ensures offers { result.offers.now ≡ offers.old }
     {
         SearchSteps {
-            case: TabledCase::new(alloc, Case { book, request }),
+            case: NumberedCase::new(alloc, Case { book, request }),
             offers,
         }
     }
@@ -66,7 +70,7 @@ impl<'a, O: OfferSource> SearchSteps<'a, O> {
     }
 
     /// The key of a residual.
-    pub fn key_of(&mut self, residual: Residual) -> Result<Key, Mem>
+    pub fn key_of(&mut self, residual: Residual) -> Result<ResidualKey, Mem>
         ensures live { IfOk result (live self.new) }
         ensures state { IfOk result (λ key. state self.new key ≡ residual) }
         ensures keeps { KeepsStates (live self.old) (live self.new) (state self.old) (state self.new) }
@@ -74,28 +78,31 @@ impl<'a, O: OfferSource> SearchSteps<'a, O> {
         ensures case { IsSameCase self.old self.new }
         ensures offers { self.new.offers.now ≡ self.old.offers.now }
     {
-        residual.keeps();
-        Ok(Key { residual })
+        self.case.key(&residual)
     }
 
     /// The residual of a key.
-    pub fn residual(&self, key: Key) -> Residual
+    pub fn residual(&self, key: ResidualKey) -> Residual
         requires { live self.now key }
         ensures { result ≡ state self.now key }
     {
-        key.residual
+        self.case.residual(&key)
     }
 
     /// Tells that keys are equal where they stand for one residual, and only there.
     pub fn keys_tell(&self)
-        ensures { TellsStates (live self.now) (state self.now) ⟦<Key as PartialEq>⟧.eq }
+        ensures { TellsStates (live self.now) (state self.now) ⟦<ResidualKey as PartialEq>⟧.eq }
     {
-        residuals_tell();
+        self.case.keys_tell();
     }
 
     /// What the moves of a residual leave, at their prices: each outcome is a move, and for each move
     /// one leaves the same at no higher price. The source of offers stays as it is.
-    pub fn outcomes(&mut self, alloc: Global, key: Key) -> Result<Vec<Outcome<Key>>, Mem>
+    pub fn outcomes(
+        &mut self,
+        alloc: Global,
+        key: ResidualKey,
+    ) -> Result<Vec<Outcome<ResidualKey>>, Mem>
         requires request { IsRequest self.old.case.request.now }
         requires live { live self.old key }
         ensures outcomes { IfOk result (λ v. AreOutcomes (leads_of self.old.case.book.now self.old.case.request.now) (state self.old key) (outcomes_of (state self.new) v.items)) }
@@ -105,7 +112,7 @@ impl<'a, O: OfferSource> SearchSteps<'a, O> {
         ensures case { IsSameCase self.old self.new }
         ensures offers { self.new.offers.now ≡ self.old.offers.now }
     {
-        self.case.outcomes(alloc, &key.residual)
+        self.case.outcomes(alloc, key)
     }
 
     /// All residuals that are reached from the root's, each once, with the least price of a run from it.
@@ -113,9 +120,9 @@ impl<'a, O: OfferSource> SearchSteps<'a, O> {
     pub fn reached(
         &mut self,
         alloc: Global,
-        root: Key,
+        root: ResidualKey,
         budget: u32,
-    ) -> Result<IndexMap<Key, Option<u64>>, WalkFault>
+    ) -> Result<IndexMap<ResidualKey, Option<u64>>, WalkFault>
         requires request { IsRequest self.old.case.request.now }
         requires live { live self.old root }
         requires short { IsShort (leads_of self.old.case.book.now self.old.case.request.now) level_of (state self.old root) }
@@ -129,7 +136,21 @@ impl<'a, O: OfferSource> SearchSteps<'a, O> {
         ensures case { IsSameCase self.old self.new }
         ensures offers { self.new.offers.now ≡ self.old.offers.now }
     {
-        self.case.reached(alloc, &root.residual, budget)
+        self.case.reached(alloc, root, budget)
+    }
+
+    /// Puts rows into the order of their residuals.
+    pub fn put_in_order(
+        &self,
+        alloc: Global,
+        rows: &mut IndexMap<ResidualKey, Option<u64>>,
+    ) -> Result<(), Mem>
+        requires { AreLive (live self.now) rows.old.entries }
+        ensures order { OnOk result (EachPair (λ r s. StateBefore (state self.now r.0) (state self.now s.0)) rows.new.entries) }
+        ensures same { OnOk result (IsPermutation rows.old.entries rows.new.entries) }
+        ensures found { OnOk result ((key : AnyKey) → get ⟦<ResidualKey as PartialEq>⟧.eq rows.new key ≡ get ⟦<ResidualKey as PartialEq>⟧.eq rows.old key) }
+    {
+        self.case.put_in_order(alloc, rows)
     }
 
     /// The moves of a residual that count under bounds, the first `wanted` of them by total and code:
@@ -137,27 +158,28 @@ impl<'a, O: OfferSource> SearchSteps<'a, O> {
     pub fn least_moves<B: Bounds>(
         &mut self,
         alloc: Global,
-        key: Key,
+        key: ResidualKey,
         bounds: &B,
         wanted: usize,
-    ) -> Result<List<LeastMove<Key>>, Mem>
+    ) -> Result<List<LeastMove<ResidualKey>>, Mem>
         requires request { IsRequest self.old.case.request.now }
         requires live { live self.old key }
         ensures least { IfOk result (λ ms. AreLeastMoves self.old.case.book.now self.old.case.request.now (BoundBy (live self.old) (state self.old) (B.bound bounds.now)) (state self.old key) wanted (map (least_as (state self.new)) ms)) }
         ensures live { IfOk result (LeaveLive (live self.new)) }
         ensures keeps { KeepsStates (live self.old) (live self.new) (state self.old) (state self.new) }
         ensures same_offers { self.new.offers.ghost_name ≡ self.old.offers.ghost_name }
+        ensures same { self.new.case ≡ self.old.case }
         ensures case { IsSameCase self.old self.new }
         ensures base { O.base self.new.offers.now ≡ O.base self.old.offers.now }
         ensures stays { (a : Asked) → O.settled self.old.offers.now a → O.settled self.new.offers.now a }
     {
-        order_laws();
         let case = self.case.case();
-        if usize::from(key.residual.at.slice) < case.request.slices.len() {
-            return self.case.least_moves(alloc, &key.residual, bounds, wanted);
+        let residual = self.case.residual(&key);
+        if usize::from(residual.at.slice) < case.request.slices.len() {
+            return self.case.least_moves(alloc, &residual, bounds, wanted);
         }
-        let found = moves(alloc, case.book, case.request, &key.residual, self.offers)?;
-        let counted = counted_moves(alloc, found.as_slice(), bounds)?;
-        Ok(first_of(counted, wanted))
+        let found = moves(alloc, case.book, case.request, &residual, self.offers)?;
+        self.case
+            .least_among(alloc, found.as_slice(), bounds, wanted)
     }
 }

@@ -1,4 +1,4 @@
-//! The tables of positions, each found once, and the lists of open units that go on from them.
+//! The tables of positions, each found once, from which the lists of open units are made.
 ghost use Rattle.std.specs.Prelude.{◌≡◌, [], IfOk, IfSome};
 ghost use Rattle.component_table.specs.Networks.{IsNetwork};
 ghost use Rattle.fare_law.specs.declared.requests.Request.{Request as Asked};
@@ -35,22 +35,19 @@ pub struct UnitTable {
     pub list: List<Listed>,
 }
 
-/// What the list of an open unit is looked up by.
-#[derive(Clone, Copy, PartialEq, Eq, Hash, Debug)]
+/// What the list of an open unit is made by.
+#[derive(Clone, Copy, Debug)]
 pub struct UnitKey {
     pub place: usize,
     pub unit: OpenUnit,
 }
 
-/// The tables of the positions, and the lists of the open units, that were asked for so far.
+/// The tables of the positions that were asked for so far.
 #[derive(Drop)]
 pub struct Tables {
     pub kept: Vec<PositionTable>,
     /// Where a position's table may stand.
     pub places: IndexMap<Position, usize>,
-    pub units: Vec<UnitTable>,
-    /// Where a unit's list may stand.
-    pub unit_places: IndexMap<UnitKey, usize>,
     /// What the tables are found by, kept for all of them.
     pub network: Network,
 }
@@ -59,14 +56,11 @@ impl Tables {
     /// None yet.
     pub fn new(alloc: Global) -> Tables
         ensures kept { result.kept.items ≡ [] }
-        ensures units { result.units.items ≡ [] }
         ensures network { (b : Version) (q : Asked) → IsNetwork b q result.network }
     {
         Tables {
             kept: Vec::new(alloc),
             places: IndexMap::new(alloc),
-            units: Vec::new(alloc),
-            unit_places: IndexMap::new(alloc),
             network: Network::new(alloc),
         }
     }

@@ -1,7 +1,13 @@
+use Rattle.std.proofs.Common.{refl}
 use Rattle.certificate_check.proofs.AllowedBounds.{allowed_told}
+use Rattle.certificate_check.proofs.LaterSteps.{has_still}
+use Rattle.search_steps.specs.Keys.{state}
 use Rattle.certificate_check.proofs.bounding.is_right.Goals as goal
+
+pub all_allow-requires-clause-table : goal.all_allow-requires-clause-table
+all_allow-requires-clause-table c = has_still c.args.steps.now c.outcomes.new.self c.in_ok-outcomes.ensures.keeps c.args.table.now.bounds.entries c.args.table.now.rows.now c.requires.table
 
 pub returns-clause-right : goal.returns-clause-right
 returns-clause-right c =
-    let case = c.in_ok-key.ensures.case in
-    allowed_told _ _ _ _ c.args.table.now.rows.now c.args.row.now _ c.in_ok-outcomes.outcomes.items c.as_slice.result.now c.all_allow.result case.book case.request c.in_ok-key.ensures.state c.as_slice.ensures.value c.in_ok-outcomes.ensures.outcomes c.all_allow.ensures
+    let told = c.in_ok-outcomes.ensures in
+    allowed_told (state c.outcomes.new.self) _ _ _ _ c.args.table.now.rows.now c.args.row.now _ c.in_ok-outcomes.outcomes.items c.as_slice.result.now c.all_allow.result refl refl c.requires.state c.as_slice.ensures.value told.outcomes c.all_allow.ensures

@@ -5,6 +5,8 @@ use Rattle.certificate.specs.DepartureCheck.{DeparturesFail, DeparturesHold}
 use Rattle.certificate.specs.RowCheck.{RowsHold}
 use Rattle.certificate_check.proofs.Judged.{all_hold, few_answers, four_hold, last_fails, none_case}
 use Rattle.certificate_check.proofs.KnownBounds.{rows_differ}
+use Rattle.certificate_check.proofs.LaterSteps.{has_still}
+use Rattle.certificate_check.specs.Tables.{HasRows}
 use Rattle.fare_law.specs.Lists.{AllDifferent}
 use Rattle.certificate_check.proofs.checking.check_by.Goals as goal
 
@@ -18,6 +20,12 @@ bounds_fail-requires-clause-differ c =
 pub departures_fail-requires-clause-differ : goal.departures_fail-requires-clause-differ
 departures_fail-requires-clause-differ c =
     subst (λ (rows : List CertRow). AllDifferent (map (λ (row : CertRow). row.residual) rows)) (sym c.in_ok-table.ensures.rows) (rows_differ c.residual_order.ensures.order c.args.book.now c.args.request.now c.as_slice-rows.result.now (subst (RowsHold c.args.book.now c.args.request.now) (sym c.as_slice-rows.ensures) c.requires.hold).0)
+
+pub departures_fail-requires-clause-table : goal.departures_fail-requires-clause-table
+departures_fail-requires-clause-table c =
+    let table = c.in_ok-table.table in
+    let has = subst (HasRows c.table_of.new.steps table.bounds.entries) (sym c.in_ok-table.ensures.rows) c.in_ok-table.ensures.bounds in
+    has_still c.table_of.new.steps c.bounds_fail.new.steps c.in_ok-place.ensures.later.keeps table.bounds.entries table.rows.now has
 
 pub departures_fail-requires-clause-few : goal.departures_fail-requires-clause-few
 departures_fail-requires-clause-few c =

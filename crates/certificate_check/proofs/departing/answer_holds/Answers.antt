@@ -1,6 +1,6 @@
 use Rattle.std.proofs.Common.{◌≡◌, ◌+◌, ◌-◌, ◌<◌, ℕ, true, false, take, length, sym, subst, refl, arith}
 use Rattle.certificate_check.specs.Fronts.{AnswerFails, AnswerHolds}
-use Rattle.certificate_check.proofs.LaterSteps.{later_still, same_said, same_steps}
+use Rattle.certificate_check.proofs.LaterSteps.{has_still, later_still, same_said, same_steps}
 use Rattle.certificate_check.proofs.Onwards.{GoesOn, goes_to, has_price, steps_on}
 use Rattle.certificate_check.proofs.RootAt.{leads_root}
 use Rattle.certificate_check.proofs.Walking.{all_held, fails_there, front_false, front_of, front_true, hold_more, leads_on, same_answer, stopped}
@@ -165,3 +165,6 @@ returns-clause-holds c =
     let invariant = c.loop-taken.invariant in
     let taken = c.loop-taken.taken in
     λ a s. subst (AnswerHolds b q rows answers) (same_answer answers i x a c.requires.there c.index-answers-i.is s) (all_held b q rows answers x ms taken e c.loop-taken-test.false invariant.hold)
+
+pub later_holds-requires-clause-table : goal.later_holds-requires-clause-table
+later_holds-requires-clause-table c = has_still c.args.steps.now c.loop-taken.steps c.loop-taken.invariant.later.keeps c.args.table.now.bounds.entries c.args.table.now.rows.now c.requires.table

@@ -2,7 +2,7 @@ use Rattle.std.proofs.Common.{◌≡◌, true, false, [], refl, arith}
 use Rattle.certificate_check.specs.Fronts.{AnswerHolds}
 use Rattle.certificate_check.proofs.Begins.{got_at, some_at}
 use Rattle.certificate_check.proofs.EachSoFar.{each_done, each_next}
-use Rattle.certificate_check.proofs.LaterSteps.{later_still}
+use Rattle.certificate_check.proofs.LaterSteps.{has_still, later_still}
 use Rattle.certificate_check.proofs.RootAt.{leads_root}
 use Rattle.certificate_check.proofs.Walking.{all_hold, answer_fails, answer_false, answer_true, front_true}
 use Rattle.certificate_check.proofs.departing.departures_fail.Goals as goal
@@ -53,3 +53,6 @@ returns-clause-fails c =
     let so : c.in_ok-front_holds.field-0 ≡ true = cc in
     let root = front_true b b q q rows answers [] c.in_ok-front_holds.field-0 refl refl so c.in_ok-front_holds.ensures.holds in
     all_hold b q rows answers root (each_done (AnswerHolds b q rows answers) answers c.loop-i.i c.loop-i-test.false c.loop-i.invariant.hold)
+
+pub answer_holds-requires-clause-table : goal.answer_holds-requires-clause-table
+answer_holds-requires-clause-table c = has_still c.args.steps.now c.loop-i.steps c.loop-i.invariant.later.keeps c.args.table.now.bounds.entries c.args.table.now.rows.now c.requires.table

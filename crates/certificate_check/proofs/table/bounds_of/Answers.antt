@@ -1,12 +1,14 @@
-use Rattle.certificate_check.proofs.LaterSteps.{later_still}
+use Rattle.std.proofs.Common.{take}
+use Rattle.certificate_check.proofs.LaterSteps.{has_still, later_still}
 use Rattle.certificate_check.proofs.NextRow.{has_next}
 use Rattle.certificate_check.proofs.table.bounds_of.Goals as goal
 
 pub loop-row-preserved : goal.loop-row-preserved
 loop-row-preserved c =
-    let told = c.in_ok-key.ensures in record {
+    let told = c.in_ok-key.ensures in
+    let still = has_still c.loop-row.steps c.key_of.new.self told.keeps c.loop-row.bounds.entries (take c.loop-row.row-index c.args.rows.now) c.loop-row.invariant.rows in record {
       later = later_still c.args.steps.now c.loop-row.steps c.key_of.new.self c.loop-row.invariant.later (record { case = told.case; keeps = told.keeps; same_offers = told.same_offers });
       rows =
-          has_next c.loop-row.steps c.key_of.new.self _ c.keys_tell.ensures c.loop-row.bounds.entries c.insert.new.self.entries c.args.rows.now c.loop-row.row-index c.row-item.result c.in_ok-key.key c.loop-row-test.true c.row-item.is c.requires
-          c.loop-row.invariant.rows told.live told.state c.in_ok-insert.ensures.entries;
+          has_next c.key_of.new.self _ c.keys_tell.ensures c.loop-row.bounds.entries c.insert.new.self.entries c.args.rows.now c.loop-row.row-index c.row-item.result c.in_ok-key.key c.loop-row-test.true c.row-item.is c.requires still told.live told.state
+          c.in_ok-insert.ensures.entries;
     }

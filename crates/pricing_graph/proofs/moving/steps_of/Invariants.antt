@@ -1,6 +1,6 @@
 use Rattle.std.proofs.Common.{◌≡◌, map, take}
 use Rattle.indexmap.specs.IndexMap.{index_of}
-use Rattle.search_steps.specs.contracts.key.KeyPartialEq.TheImpl as key
+use Rattle.residual_table.specs.contracts.key.ResidualKeyPartialEq.TheImpl as key
 use Rattle.pricing_graph.specs.Givers.{step_as}
 use Rattle.pricing_graph.proofs.moving.steps_of.Given as goal
 

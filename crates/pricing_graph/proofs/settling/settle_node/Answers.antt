@@ -1,11 +1,11 @@
-use Rattle.std.proofs.Common.{◌+◌, sym, arith}
+use Rattle.std.proofs.Common.{◌+◌, sym, subst, arith}
 use Rattle.graph_walk.specs.Steps.{rows_of}
-use Rattle.search_steps.specs.Keys.{live, residual_of, state}
+use Rattle.residual_table.specs.Keys.{residual_at}
+use Rattle.search_steps.specs.Keys.{live, state}
 use Rattle.pricing_graph.specs.Settled.{AreSettledFrom}
 use Rattle.pricing_graph.proofs.Keyed.{live_at}
 use Rattle.pricing_graph.proofs.Reordered.{node_at}
 use Rattle.pricing_graph.proofs.SettledNodes.{one_more, still_from}
-use Rattle.pricing_graph.proofs.Whole.{said_of}
 use Rattle.pricing_graph.proofs.settling.settle_node.Goals as goal
 
 pub returns-then-has_keys_of-clause-settled : goal.returns-then-has_keys_of-clause-settled
@@ -29,7 +29,7 @@ returns-clause-settled g c =
     let kept = c.in_ok-settle.ensures in
     let Before = g.O.OfferSource.settled old.offers.now in
     let After = g.O.OfferSource.settled new.offers.now in
-    said_of (λ b q. AreSettledFrom b q After nodes c.args.node) old.case.book.now new.case.book.now old.case.request.now new.case.request.now (sym kept.case.book) (sym kept.case.request)
+    subst (λ case. AreSettledFrom case.book.now case.request.now After (rows_of (residual_at case.numbers) es) c.args.node) (sym kept.same)
     (one_more old.case.book.now old.case.request.now nodes After c.args.node (state old c.key.result)
     (still_from old.case.book.now old.case.request.now nodes Before After (c.args.node + 1) kept.stays c.requires.behind)
-    (node_at residual_of es c.args.node c.key.result c.key.ensures) kept.asked)
+    (node_at (state old) es c.args.node c.key.result c.key.ensures) kept.asked)

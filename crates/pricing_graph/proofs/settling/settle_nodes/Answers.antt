@@ -1,6 +1,8 @@
 use Rattle.std.proofs.Common.{◌≡◌, ◌∙◌, ℕ, refl, subst, sym, arith}
-use Rattle.graph_walk.specs.Steps.{rows_of}
-use Rattle.search_steps.specs.Keys.{residual_of, state}
+use Rattle.fare_law.specs.Limits.{IsRequest}
+use Rattle.graph_walk.specs.Steps.{AreLive, rows_of}
+use Rattle.residual_table.specs.Keys.{IsLive}
+use Rattle.search_steps.specs.Keys.{state}
 use Rattle.pricing_graph.specs.Settled.{AreSettledFrom}
 use Rattle.pricing_graph.proofs.Keyed.{as_many_rows}
 use Rattle.pricing_graph.proofs.SettledNodes.{none_behind}
@@ -13,9 +15,10 @@ loop-left-init g c =
     record {
       few = omega (arith, c.size-left.ensures);
       request = c.requires.request;
-      settled = none_behind steps.case.book.now steps.case.request.now (rows_of (state steps) es) (g.O.OfferSource.settled steps.offers.now) c.size-left.result (c.size-left.ensures ∙ sym (as_many_rows residual_of es));
+      alive = c.requires.live;
+      settled = none_behind steps.case.book.now steps.case.request.now (rows_of (state steps) es) (g.O.OfferSource.settled steps.offers.now) c.size-left.result (c.size-left.ensures ∙ sym (as_many_rows (state steps) es));
       same_offers = refl;
-      case = record { book = refl; request = refl };
+      same = refl;
       base = refl;
       stays = λ a h. h;
     }
@@ -28,3 +31,18 @@ returns-clause-settled g c =
 
 pub settle_node-requires-clause-behind : goal.settle_node-requires-clause-behind
 settle_node-requires-clause-behind g c = λ m x le is. c.loop-left.invariant.settled m x (omega (arith, le, c.loop-left-test.true)) is
+
+pub loop-left-preserved : goal.loop-left-preserved
+loop-left-preserved g c =
+    let kept = c.in_ok-settle_node.ensures in
+    let before = c.loop-left.invariant in
+    record {
+      few = let few = before.few in omega (arith, few);
+      request = subst (λ case. IsRequest case.request.now) (sym kept.same) before.request;
+      alive = subst (λ case. AreLive (IsLive case.numbers) c.args.graph.now.rows.entries) (sym kept.same) before.alive;
+      settled = kept.settled;
+      same_offers = kept.same_offers ∙ before.same_offers;
+      same = kept.same ∙ before.same;
+      base = kept.base ∙ before.base;
+      stays = λ a h. kept.stays a (before.stays a h);
+    }

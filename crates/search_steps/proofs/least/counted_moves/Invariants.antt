@@ -1,10 +1,6 @@
 use Rattle.std.proofs.Common.{◌≡◌, ◌++◌, drop}
-use Rattle.search_steps.specs.Keys.{IsKey}
-use Rattle.search_steps.specs.LeastMoves.{LeaveLive, counted_in}
+use Rattle.search_steps.specs.LeastMoves.{counted_in}
 use Rattle.search_steps.proofs.least.counted_moves.Given as goal
 
 abbrev pub invariant-loop-chosen : goal.invariant-loop-chosen
-invariant-loop-chosen g l = record {
-  counted : l.counted.items ++ counted_in (g.B.Bounds.bound l.bounds) (drop l.chosen-index l.found) ≡ counted_in (g.B.Bounds.bound l.bounds) l.found;
-  live : LeaveLive IsKey l.counted.items;
-}
+invariant-loop-chosen g l = l.counted.items ++ counted_in (g.B.ResidualBounds.bound l.bounds) (drop l.chosen-index l.found) ≡ counted_in (g.B.ResidualBounds.bound l.bounds) l.found

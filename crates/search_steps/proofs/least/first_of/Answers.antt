@@ -1,7 +1,7 @@
 use Rattle.std.proofs.Common.{◌≡◌, ◌∙◌, length, take, ap, sym, subst, arith}
 use Rattle.fare_law.specs.Lists.{IsIn, KLeast}
 use Rattle.residual_keys.proofs.SortedWords.{same_elements, same_length, written}
-use Rattle.search_steps.specs.declared.key.Key.{Key}
+use Rattle.residual_keys.specs.Residuals.{State}
 use Rattle.search_steps.specs.declared.least.LeastMove.{LeastMove}
 use Rattle.search_steps.specs.LeastMoves.{IsSooner}
 use Rattle.search_steps.proofs.Counting.{front_least, same_least, take_long}
@@ -17,7 +17,7 @@ returns-clause-least c =
     let long : length new ≡ length items = same_length old new c.put_in_order.ensures.same ∙ ap length old_is in
     let whole = written c.args.counted.len items new (omega (arith, c.args.counted.ok.0)) long in
     let result_is : c.from_vec.result ≡ take c.args.wanted new = c.from_vec.ensures ∙ c.truncate.ensures.items ∙ ap (take c.args.wanted) whole in
-    let trans : (x y z : LeastMove Key) → IsSooner x y → IsSooner y z → IsSooner x z =
+    let trans : (x y z : LeastMove State) → IsSooner x y → IsSooner y z → IsSooner x z =
     λ x y z h k. c.order_laws.ensures.before_trans x.total y.total z.total (code_of x) (code_of y) (code_of z) h k in
     let least = front_least IsSooner trans c.args.wanted new c.put_in_order.ensures.order in
     subst (KLeast (λ m. IsIn m items) IsSooner c.args.wanted) (sym result_is)

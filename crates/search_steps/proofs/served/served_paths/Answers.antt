@@ -1,6 +1,5 @@
-use Rattle.std.proofs.Common.{◌≡◌, ◌+◌, [], ap, length, refl, subst, sym, vec_len, ◌∙◌, arith}
+use Rattle.std.proofs.Common.{◌≡◌, ◌+◌, [], length, refl, subst, sym, vec_len, ◌∙◌, arith}
 use Rattle.cheap_moves.proofs.Looking.{got_lt}
-use Rattle.component_table.specs.declared.networks.FareTails.{FareTails}
 use Rattle.component_table.specs.Tails.{AreTailsFrom}
 use Rattle.search_steps.specs.Settling.{AreServed}
 use Rattle.search_steps.proofs.NetworkFacts.{fare_tails_there}

@@ -1,4 +1,4 @@
-use Rattle.std.proofs.Common.{◌⊎◌, false, true, inl, inr, sym, ◌∙◌, subst}
+use Rattle.std.proofs.Common.{false, true, inl, inr, sym, ◌∙◌, subst}
 use Rattle.cheap_moves.proofs.Looking.{on_ok}
 use Rattle.fare_component.specs.Keys.{asked}
 use Rattle.residual_keys.specs.Gathered.{IsPathOf}

@@ -1,8 +1,6 @@
-use Rattle.std.proofs.Common.{map, refl, sym, subst, inl, inr, IfSome, arith}
+use Rattle.std.proofs.Common.{map, refl, sym, subst, inl, inr, arith}
 use Rattle.fare_law.specs.Lists.{AllDifferent, IsIn, KLeast}
-use Rattle.residual_keys.proofs.LeastOne.{in_each, weaken}
-use Rattle.search_steps.specs.Keys.{IsKey}
-use Rattle.search_steps.specs.LeastMoves.{IsSooner, LeaveLive}
+use Rattle.search_steps.specs.LeastMoves.{IsSooner}
 use Rattle.search_steps.proofs.Counting.{codes_differ}
 use Rattle.search_steps.proofs.Sooner.{code_of}
 use Rattle.search_steps.proofs.WithinLimit.{enough_within, no_limit}
@@ -11,47 +9,32 @@ use Rattle.search_steps.proofs.within.least_within.Goals as goal
 pub first_of-requires : goal.first_of-requires
 first_of-requires g c =
     let h = c.in_ok-counted.ensures.counted in
-    subst (λ ms. AllDifferent (map code_of ms)) (sym h.counted_is) (codes_differ (g.B.Bounds.bound c.args.search.now.bounds.now.bounds.now) c.order_laws.ensures.less_never c.order_laws.ensures.less_trans h.found h.are.ascending)
+    subst (λ ms. AllDifferent (map code_of ms)) (sym h.counted_is) (codes_differ (g.B.ResidualBounds.bound c.args.search.now.bounds.now) c.order_laws.ensures.less_never c.order_laws.ensures.less_trans h.found h.are.ascending)
 
 pub first_of-requires-then-is_none : goal.first_of-requires-then-is_none
 first_of-requires-then-is_none g c =
     let h = c.in_ok-counted.ensures.counted in
-    subst (λ ms. AllDifferent (map code_of ms)) (sym h.counted_is) (codes_differ (g.B.Bounds.bound c.args.search.now.bounds.now.bounds.now) c.order_laws.ensures.less_never c.order_laws.ensures.less_trans h.found h.are.ascending)
+    subst (λ ms. AllDifferent (map code_of ms)) (sym h.counted_is) (codes_differ (g.B.ResidualBounds.bound c.args.search.now.bounds.now) c.order_laws.ensures.less_never c.order_laws.ensures.less_trans h.found h.are.ascending)
 
 pub first_of-requires-2 : goal.first_of-requires-2
 first_of-requires-2 g c =
     let h = c.in_ok-whole.ensures.counted in
-    subst (λ ms. AllDifferent (map code_of ms)) (sym h.counted_is) (codes_differ (g.B.Bounds.bound c.args.search.now.bounds.now.bounds.now) c.order_laws.ensures.less_never c.order_laws.ensures.less_trans h.found h.are.ascending)
+    subst (λ ms. AllDifferent (map code_of ms)) (sym h.counted_is) (codes_differ (g.B.ResidualBounds.bound c.args.search.now.bounds.now) c.order_laws.ensures.less_never c.order_laws.ensures.less_trans h.found h.are.ascending)
 
 pub returns-then-len-wanted-clause-least : goal.returns-then-len-wanted-clause-least
 returns-then-len-wanted-clause-least g c =
     let h = c.in_ok-counted.ensures.counted in
-    enough_within c.args.search.now.book.now c.args.search.now.request.now c.args.search.now.residual.now (g.B.Bounds.bound c.args.search.now.bounds.now.bounds.now) c.args.search.now.limit h.found h.are c.args.wanted c.first_of.result (subst (LeaveLive IsKey) h.counted_is c.in_ok-counted.ensures.live)
+    enough_within c.args.search.now.book.now c.args.search.now.request.now c.args.search.now.residual.now (g.B.ResidualBounds.bound c.args.search.now.bounds.now) c.args.search.now.limit h.found h.are c.args.wanted c.first_of.result
     (subst (λ ms. KLeast (λ m. IsIn m ms) IsSooner c.args.wanted c.first_of.result) h.counted_is c.first_of.ensures.least) (inl (c.first_of.ensures.long (omega (arith, c.if-len-wanted.true, c.len.ensures))))
-
-pub returns-then-len-wanted-clause-live : goal.returns-then-len-wanted-clause-live
-returns-then-len-wanted-clause-live g c =
-    weaken (λ m. IsIn m c.in_ok-counted.counted.items) (λ m. IfSome m.next IsKey)
-    (λ m i. in_each (λ n. IfSome n.next IsKey) m c.in_ok-counted.counted.items c.in_ok-counted.ensures.live i) c.first_of.result c.first_of.ensures.least.each
 
 pub returns-then-is_none-clause-least : goal.returns-then-is_none-clause-least
 returns-then-is_none-clause-least g c =
     let h = c.in_ok-counted.ensures.counted in
-    enough_within c.args.search.now.book.now c.args.search.now.request.now c.args.search.now.residual.now (g.B.Bounds.bound c.args.search.now.bounds.now.bounds.now) c.args.search.now.limit h.found h.are c.args.wanted c.first_of-then-is_none.result (subst (LeaveLive IsKey) h.counted_is c.in_ok-counted.ensures.live)
+    enough_within c.args.search.now.book.now c.args.search.now.request.now c.args.search.now.residual.now (g.B.ResidualBounds.bound c.args.search.now.bounds.now) c.args.search.now.limit h.found h.are c.args.wanted c.first_of-then-is_none.result
     (subst (λ ms. KLeast (λ m. IsIn m ms) IsSooner c.args.wanted c.first_of-then-is_none.result) h.counted_is c.first_of-then-is_none.ensures.least) (inr (no_limit c.args.search.now.limit c.is_none.result c.is_none.ensures c.if-is_none.true))
-
-pub returns-then-is_none-clause-live : goal.returns-then-is_none-clause-live
-returns-then-is_none-clause-live g c =
-    weaken (λ m. IsIn m c.in_ok-counted.counted.items) (λ m. IfSome m.next IsKey)
-    (λ m i. in_each (λ n. IfSome n.next IsKey) m c.in_ok-counted.counted.items c.in_ok-counted.ensures.live i) c.first_of-then-is_none.result c.first_of-then-is_none.ensures.least.each
 
 pub returns-clause-least : goal.returns-clause-least
 returns-clause-least g c =
     let h = c.in_ok-whole.ensures.counted in
-    enough_within c.args.search.now.book.now c.args.search.now.request.now c.args.search.now.residual.now (g.B.Bounds.bound c.args.search.now.bounds.now.bounds.now) _ h.found h.are c.args.wanted c.first_of-2.result (subst (LeaveLive IsKey) h.counted_is c.in_ok-whole.ensures.live)
+    enough_within c.args.search.now.book.now c.args.search.now.request.now c.args.search.now.residual.now (g.B.ResidualBounds.bound c.args.search.now.bounds.now) _ h.found h.are c.args.wanted c.first_of-2.result
     (subst (λ ms. KLeast (λ m. IsIn m ms) IsSooner c.args.wanted c.first_of-2.result) h.counted_is c.first_of-2.ensures.least) (inr refl)
-
-pub returns-clause-live : goal.returns-clause-live
-returns-clause-live g c =
-    weaken (λ m. IsIn m c.in_ok-whole.whole.items) (λ m. IfSome m.next IsKey)
-    (λ m i. in_each (λ n. IfSome n.next IsKey) m c.in_ok-whole.whole.items c.in_ok-whole.ensures.live i) c.first_of-2.result c.first_of-2.ensures.least.each

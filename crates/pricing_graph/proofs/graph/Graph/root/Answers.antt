@@ -1,6 +1,6 @@
 use Rattle.std.proofs.Common.{◌∙◌, sym, subst}
 use Rattle.graph_walk.specs.Steps.{rows_of}
-use Rattle.search_steps.specs.contracts.key.KeyPartialEq.TheImpl as key
+use Rattle.residual_table.specs.contracts.key.ResidualKeyPartialEq.TheImpl as key
 use Rattle.search_steps.specs.Keys.{state}
 use Rattle.pricing_graph.specs.NodeSteps.{IsRootNode}
 use Rattle.pricing_graph.proofs.NodePlaces.{some_same}

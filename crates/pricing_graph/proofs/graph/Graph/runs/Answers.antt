@@ -12,7 +12,7 @@ use Rattle.search_steps.specs.Keys.{live, state}
 use Rattle.pricing_graph.specs.DrawnRuns.{HasMoves, IsReadAs, run_of_drawn}
 use Rattle.pricing_graph.specs.Graphs.{IsGraph}
 use Rattle.pricing_graph.specs.NodeSteps.{HasNodeStep}
-use Rattle.pricing_graph.proofs.Keyed.{rows_stay}
+use Rattle.pricing_graph.proofs.Keyed.{rows_stay, still_live}
 use Rattle.pricing_graph.proofs.NodePlaces.{at_within}
 use Rattle.pricing_graph.proofs.RootNode.{graph_stays}
 use Rattle.pricing_graph.proofs.RunsRead.{as_many_nodes}
@@ -23,6 +23,34 @@ best_steps-requires-clause-root g c =
     let nodes = rows_of (state c.root.new.steps) c.args.self.now.rows.entries in
     let is = c.in_ok-root.ensures.node in
     subst (λ n. c.in_ok-root.root < n) (as_many_nodes nodes) (at_within (states nodes) c.in_ok-root.root is.0 is.1)
+
+pub best_steps-requires-clause-ready : goal.best_steps-requires-clause-ready
+best_steps-requires-clause-ready g c =
+    let old = c.args.steps.now in
+    let new = c.root.new.steps in
+    let kept = c.in_ok-root.ensures in
+    let es = c.args.self.now.rows.entries in
+    record {
+      request = subst IsRequest (sym kept.case.request) c.requires.request;
+      alive = still_live (live old) (live new) (state old) (state new) es kept.keeps c.requires.live;
+      graph =
+          graph_stays old.case.book.now new.case.book.now old.case.request.now new.case.request.now (rows_of (state old) es) (rows_of (state new) es) kept.case.book kept.case.request
+          (rows_stay (live old) (live new) (state old) (state new) es kept.keeps c.requires.live) c.requires.graph;
+    }
+
+pub best_steps-requires-clause-laws : goal.best_steps-requires-clause-laws
+best_steps-requires-clause-laws g c =
+    let old = c.args.steps.now in
+    let new = c.root.new.steps in
+    let kept = c.in_ok-root.ensures in
+    let es = c.args.self.now.rows.entries in
+    let b = new.case.book.now in
+    let q = new.case.request.now in
+    let nodes = rows_of (state new) es in
+    let limits : InLimits b = subst InLimits c.case.ensures.book c.book_limits.ensures in
+    let request : IsRequest q = subst IsRequest (sym kept.case.request) c.requires.request in
+    c.node_steps_hold.ensures.laws b q limits request nodes
+    (graph_stays old.case.book.now b old.case.request.now q (rows_of (state old) es) nodes kept.case.book kept.case.request (rows_stay (live old) (live new) (state old) (state new) es kept.keeps c.requires.live) c.requires.graph)
 
 pub runs_of_words-requires : goal.runs_of_words-requires
 runs_of_words-requires g c =

@@ -1,7 +1,7 @@
 use Rattle.std.proofs.Common.{subst, sym}
 use Rattle.fare_law.specs.Lists.{Each}
 use Rattle.search_steps.specs.Numbers.{ArePositionSteps, AreUnitSteps}
-use Rattle.search_steps.specs.Tables.{IsListed, IsUnitList}
+use Rattle.search_steps.specs.Tables.{IsListed}
 use Rattle.search_steps.proofs.numbered_case.NumberedCase.new.Goals as goal
 
 pub invariant_of-result : goal.invariant_of-result
@@ -12,7 +12,6 @@ invariant_of-result c =
     let l = c.new-2.result in (
       record {
         tables = subst (Each (IsListed b q)) (sym c.new.ensures.kept) tt;
-        units = subst (Each (IsUnitList q ts)) (sym c.new.ensures.units) tt;
         network = c.new.ensures.network b q;
       },
       record {

@@ -1,28 +1,32 @@
-use Rattle.std.proofs.Common.{sym, subst}
+use Rattle.std.proofs.Common.{sym}
+use Rattle.std.specs.Borrow.{Bor}
 use Rattle.std.proofs.lemmas.Result.{IfErr-weaker, IfOk-weaker}
+use Rattle.fare_law.specs.declared.requests.Request.{Request}
+use Rattle.fare_law.specs.Book.{Book}
 use Rattle.graph_walk.specs.Steps.{ExceedsIf, rows_of}
 use Rattle.graph_walk.specs.Walks.{AreLeast, AreReached, IsShort, Reached, states}
-use Rattle.residual_keys.specs.Residuals.{State}
-use Rattle.search_steps.specs.declared.case.Case.{Case as CaseData}
-use Rattle.search_steps.specs.Keys.{residual_of}
+use Rattle.residual_table.specs.Keys.{residual_at}
 use Rattle.search_steps.specs.Leads.{leads_of, level_of}
 use Rattle.search_steps.proofs.RowsByNumber.{said}
 use Rattle.search_steps.proofs.numbered_case.NumberedCase.reached.Goals as goal
 
-pub reached_from-requires-clause-short : goal.reached_from-requires-clause-short
-reached_from-requires-clause-short c =
-    said (λ (k : CaseData) (x : State). IsShort (leads_of k.book.now k.request.now) level_of x) c.args.self.now.case c.key.new.self.case c.args.root.now _ (sym c.key.ensures.same) (sym c.in-Ok.ensures.stands) c.requires.short
+pub walk-requires-clause-short : goal.walk-requires-clause-short
+walk-requires-clause-short c =
+    said (λ (b : Bor Book) (q : Bor Request). IsShort (leads_of b.now q.now) level_of (residual_at c.args.self.now.numbers c.args.root)) _ _ _ _ (sym c.case-case.ensures.book) (sym c.case-case.ensures.request) c.requires.short
 
-pub returns-in-Ok-clause-reached : goal.returns-in-Ok-clause-reached
-returns-in-Ok-clause-reached c =
-    IfOk-weaker c.reached_from.result _ _
-    (λ m h. said (λ (k : CaseData) (x : State). AreReached (leads_of k.book.now k.request.now) x (states (rows_of residual_of m.entries))) c.key.new.self.case c.args.self.now.case _ c.args.root.now c.key.ensures.same c.in-Ok.ensures.stands h) c.reached_from.ensures.reached
+pub returns-clause-reached : goal.returns-clause-reached
+returns-clause-reached c =
+    let x = residual_at c.args.self.now.numbers c.args.root in
+    IfOk-weaker c.walk.result _ _
+    (λ rows h. said (λ (b : Bor Book) (q : Bor Request). AreReached (leads_of b.now q.now) x (states (rows_of (residual_at c.walk.new.steps.numbers) rows.entries))) _ _ _ _ c.case-case.ensures.book c.case-case.ensures.request h) c.walk.ensures.reached
 
-pub returns-in-Ok-clause-least : goal.returns-in-Ok-clause-least
-returns-in-Ok-clause-least c =
-    IfOk-weaker c.reached_from.result _ _ (λ m h. subst (λ (k : CaseData). AreLeast (leads_of k.book.now k.request.now) (rows_of residual_of m.entries)) c.key.ensures.same h) c.reached_from.ensures.least
+pub returns-clause-least : goal.returns-clause-least
+returns-clause-least c =
+    IfOk-weaker c.walk.result _ _
+    (λ rows h. said (λ (b : Bor Book) (q : Bor Request). AreLeast (leads_of b.now q.now) (rows_of (residual_at c.walk.new.steps.numbers) rows.entries)) _ _ _ _ c.case-case.ensures.book c.case-case.ensures.request h) c.walk.ensures.least
 
-pub returns-in-Ok-clause-large : goal.returns-in-Ok-clause-large
-returns-in-Ok-clause-large c =
-    IfErr-weaker c.reached_from.result _ _
-    (λ fault h. said (λ (k : CaseData) (x : State). ExceedsIf (Reached (leads_of k.book.now k.request.now) x) c.args.budget fault) c.key.new.self.case c.args.self.now.case _ c.args.root.now c.key.ensures.same c.in-Ok.ensures.stands h) c.reached_from.ensures.large
+pub returns-clause-large : goal.returns-clause-large
+returns-clause-large c =
+    let x = residual_at c.args.self.now.numbers c.args.root in
+    IfErr-weaker c.walk.result _ _
+    (λ fault h. said (λ (b : Bor Book) (q : Bor Request). ExceedsIf (Reached (leads_of b.now q.now) x) c.args.budget fault) _ _ _ _ c.case-case.ensures.book c.case-case.ensures.request h) c.walk.ensures.large

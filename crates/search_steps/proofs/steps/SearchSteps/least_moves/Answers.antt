@@ -1,37 +1,31 @@
-use Rattle.std.proofs.Common.{map, sym, subst, IfSome}
-use Rattle.fare_law.specs.Lists.{AllDifferent, IsIn, KLeast}
+use Rattle.std.proofs.Common.{map, sym, subst}
+use Rattle.std.specs.Borrow.{Bor}
+use Rattle.std.proofs.lemmas.Result.{IfOk-weaker}
+use Rattle.fare_law.specs.declared.requests.Request.{Request}
+use Rattle.fare_law.specs.Book.{Book}
+use Rattle.residual_keys.specs.Residuals.{State}
 use Rattle.residual_keys.specs.Steps.{AreMoves}
-use Rattle.residual_keys.proofs.LeastOne.{in_each, weaken}
-use Rattle.search_steps.specs.declared.case.Case.{Case}
-use Rattle.search_steps.specs.Keys.{IsKey}
-use Rattle.search_steps.specs.LeastMoves.{IsSooner, LeaveLive}
-use Rattle.search_steps.proofs.Counting.{are_least, codes_differ}
-use Rattle.search_steps.proofs.Sooner.{code_of}
+use Rattle.residual_table.specs.Keys.{IsLive, residual_at}
+use Rattle.search_steps.specs.LeastMoves.{AreLeastMoves, BoundBy, LeaveLive, least_as}
+use Rattle.search_steps.specs.Numbers.{Numbered}
+use Rattle.search_steps.proofs.RowsByNumber.{said}
 use Rattle.search_steps.proofs.steps.SearchSteps.least_moves.Goals as goal
 
-pub first_of-requires : goal.first_of-requires
-first_of-requires g c =
-    let b = c.args.self.now.case.book.now in
-    let q = c.args.self.now.case.request.now in
-    let x = c.args.key.residual in
-    let found = c.as_slice.result.now in
-    let moves : AreMoves b q x found = subst (AreMoves b q x) (sym c.as_slice.ensures) (subst (λ (k : Case). AreMoves k.book.now k.request.now x c.in_ok-found.found) c.case-case.ensures c.in_ok-found.ensures.moves) in
-    subst (λ ms. AllDifferent (map code_of ms)) (sym c.in_ok-counted.ensures.counted)
-    (codes_differ (g.B.Bounds.bound c.args.bounds.now) c.order_laws.ensures.less_never c.order_laws.ensures.less_trans found moves.ascending)
+pub returns-then-from-len-clause-least : goal.returns-then-from-len-clause-least
+returns-then-from-len-clause-least g c =
+    let s = c.args.self.now.case in
+    let Bound = BoundBy (IsLive s.numbers) (residual_at s.numbers) (g.B.Bounds.bound c.args.bounds.now) in
+    IfOk-weaker c.least_moves.result _ _
+    (λ ms h. said (λ (x : State) (n : Numbered). AreLeastMoves s.book.now s.request.now Bound x c.args.wanted (map (least_as (residual_at n.numbers)) ms)) _ _ s c.least_moves.new.self c.residual-residual.ensures.state (sym c.least_moves.ensures.same) h) c.least_moves.ensures.least
+
+pub returns-then-from-len-clause-live : goal.returns-then-from-len-clause-live
+returns-then-from-len-clause-live g c = IfOk-weaker c.least_moves.result _ _ (λ ms h. subst (λ (n : Numbered). LeaveLive (IsLive n.numbers) ms) (sym c.least_moves.ensures.same) h) c.least_moves.ensures.live
 
 pub returns-clause-least : goal.returns-clause-least
 returns-clause-least g c =
-    let b = c.args.self.now.case.book.now in
-    let q = c.args.self.now.case.request.now in
-    let x = c.args.key.residual in
-    let found = c.as_slice.result.now in
-    let bound = g.B.Bounds.bound c.args.bounds.now in
-    let moves : AreMoves b q x found = subst (AreMoves b q x) (sym c.as_slice.ensures) (subst (λ (k : Case). AreMoves k.book.now k.request.now x c.in_ok-found.found) c.case-case.ensures c.in_ok-found.ensures.moves) in
-    let counted_is = c.in_ok-counted.ensures.counted in
-    are_least b q x bound found moves c.args.wanted c.first_of.result (subst (LeaveLive IsKey) counted_is c.in_ok-counted.ensures.live)
-    (subst (λ ms. KLeast (λ m. IsIn m ms) IsSooner c.args.wanted c.first_of.result) counted_is c.first_of.ensures.least)
-
-pub returns-clause-live : goal.returns-clause-live
-returns-clause-live g c =
-    weaken (λ m. IsIn m c.in_ok-counted.counted.items) (λ m. IfSome m.next IsKey)
-    (λ m i. in_each (λ n. IfSome n.next IsKey) m c.in_ok-counted.counted.items c.in_ok-counted.ensures.live i) c.first_of.result c.first_of.ensures.least.each
+    let s = c.args.self.now.case in
+    let x = c.residual-residual.result in
+    let Bound = BoundBy (IsLive s.numbers) (residual_at s.numbers) (g.B.Bounds.bound c.args.bounds.now) in
+    let moves = said (λ (b : Bor Book) (q : Bor Request). AreMoves b.now q.now x c.in_ok-found.found) _ _ _ _ c.case-case.ensures.book c.case-case.ensures.request c.in_ok-found.ensures.moves in
+    let told = subst (AreMoves s.book.now s.request.now x) (sym c.as_slice.ensures) moves in
+    IfOk-weaker c.least_among.result _ _ (λ ms h. subst (λ (y : State). AreLeastMoves s.book.now s.request.now Bound y c.args.wanted (map (least_as (residual_at s.numbers)) ms)) c.residual-residual.ensures.state (h x told)) c.least_among.ensures.least

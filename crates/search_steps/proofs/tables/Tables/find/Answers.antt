@@ -1,5 +1,5 @@
 use Rattle.std.proofs.Common.{arith}
-use Rattle.search_steps.proofs.Kept.{keeps_pushed, table_last, tables_more, units_stay}
+use Rattle.search_steps.proofs.Kept.{keeps_pushed, table_last, tables_more}
 use Rattle.search_steps.proofs.tables.Tables.find.Goals as goal
 
 pub returns-clause-right : goal.returns-clause-right
@@ -11,7 +11,6 @@ returns-clause-right c =
     let right = c.requires.right in
     record {
       tables = tables_more b q old.kept.items kept c.in_ok-table.table c.in_ok-push.ensures.items right.tables c.in_ok-table.ensures.listed;
-      units = units_stay q old.kept.items kept c.in_ok-table.table old.units.items c.in_ok-push.ensures.items right.units;
       network = c.table_with_lists.ensures.network;
     }
 
