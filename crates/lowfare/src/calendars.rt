@@ -9,28 +9,27 @@ ghost use Rattle.lowfare.specs.Makes.{IsEnd, Makes};
 ghost use Rattle.program_words.specs.declared.commands.Command.TheVariants.{Calendar};
 
 use crate::Status;
+use crate::cases::calendar_case;
 use crate::outcomes::{Outcome, refused};
 use fare_calendar::{CalendarFault, Cell, Spans, calendar, push_calendar};
 use fare_law::{List, Mem};
 use std::alloc::Global;
-use whole_case::{
-    CalendarCase, LoadFault, load_calendar_case, spelled_calendars_fit, spelled_requests_are_right,
-};
+use whole_case::{CalendarCase, LoadFault, spelled_calendars_fit, spelled_requests_are_right};
 
 /// What a calendar makes of the bytes of its input: for each pair of days the price of the best ticket, that there is
 /// none, or that more residuals are reached than the budget; or the first refusal.
 pub(crate) fn days_priced(
     alloc: Global,
-    bytes: &[u8],
+    bytes: List<u8>,
     spans: Spans,
     budget: u32,
     at: Option<u32>,
 ) -> Result<Outcome, Mem>
-    requires { length bytes.now ≤ most_bytes }
-    ensures makes { IfOk result (λ o. Makes (Calendar spans.outs spans.backs budget at) bytes.now o.status o.text) }
+    requires { length bytes ≤ most_bytes }
+    ensures makes { IfOk result (λ o. Makes (Calendar spans.outs spans.backs budget at) bytes o.status o.text) }
     ensures ends { IfOk result (λ o. IsEnd o.status) }
 {
-    let found = match load_calendar_case(alloc, bytes, spans.outs, spans.backs, at) {
+    let found = match calendar_case(alloc, bytes, spans, at) {
         Ok(found) => found,
         Err(LoadFault::Refused(refusal)) => return refused(alloc, &refusal),
         Err(LoadFault::Mem) => return Err(Mem),

@@ -4,11 +4,12 @@ ghost use Rattle.std.specs.Prelude.{◌≡◌, ◌≤◌, length, IfOk, IfSome};
 ghost use Rattle.lowfare.specs.Inputs.{most_bytes};
 ghost use Rattle.lowfare.specs.Answered.{ComesTo};
 
+use crate::cases::search_case;
 use fare_component::Plain;
-use fare_law::Mem;
+use fare_law::{List, Mem};
 use search_core::{Answer, SearchFault, search};
 use std::alloc::Global;
-use whole_case::{LoadFault, Refusal, SearchCase, load_search_case, spelled_requests_are_right};
+use whole_case::{LoadFault, Refusal, SearchCase, spelled_requests_are_right};
 
 /// What the search of a case comes to.
 #[derive(Drop)]
@@ -24,16 +25,16 @@ pub(crate) enum Searched {
 /// Searches the case that the bytes spell.
 pub(crate) fn search_of(
     alloc: Global,
-    bytes: &[u8],
+    bytes: List<u8>,
     best: Option<u16>,
     budget: u32,
     at: Option<u32>,
 ) -> Result<Searched, Mem>
     requires best { IfSome best (IsInRange 1 1000) }
-    requires fits { length bytes.now ≤ most_bytes }
-    ensures { IfOk result (ComesTo best budget at bytes.now) }
+    requires fits { length bytes ≤ most_bytes }
+    ensures { IfOk result (ComesTo best budget at bytes) }
 {
-    let found = match load_search_case(alloc, bytes, best, at) {
+    let found = match search_case(alloc, bytes, best, at) {
         Ok(found) => found,
         Err(LoadFault::Refused(refusal)) => return Ok(no_case(&refusal)),
         Err(LoadFault::Mem) => return Err(Mem),

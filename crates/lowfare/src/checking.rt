@@ -7,28 +7,29 @@ ghost use Rattle.lowfare.specs.Makes.{IsEnd, Makes};
 ghost use Rattle.program_words.specs.declared.commands.Command.TheVariants.{Check};
 
 use crate::Status;
+use crate::cases::check_case;
 use crate::limits::tell_limits;
 use crate::outcomes::{Outcome, refused};
 use certificate::yes_is_best;
 use certificate_check::{Verdict, check};
 use fare_law::{List, Mem};
 use std::alloc::Global;
-use whole_case::{LoadFault, load_check_case, spelled_requests_are_right};
+use whole_case::{LoadFault, spelled_requests_are_right};
 
 /// What a check makes of the bytes of its input: whether the certificate of their case meets the checks, the
 /// first that it fails with the place, or the first refusal.
 pub(crate) fn checked(
     alloc: Global,
-    bytes: &[u8],
+    bytes: List<u8>,
     best: Option<u16>,
     at: Option<u32>,
 ) -> Result<Outcome, Mem>
     requires best { IfSome best (IsInRange 1 1000) }
-    requires fits { length bytes.now ≤ most_bytes }
-    ensures makes { IfOk result (λ o. Makes (Check best at) bytes.now o.status o.text) }
+    requires fits { length bytes ≤ most_bytes }
+    ensures makes { IfOk result (λ o. Makes (Check best at) bytes o.status o.text) }
     ensures ends { IfOk result (λ o. IsEnd o.status) }
 {
-    let found = match load_check_case(alloc, bytes, best, at) {
+    let found = match check_case(alloc, bytes, best, at) {
         Ok(found) => found,
         Err(LoadFault::Refused(refusal)) => return refused(alloc, &refusal),
         Err(LoadFault::Mem) => return Err(Mem),

@@ -5,6 +5,7 @@
 
 mod calendars;
 mod case_search;
+mod cases;
 mod checking;
 mod inputs;
 mod laws;

@@ -33,7 +33,7 @@ pub(crate) fn made(alloc: Global, seed: u32, size: u8, is_summary: bool) -> Resu
     made_cases_are_short();
     let text = make(alloc, seed, u32::from(size))?;
     if is_summary {
-        summarized(alloc, seed, size, text.as_slice())
+        summarized(alloc, seed, size, text)
     } else {
         Ok(Outcome {
             status: Status::Done,
@@ -43,9 +43,9 @@ pub(crate) fn made(alloc: Global, seed: u32, size: u8, is_summary: bool) -> Resu
 }
 
 /// What a search of the made case comes to.
-fn summarized(alloc: Global, seed: u32, size: u8, bytes: &[u8]) -> Result<Outcome, Mem>
-    requires made { bytes.now ≡ made_case seed size }
-    requires fits { length bytes.now ≤ most_bytes }
+fn summarized(alloc: Global, seed: u32, size: u8, bytes: List<u8>) -> Result<Outcome, Mem>
+    requires made { bytes ≡ made_case seed size }
+    requires fits { length bytes ≤ most_bytes }
     ensures makes { IfOk result (λ o. MakesCase seed size true o.status o.text) }
     ensures ends { IfOk result (λ o. IsEnd o.status) }
 {

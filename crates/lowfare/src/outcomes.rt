@@ -24,12 +24,12 @@ pub(crate) struct Outcome {
     pub text: List<u8>,
 }
 
-/// What a command makes of the bytes of its input, any but `serve`.
-pub(crate) fn outcome_of(alloc: Global, command: &Command, bytes: &[u8]) -> Result<Outcome, Mem>
+/// What a command makes of the bytes of its input, any but `serve`. They are let go once their case is read.
+pub(crate) fn outcome_of(alloc: Global, command: &Command, bytes: List<u8>) -> Result<Outcome, Mem>
     requires run { IsRun command.now }
     requires range { HasRange command.now }
-    requires fits { length bytes.now ≤ most_bytes }
-    ensures makes { IfOk result (λ o. Makes command.now bytes.now o.status o.text) }
+    requires fits { length bytes ≤ most_bytes }
+    ensures makes { IfOk result (λ o. Makes command.now bytes o.status o.text) }
     ensures ends { IfOk result (λ o. IsEnd o.status) }
 {
     match *command {

@@ -51,7 +51,7 @@ pub fn run<S: Source, K: Sink>(
         Err(InFault::TooLong) => return finish(sink, TOO_LONG, Status::TooLong),
         Err(InFault::Mem) => return Status::OutOfMemory,
     };
-    match outcome_of(alloc, &command, bytes.as_slice()) {
+    match outcome_of(alloc, &command, bytes) {
         Ok(made) => finish(sink, made.text.as_slice(), made.status),
         Err(Mem) => Status::OutOfMemory,
     }

@@ -23,14 +23,14 @@ use whole_case::SearchCase;
 /// residuals are reached than the budget; or the first refusal.
 pub(crate) fn searched(
     alloc: Global,
-    bytes: &[u8],
+    bytes: List<u8>,
     best: Option<u16>,
     budget: u32,
     at: Option<u32>,
 ) -> Result<Outcome, Mem>
     requires best { IfSome best (IsInRange 1 1000) }
-    requires fits { length bytes.now ≤ most_bytes }
-    ensures makes { IfOk result (λ o. Makes (Search best budget at) bytes.now o.status o.text) }
+    requires fits { length bytes ≤ most_bytes }
+    ensures makes { IfOk result (λ o. Makes (Search best budget at) bytes o.status o.text) }
     ensures ends { IfOk result (λ o. IsEnd o.status) }
 {
     let searched = search_of(alloc, bytes, best, budget, at)?;

@@ -15,7 +15,7 @@ use crate::program::{TOO_LONG, USAGE, finish};
 use crate::service::case_served;
 use crate::words::asked_to_serve;
 use fare_io::{InFault, Sink, Source};
-use fare_law::{Gate, Mem};
+use fare_law::{Gate, List, Mem};
 use program_words::{Command, WordsFault};
 use std::alloc::Global;
 use std::sync::Wait;
@@ -63,7 +63,7 @@ where
         Err(InFault::TooLong) => return finish(sink, TOO_LONG, Status::TooLong),
         Err(InFault::Mem) => return Status::OutOfMemory,
     };
-    match outcome_of_serve(rt, alloc, &command, bytes.as_slice(), gate) {
+    match outcome_of_serve(rt, alloc, &command, bytes, gate) {
         Ok(made) => finish(sink, made.text.as_slice(), made.status),
         Err(Mem) => Status::OutOfMemory,
     }
@@ -74,7 +74,7 @@ fn outcome_of_serve<G, R>(
     rt: &R,
     alloc: Global,
     command: &Command,
-    bytes: &[u8],
+    bytes: List<u8>,
     gate: &G,
 ) -> Result<Outcome, Mem>
 where
@@ -82,8 +82,8 @@ where
     R: Threads + Wait + Sync,
     requires serve { IsServe command.now }
     requires range { HasRange command.now }
-    requires fits { length bytes.now ≤ most_bytes }
-    ensures makes { IfOk result (λ o. Makes command.now bytes.now o.status o.text) }
+    requires fits { length bytes ≤ most_bytes }
+    ensures makes { IfOk result (λ o. Makes command.now bytes o.status o.text) }
     ensures ends { IfOk result (λ o. IsEnd o.status) }
 {
     match *command {

@@ -11,21 +11,22 @@ ghost use Rattle.program_words.specs.declared.commands.Command.TheVariants.{Serv
 ghost use Rattle.script_text.specs.Script.{IsScript};
 
 use crate::Status;
+use crate::cases::serve_case;
 use crate::outcomes::{Outcome, refused};
 use crate::workloads::work_of;
-use fare_law::{Gate, Mem};
+use fare_law::{Gate, List, Mem};
 use serving::served;
 use std::alloc::Global;
 use std::sync::Wait;
 use std::thread::Threads;
-use whole_case::{LoadFault, ServeCase, load_serve_case, spelled_asks_are_right};
+use whole_case::{LoadFault, ServeCase, spelled_asks_are_right};
 
 /// What `serve` makes of the bytes of its input: the history and the replies of a serving run of their case, or the
 /// first refusal.
 pub(crate) fn case_served<G, R>(
     rt: &R,
     alloc: Global,
-    bytes: &[u8],
+    bytes: List<u8>,
     best: Option<u16>,
     budget: u32,
     gate: &G,
@@ -34,11 +35,11 @@ where
     G: Gate + Sync,
     R: Threads + Wait + Sync,
     requires best { IfSome best (IsInRange 1 1000) }
-    requires fits { length bytes.now ≤ most_bytes }
-    ensures makes { IfOk result (λ o. Makes (Serve best budget) bytes.now o.status o.text) }
+    requires fits { length bytes ≤ most_bytes }
+    ensures makes { IfOk result (λ o. Makes (Serve best budget) bytes o.status o.text) }
     ensures ends { IfOk result (λ o. IsEnd o.status) }
 {
-    let found = match load_serve_case(alloc, bytes, best) {
+    let found = match serve_case(alloc, bytes, best) {
         Ok(found) => found,
         Err(LoadFault::Refused(refusal)) => return refused(alloc, &refusal),
         Err(LoadFault::Mem) => return Err(Mem),

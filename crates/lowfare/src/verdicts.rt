@@ -8,22 +8,23 @@ ghost use Rattle.lowfare.specs.Verdicts as Verdicts;
 ghost use Rattle.program_words.specs.declared.commands.Command.TheVariants.{Verdict};
 
 use crate::Status;
+use crate::cases::verdict_case;
 use crate::limits::tell_limits;
 use crate::outcomes::{Outcome, refused};
 use fare_law::{List, Mem};
 use fare_verdict::{Finding, push_findings_text, verdict};
 use std::alloc::Global;
 use ticket_whole::price;
-use whole_case::{LoadFault, VerdictCase, load_verdict_case, spelled_requests_are_right};
+use whole_case::{LoadFault, VerdictCase, spelled_requests_are_right};
 
 /// What a verdict makes of the bytes of its input: that the ticket of their case is lawful, with its price; all its
 /// breaches; or the first refusal.
-pub(crate) fn ticket_judged(alloc: Global, bytes: &[u8], at: Option<u32>) -> Result<Outcome, Mem>
-    requires { length bytes.now ≤ most_bytes }
-    ensures makes { IfOk result (λ o. Makes (Verdict at) bytes.now o.status o.text) }
+pub(crate) fn ticket_judged(alloc: Global, bytes: List<u8>, at: Option<u32>) -> Result<Outcome, Mem>
+    requires { length bytes ≤ most_bytes }
+    ensures makes { IfOk result (λ o. Makes (Verdict at) bytes o.status o.text) }
     ensures ends { IfOk result (λ o. IsEnd o.status) }
 {
-    let found = match load_verdict_case(alloc, bytes, at) {
+    let found = match verdict_case(alloc, bytes, at) {
         Ok(found) => found,
         Err(LoadFault::Refused(refusal)) => return refused(alloc, &refusal),
         Err(LoadFault::Mem) => return Err(Mem),

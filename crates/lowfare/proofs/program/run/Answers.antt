@@ -35,8 +35,7 @@ returns-in-Ok-outcome_of-clause-says g c =
       asked = c.in-Ok.ensures.line;
       bytes = c.in-Ok-input_of.bytes;
       input = c.in-Ok-input_of.ensures.input;
-      made = subst (λ (t : List ℕ). Makes c.in-Ok.command c.in-Ok-input_of.bytes o.status t) (sym c.as_slice-in-Ok-outcome_of.ensures)
-          (subst (λ (bs : List ℕ). Makes c.in-Ok.command bs o.status o.text) c.as_slice.ensures c.in-Ok-outcome_of.ensures.makes);
+      made = subst (λ (t : List ℕ). Makes c.in-Ok.command c.in-Ok-input_of.bytes o.status t) (sym c.as_slice.ensures) c.in-Ok-outcome_of.ensures.makes;
     })) c.finish-in-Ok-outcome_of.ensures.whole c.finish-in-Ok-outcome_of.ensures.front c.finish-in-Ok-outcome_of.ensures.cause
 
 pub returns-in-Ok-outcome_of-clause-complete : goal.returns-in-Ok-outcome_of-clause-complete

@@ -11,15 +11,15 @@ use Rattle.lowfare.proofs.service.case_served.Goals as goal
 pub returns-in-Err-Refused-clause-makes : goal.returns-in-Err-Refused-clause-makes
 returns-in-Err-Refused-clause-makes g c =
     let text : IfOk c.refused.result (λ o. o.text ≡ refusal_text c.in-Err-Refused.refusal) = search rules in
-    refused_ends (serve_case c.args.best c.args.bytes.now) (Makes (Serve c.args.best c.args.budget) c.args.bytes.now) (λ t h. h)
+    refused_ends (serve_case c.args.best c.args.bytes) (Makes (Serve c.args.best c.args.budget) c.args.bytes) (λ t h. h)
     c.refused.result c.in-Err-Refused.field-0 c.in-Err-Refused.refusal c.in-Err-Refused.ensures.case c.in-Err-Refused.field-0-is c.refused.ensures.status text
 
 -- the run is told
 pub returns-clause-makes : goal.returns-clause-makes
 returns-clause-makes g c =
-    served_made c.args.best c.args.budget c.args.bytes.now c.served_case.result c.in-Ok.found c.in-Ok.ensures.case c.served_case.ensures.status c.served_case.ensures.text
+    served_made c.args.best c.args.budget c.args.bytes c.served_case.result c.in-Ok.found c.in-Ok.ensures.case c.served_case.ensures.status c.served_case.ensures.text
 
 -- the requests of a case that is spelled are right
 pub served_case-requires-clause-asks : goal.served_case-requires-clause-asks
 served_case-requires-clause-asks g c κs within =
-    c.spelled_asks_are_right.ensures c.args.best c.args.bytes.now c.in-Ok.found c.requires.best c.in-Ok.ensures.case
+    c.spelled_asks_are_right.ensures c.args.best c.args.bytes c.in-Ok.found c.requires.best c.in-Ok.ensures.case
