@@ -8,7 +8,7 @@ use fare_law::{FlightRow, List, Mem, PlaceRow, SeatRow, TextLine};
 use std::alloc::Global;
 
 /// The rows and lines of a case by their sections. A section that the kind of case doesn't have is
-/// empty. Filings and requests are read where they stand in the text.
+/// empty. Filings, requests and certificates are read where they stand in the text.
 #[derive(Debug, Drop)]
 pub struct Case<'a> {
     pub places: List<PlaceRow>,
@@ -18,7 +18,7 @@ pub struct Case<'a> {
     pub later: List<CaseLine<'a>>,
     pub requests: List<CaseLine<'a>>,
     pub script: List<TextLine>,
-    pub certificate: List<TextLine>,
+    pub certificate: List<CaseLine<'a>>,
     pub ticket: List<TextLine>,
     /// The line of `#end`.
     pub end: u32,
@@ -85,7 +85,7 @@ impl<'a> Case<'a> {
             Header::Later => self.later.push(line),
             Header::Request => self.requests.push(line),
             Header::Script => self.script.push(line.owned(alloc)?),
-            Header::Certificate => self.certificate.push(line.owned(alloc)?),
+            Header::Certificate => self.certificate.push(line),
             Header::Ticket => self.ticket.push(line.owned(alloc)?),
             _ => Ok(()),
         }

@@ -10,8 +10,8 @@ use crate::CertFault;
 use crate::laws::one_reading;
 use crate::lists::{answers, rows};
 use crate::unread::Lines;
+use case_text::CaseLine;
 use certificate::Certificate;
-use fare_law::TextLine;
 use std::alloc::Global;
 
 /// The certificate whose text the bytes are, or the first line at fault, from 1. A certificate within
@@ -41,7 +41,11 @@ pub fn read_cert(alloc: Global, bytes: &[u8]) -> Result<Certificate, CertFault>
 /// The certificate whose lines these are, or the first line at fault, as `read_cert` names it. Lines
 /// have the numbers that they have in their case; a missing line has the number `end`, that of the
 /// case's line `#end`.
-pub fn read_case_cert(alloc: Global, lines: &[TextLine], end: u32) -> Result<Certificate, CertFault>
+pub fn read_case_cert(
+    alloc: Global,
+    lines: &[CaseLine<'_>],
+    end: u32,
+) -> Result<Certificate, CertFault>
     ensures lines { IfOk result (λ c. CertLines c lines.now) }
     ensures limits { IfOk result IsCertificate }
     ensures fault { IfErr result (FaultFrom Due.Head (Numbered lines.now end)) }

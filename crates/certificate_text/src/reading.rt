@@ -32,7 +32,7 @@ impl<'a> Lines<'a> {
                 let [first, lines @ ..] = lines else {
                     return None;
                 };
-                Some((first.bytes.as_slice(), Lines::Numbered { lines, end }))
+                Some((first.bytes(), Lines::Numbered { lines, end }))
             }
         }
     }
@@ -54,7 +54,7 @@ impl<'a> Lines<'a> {
         match self {
             Lines::Text { number, .. } => number,
             Lines::Numbered { lines, end } => match lines {
-                [first, ..] => first.line,
+                [first, ..] => first.line(),
                 [] => end,
             },
         }

@@ -23,7 +23,7 @@ pub struct AskedCase<'a> {
     pub line: u32,
     pub filings: List<CaseLine<'a>>,
     pub ticket: List<TextLine>,
-    pub certificate: List<TextLine>,
+    pub certificate: List<CaseLine<'a>>,
     /// The line of `#end`.
     pub end: u32,
 }

@@ -6,15 +6,16 @@ ghost use Rattle.whole_case.specs.Stages.{Reads};
 
 use crate::LoadFault;
 use crate::reasons::of_certificate;
+use case_text::CaseLine;
 use certificate::Certificate;
 use certificate_text::read_case_cert;
-use fare_law::{List, TextLine};
+use fare_law::List;
 use std::alloc::Global;
 
 /// The certificate whose lines these are. A missing line has the number `end`.
 pub fn certificate_in(
     alloc: Global,
-    lines: &List<TextLine>,
+    lines: &List<CaseLine<'_>>,
     end: u32,
 ) -> Result<Certificate, LoadFault>
     ensures certificate { Reads result (Certificates.certificate_in lines.now end) }
