@@ -6,7 +6,6 @@ ghost use Rattle.schedule_book.specs.Departures.{AreDepartures, Indexes, origin_
 
 use fare_law::{Flight, Mem, Place};
 use std::alloc::Global;
-use std::cmp::Ordering;
 
 /// The origins of flights in order, each with the flight's number, and the numbers alone.
 #[derive(Drop)]
@@ -75,13 +74,19 @@ fn position(keys: &[(Place, u32)], place: Place, number: u32) -> usize
     keys.partition_point(|key| is_before(key, place, number))
 }
 
-/// Whether a key comes before a place and a number.
+/// Whether a key comes before a place and a number. Letters are compared one by one, which is faster than as lists.
 fn is_before(key: &(Place, u32), place: Place, number: u32) -> bool
     ensures { result ≡ is_lt (origin_cmp key.now (place, number)) }
 {
-    match key.0.cmp(&place) {
-        Ordering::Less => true,
-        Ordering::Equal => key.1 < number,
-        Ordering::Greater => false,
+    let [a, b, c] = key.0.0;
+    let [d, e, f] = place.0;
+    if a != d {
+        a < d
+    } else if b != e {
+        b < e
+    } else if c != f {
+        c < f
+    } else {
+        key.1 < number
     }
 }
