@@ -1,3 +1,4 @@
+pub mod Hashing
 pub mod OpenUnits
 pub mod Ranges
 pub mod Readings

@@ -4,6 +4,7 @@
 #![tactic(auto)]
 
 mod fares;
+mod hashing;
 mod joined;
 mod kinds;
 mod marks;

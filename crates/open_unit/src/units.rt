@@ -8,7 +8,7 @@ use fare_law::Place;
 use rule_unit::UnitDemand;
 
 /// What is kept of a unit that is open. Ordered field by field, absent before present.
-#[derive(Clone, Copy, PartialEq, Eq, PartialOrd, Ord, Hash, Debug)]
+#[derive(Clone, Copy, PartialEq, Eq, PartialOrd, Ord, Debug)]
 pub struct OpenUnit {
     /// Where its first component begins and its last one so far ends.
     pub origin: Place,
