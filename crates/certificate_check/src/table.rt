@@ -43,7 +43,7 @@ fn bounds_of(
     ensures bounds { IfOk result (λ bounds. HasRows steps.new bounds.entries rows.now) }
     ensures later { IsLater steps.old steps.new }
 {
-    let mut bounds = IndexMap::new(alloc);
+    let mut bounds = IndexMap::with_capacity(alloc, rows.len())?;
     for row in rows {
         let key = steps.key_of(row.residual)?;
         steps.keys_tell();
