@@ -1,5 +1,5 @@
 -- Walks over states: what is reached, what runs cost, the least of it. A relation L says of a state what a move leaves (none: the end) and its price.
-use Rattle.std.specs.Prelude.{◌≡◌, ◌↔◌, ℕ, ◌+◌, ◌<◌, ◌≤◌, List, [], ◌∷◌, length, Option, Some, None}
+use Rattle.std.specs.Prelude.{◌≡◌, ◌↔◌, ℕ, ◌+◌, ◌<◌, ◌≤◌, List, [], ◌∷◌, Option, Some, None}
 use Rattle.fare_law.specs.Lists.{AllDifferent, Each, IsIn}
 
 -- reached from the root by moves

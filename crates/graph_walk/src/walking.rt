@@ -71,7 +71,7 @@ fn least_from<K: Hash + Eq + Copy, C, S: Steps<K, C>>(
     if rows.len() >= budget as usize {
         return Err(WalkFault::TooLarge);
     }
-    put(rows, key, None)?;
+    let place = put(rows, rows.len(), key, None)?;
     let outcomes = steps.outcomes(alloc, context, key)?;
     let mut least = None;
     for outcome in outcomes.as_slice() {
@@ -81,6 +81,6 @@ fn least_from<K: Hash + Eq + Copy, C, S: Steps<K, C>>(
         };
         least = lesser(least, rest, outcome.price);
     }
-    put(rows, key, least)?;
+    put(rows, place, key, least)?;
     Ok(least)
 }

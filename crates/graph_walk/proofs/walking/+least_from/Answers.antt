@@ -74,7 +74,7 @@ loop-outcome-init g t c =
     let s1 = c.outcomes.new.self in
     let es1 = c.put.new.rows.entries in
     let none = missing eq (live s0) (state s0) c.requires.tells key es0 c.requires.live c.requires.alive (sym c.in_default.ensures) in
-    let is = c.in_ok-put.ensures.puts in
+    let is = c.in_ok-place.ensures.puts in
     let alive = subst (λ rows. AreLive (live s0) rows) (sym is) (live_set eq (live s0) key None es0 c.requires.live c.requires.alive) in
     let keeps = c.in_ok-outcomes.ensures.keeps in
     let same = same_rows (live s0) (live s1) (state s0) (state s1) keeps es1 alive in
@@ -296,7 +296,7 @@ returns-clause-walked g t c =
     let all = take_all i os c.loop-outcome-test.false in
     let ended = subst (λ d. Going L (known s0) (known s) x r0 r (outcomes_of (state s1) d) least) (all ∙ c.as_slice-outcome-items.ensures.value) going in
     let here_live = invariant.keeps key c.requires.live in
-    let one = subst (λ y. Sets y least r (rows_of (state s) es2)) here_live.1 (subst (λ rows. Sets (state s key) least r (rows_of (state s) rows)) (sym c.in_ok-put-2.ensures.puts)
+    let one = subst (λ y. Sets y least r (rows_of (state s) es2)) here_live.1 (subst (λ rows. Sets (state s key) least r (rows_of (state s) rows)) (sym c.in_ok-put.ensures.puts)
     (sets eq (live s) (state s) invariant.tells key least es here_live.0 invariant.alive ended.once)) in
     walked_here L (known s0) (known s) x r0 r (rows_of (state s) es2) (outcomes_of (state s1) items) least c.in_ok-outcomes.ensures.outcomes ended one
 
@@ -327,7 +327,7 @@ returns-clause-good g t c =
     let all = take_all i os c.loop-outcome-test.false in
     let ended = subst (λ d. Going L (known s0) (known s) x r0 r (outcomes_of (state s1) d) least) (all ∙ c.as_slice-outcome-items.ensures.value) going in
     let here_live = invariant.keeps key c.requires.live in
-    let one = subst (λ y. Sets y least r (rows_of (state s) es2)) here_live.1 (subst (λ rows. Sets (state s key) least r (rows_of (state s) rows)) (sym c.in_ok-put-2.ensures.puts)
+    let one = subst (λ y. Sets y least r (rows_of (state s) es2)) here_live.1 (subst (λ rows. Sets (state s key) least r (rows_of (state s) rows)) (sym c.in_ok-put.ensures.puts)
     (sets eq (live s) (state s) invariant.tells key least es here_live.0 invariant.alive ended.once)) in
     good_here L (known s0) (known s) x r0 r (rows_of (state s) es2) (outcomes_of (state s1) items) least c.in_ok-outcomes.ensures.outcomes ended one
 
@@ -358,7 +358,7 @@ returns-clause-least g t c =
     let all = take_all i os c.loop-outcome-test.false in
     let ended = subst (λ d. Going L (known s0) (known s) x r0 r (outcomes_of (state s1) d) least) (all ∙ c.as_slice-outcome-items.ensures.value) going in
     let here_live = invariant.keeps key c.requires.live in
-    let one = subst (λ y. Sets y least r (rows_of (state s) es2)) here_live.1 (subst (λ rows. Sets (state s key) least r (rows_of (state s) rows)) (sym c.in_ok-put-2.ensures.puts)
+    let one = subst (λ y. Sets y least r (rows_of (state s) es2)) here_live.1 (subst (λ rows. Sets (state s key) least r (rows_of (state s) rows)) (sym c.in_ok-put.ensures.puts)
     (sets eq (live s) (state s) invariant.tells key least es here_live.0 invariant.alive ended.once)) in
     least_of_run L x (outcomes_of (state s1) items) c.in_ok-outcomes.ensures.outcomes least ended.priced
 
@@ -389,10 +389,10 @@ returns-clause-few g t c =
     let all = take_all i os c.loop-outcome-test.false in
     let ended = subst (λ d. Going L (known s0) (known s) x r0 r (outcomes_of (state s1) d) least) (all ∙ c.as_slice-outcome-items.ensures.value) going in
     let here_live = invariant.keeps key c.requires.live in
-    let one = subst (λ y. Sets y least r (rows_of (state s) es2)) here_live.1 (subst (λ rows. Sets (state s key) least r (rows_of (state s) rows)) (sym c.in_ok-put-2.ensures.puts)
+    let one = subst (λ y. Sets y least r (rows_of (state s) es2)) here_live.1 (subst (λ rows. Sets (state s key) least r (rows_of (state s) rows)) (sym c.in_ok-put.ensures.puts)
     (sets eq (live s) (state s) invariant.tells key least es here_live.0 invariant.alive ended.once)) in
     let same = as_many_rows eq (live s) (state s) invariant.tells key least es here_live.0 invariant.alive (subst (λ y. IsIn y (states r)) (sym here_live.1) ended.has) in
-    let is = c.in_ok-put-2.ensures.puts in
+    let is = c.in_ok-put.ensures.puts in
     let long = ap length is in
     omega (arith, same, long, invariant.few)
 
@@ -423,6 +423,6 @@ returns-clause-alive g t c =
     let all = take_all i os c.loop-outcome-test.false in
     let ended = subst (λ d. Going L (known s0) (known s) x r0 r (outcomes_of (state s1) d) least) (all ∙ c.as_slice-outcome-items.ensures.value) going in
     let here_live = invariant.keeps key c.requires.live in
-    let one = subst (λ y. Sets y least r (rows_of (state s) es2)) here_live.1 (subst (λ rows. Sets (state s key) least r (rows_of (state s) rows)) (sym c.in_ok-put-2.ensures.puts)
+    let one = subst (λ y. Sets y least r (rows_of (state s) es2)) here_live.1 (subst (λ rows. Sets (state s key) least r (rows_of (state s) rows)) (sym c.in_ok-put.ensures.puts)
     (sets eq (live s) (state s) invariant.tells key least es here_live.0 invariant.alive ended.once)) in
-    subst (λ rows. AreLive (live s) rows) (sym c.in_ok-put-2.ensures.puts) (live_set eq (live s) key least es here_live.0 invariant.alive)
+    subst (λ rows. AreLive (live s) rows) (sym c.in_ok-put.ensures.puts) (live_set eq (live s) key least es here_live.0 invariant.alive)
