@@ -8,7 +8,7 @@ use Rattle.fare_law.specs.Book.{same_key}
 use Rattle.fare_law.specs.Sheets.{Sheet}
 use Rattle.fare_book.specs.Counts.{Exactly}
 use Rattle.fare_book.specs.Drafts.{FaresKept, Stand}
-use Rattle.fare_book.specs.Keeping.{uses_at}
+use Rattle.fare_book.specs.Keeping.{uses_at, uses_without}
 use Rattle.fare_book.specs.Keys.{same_rule}
 use Rattle.fare_book.specs.Tables.{AreKeyed, Changes, Fares, LiveRules, NamesRule, rule_of}
 use Rattle.fare_book.specs.declared.keys.Market.{Market}
@@ -73,22 +73,26 @@ module _ {Z : Type 0} (f g : Fares) (rule : LiveRules) (changed : List RuleKey) 
         keyed = keyed_put f g x.key x refl step kept.keyed;
       }
 
-  pub fares_old : (x o : Fare) (between used : List (RuleKey × ℕ)) → Changes sheets old new x.key (Some x) (Some o) → ((q : FareKey) → g q ≡ cond (same_key q x.key) (Some x) (f q))
-      → ((r : RuleKey) → uses_at between r ≡ cond (same_rule r (rule_of o)) (uses_at uses (rule_of o) - 1) (uses_at uses r))
-      → ((r : RuleKey) → uses_at between (rule_of x) + 1 < 4294967296 → uses_at used r ≡ cond (same_rule r (rule_of x)) (uses_at between (rule_of x) + 1) (uses_at between r))
+  pub fares_old : (x o : Fare) (used : List (RuleKey × ℕ)) → Changes sheets old new x.key (Some x) (Some o) → ((q : FareKey) → g q ≡ cond (same_key q x.key) (Some x) (f q))
+      → ((r : RuleKey) → 1 ≤ uses_at uses (rule_of o) → uses_without uses (rule_of o) (rule_of x) + 1 < 4294967296
+      → uses_at used r ≡ cond (same_rule r (rule_of x)) (uses_without uses (rule_of o) (rule_of x) + 1) (uses_without uses (rule_of o) r))
       → FaresKept g rule changed sheets new count used
-  fares_old x o between used changes step less more =
+  fares_old x o used changes step moves =
       let told = changes f g rule changed kept.keyed kept.markets step in
       let was : f x.key ≡ Some o = sym told.0 in
+      let key : x.key ≡ o.key = kept.keyed x.key o was in
+      let named : NamesRule f (rule_of o) x.key = (o, was, ap (λ (k : FareKey). k.carrier) key, refl) in
+      let some : 1 ≤ uses_at uses (rule_of o) = (kept.uses_are (rule_of o)).most 1 (x.key ∷ [], refl, (tt, tt), (named, tt)) in
       let h : Fares = λ q. cond (same_key q x.key) None (f q) in
       let gone : h x.key ≡ None = at_key same_key same_fares_tell f h x.key None (λ q. refl) in
-      let fewer = use_less f h x.key o was (kept.keyed x.key o was) (λ q. refl) (uses_at uses) (uses_at between) less kept.uses_are in
-      let fits = uses_fit f h count (rule_of x) (uses_at between (rule_of x)) kept.few kept.counted (was_live h (λ q. refl) (rule_of x)) (fewer (rule_of x)) in
+      let between = uses_without uses (rule_of o) in
+      let fewer = use_less f h x.key o was key (λ q. refl) (uses_at uses) between (λ r. refl) kept.uses_are in
+      let fits = uses_fit f h count (rule_of x) (between (rule_of x)) kept.few kept.counted (was_live h (λ q. refl) (rule_of x)) (fewer (rule_of x)) in
       record {
         markets = told.1;
         counted = count_old same_key same_fares_tell f g x.key (Some x) step x o count refl was kept.counted;
         few = kept.few;
-        uses_are = use_more h g x.key x gone refl (λ q. step q ∙ twice (same_key q x.key) q) (uses_at between) (uses_at used) (λ r. more r fits) fewer;
+        uses_are = use_more h g x.key x gone refl (λ q. step q ∙ twice (same_key q x.key) q) between (uses_at used) (λ r. moves r some fits) fewer;
         keyed = keyed_put f g x.key x refl step kept.keyed;
       }
     where

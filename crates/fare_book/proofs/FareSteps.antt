@@ -183,3 +183,16 @@ changes_from {Z = Z} sheets old mid new key after was market t changed_t is tabl
       markets_step f g rule changed sheets key after step market from to mid new changed_t (table_step f g key after step market from to t changed_t.entries puts had) puts_back
           (λ n apart. subst (λ o. MatchOption o (Untouched f rule changed n (sheet_at sheets n)) (λ t. TableOf f n t.entries)) (sym (others n apart)) (holds n)),
     )
+
+-- a table is changed where it stands
+pub changes_within : {Z : Type 0} (sheets : List (Market × Arc Sheet Z)) (old new : List (Market × BTreeMap FareKey Fare)) (key : FareKey) (after was : Option Fare) (market : Market) (t changed_t : BTreeMap FareKey Fare)
+    → market ≡ record { from = key.from; to = key.to }
+    → lookup (same_market market) old ≡ Some t
+    → was ≡ lookup (same_key key) t.entries
+    → ((q : FareKey) → lookup (same_key q) changed_t.entries ≡ cond (same_key q key) after (lookup (same_key q) t.entries))
+    → ((n : Market) → lookup (same_market n) new ≡ cond (same_market n market) (Some changed_t) (lookup (same_market n) old))
+    → Changes sheets old new key after was
+changes_within sheets old new key after was market t changed_t is here told puts puts_back =
+    changes_from sheets old old new key after was market t.entries changed_t is
+    (λ fare rule changed keyed holds. subst (λ o. MatchOption o (Untouched fare rule changed market (sheet_at sheets market)) (λ t. TableOf fare market t.entries)) here holds)
+    (λ m apart. refl) told puts puts_back

@@ -1,5 +1,5 @@
 -- What a book keeps: its filings, and the sheets, rules, counts and seats that they leave.
-use Rattle.std.specs.Prelude.{◌≡◌, ◌≢◌, ◌≤◌, ℕ, List, length, Option, Some, None, option_map, unwrap_or, MatchOption, IsSome}
+use Rattle.std.specs.Prelude.{◌≡◌, ◌≢◌, ◌≤◌, ◌-◌, ℕ, if◌then◌else◌, List, length, Option, Some, None, option_map, unwrap_or, MatchOption, IsSome}
 use Rattle.std.specs.Map.{lookup}
 use Rattle.std.specs.Arc.{arc_value}
 use Rattle.std.specs.declared.sync.Arc.{Arc}
@@ -66,6 +66,10 @@ Rules b rules = (k : RuleKey) → k.number ≢ 0 → rule_at rules k ≡ live_ru
 -- how many fares name a rule
 abbrev pub uses_at : List (RuleKey × ℕ) → RuleKey → ℕ
 uses_at uses key = unwrap_or (lookup (same_rule key) uses) 0
+
+-- how many fares name a rule beside one that names the rule `old`
+abbrev pub uses_without : List (RuleKey × ℕ) → RuleKey → RuleKey → ℕ
+uses_without uses old key = if same_rule key old then uses_at uses old - 1 else uses_at uses key
 
 -- what the filings of a book are
 pub record History (b : Book) : Type 0 where

@@ -11,7 +11,7 @@ ghost use Rattle.fare_book.specs.Tables.{rule_of};
 use crate::draft::{Draft, Stop};
 use crate::keys::RuleKey;
 use crate::tables::{remove_fare, replace_fare};
-use crate::uses::{count_use, forget_use};
+use crate::uses::{count_use, forget_use, move_use};
 use fare_law::{BookWhy, Fare, FareKey, FareKind, Rule, Shared};
 use std::alloc::Global;
 use std::collections::HashMap;
@@ -35,8 +35,7 @@ fn place_fare(draft: &mut Draft, alloc: Global, fare: &Fare) -> Result<(), Stop>
 {
     match replace_fare(alloc, &mut draft.tables, &draft.sheets, fare)? {
         Some(old) => {
-            forget_use(&mut draft.uses, rule_of(&old))?;
-            count_use(&mut draft.uses, rule_of(fare))?;
+            move_use(&mut draft.uses, rule_of(&old), rule_of(fare))?;
             Ok(())
         }
         None if draft.fare_count >= MOST => Err(Stop::Fault(BookWhy::Limit)),

@@ -73,6 +73,9 @@ pub fn replace_fare(
     ensures { IfOk result (λ was. Changes sheets.now.entries tables.old.entries tables.new.entries fare.now.key (Some fare.now) was) }
 {
     let market = market_of(&fare.key);
+    if let Some(table) = tables.get_mut(&market) {
+        return put_fare_in(table, fare);
+    }
     let mut table = take_table(alloc, tables, sheets, market)?;
     let old = put_fare_in(&mut table, fare)?;
     tables.insert(market, table)?;
@@ -89,6 +92,9 @@ pub fn remove_fare(
     ensures { IfOk result (λ was. Changes sheets.now.entries tables.old.entries tables.new.entries key.now None was) }
 {
     let market = market_of(key);
+    if let Some(table) = tables.get_mut(&market) {
+        return Ok(drop_fare_from(table, key));
+    }
     let mut table = take_table(alloc, tables, sheets, market)?;
     let old = drop_fare_from(&mut table, key);
     tables.insert(market, table)?;

@@ -1,7 +1,7 @@
 //! How many live fares name each rule.
-ghost use Rattle.std.specs.Prelude.{◌≡◌, ◌+◌, ◌-◌, ◌<◌, ◌^◌, OnOk, if◌then◌else◌};
+ghost use Rattle.std.specs.Prelude.{◌≡◌, ◌+◌, ◌-◌, ◌<◌, ◌≤◌, ◌^◌, OnOk, if◌then◌else◌};
 ghost use Rattle.fare_book.specs.declared.keys.RuleKey.{RuleKey as RuleName};
-ghost use Rattle.fare_book.specs.Keeping.{uses_at};
+ghost use Rattle.fare_book.specs.Keeping.{uses_at, uses_without};
 ghost use Rattle.fare_book.specs.Keys.{same_rule};
 
 use crate::keys::RuleKey;
@@ -32,4 +32,15 @@ pub fn forget_use(uses: &mut HashMap<RuleKey, u32>, rule: RuleKey) -> Result<(),
     let count = uses_of(uses, rule);
     uses.insert(rule, count.saturating_sub(1))?;
     Ok(())
+}
+
+/// Counts a fare that names one rule in place of another.
+pub fn move_use(uses: &mut HashMap<RuleKey, u32>, old: RuleKey, rule: RuleKey) -> Result<(), Mem>
+    ensures { OnOk result ((k : RuleName) → 1 ≤ uses_at uses.old.entries old → uses_without uses.old.entries old rule + 1 < 2 ^ 32 → uses_at uses.new.entries k ≡ (if same_rule k rule then uses_without uses.old.entries old rule + 1 else uses_without uses.old.entries old k)) }
+{
+    if old == rule {
+        return Ok(());
+    }
+    forget_use(uses, old)?;
+    count_use(uses, rule)
 }

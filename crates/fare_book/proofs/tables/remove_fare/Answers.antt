@@ -1,12 +1,24 @@
-use Rattle.std.proofs.Common.{None, Some}
-use Rattle.fare_book.proofs.Finding.{market_changes}
-use Rattle.fare_book.proofs.FareSteps.{changes_from}
+use Rattle.std.proofs.Common.{None, Some, is_some, sym, ap, subst, ◌∙◌}
+use Rattle.fare_book.specs.Tables.{Changes}
+use Rattle.fare_book.proofs.Finding.{market_changes, market_found}
+use Rattle.fare_book.proofs.FareSteps.{changes_from, changes_within}
 use Rattle.fare_book.proofs.tables.remove_fare.Goals as goal
+
+pub returns-in-Some : goal.returns-in-Some
+returns-in-Some c =
+    let old = c.args.tables.now.entries in
+    let market = c.market_of-market.result in
+    let after = c.drop_fare_from.new.table in
+    let here = sym (c.in-Some.ensures.value ∙ market_found old market) in
+    let step = market_changes old (c.get_mut.follows.lender after).entries market (Some after) ((c.get_mut.follows.holds after).3 (ap is_some (sym c.in-Some.ensures.value))).0 in
+    changes_within c.args.sheets.now.entries old (c.get_mut.follows.lender after).entries c.args.key.now None c.drop_fare_from.result market c.in-Some.table.now after c.market_of-market.ensures here c.drop_fare_from.ensures.old c.drop_fare_from.ensures.drops step
 
 pub returns : goal.returns
 returns c =
+    let old = c.get_mut.follows.lender-at-none.entries in
     let mid = c.take_table.new.tables.entries in
     let table = c.drop_fare_from-old.new.table in
-    changes_from c.args.sheets.now.entries c.args.tables.now.entries mid c.insert.new.self.entries c.args.key.now None c.drop_fare_from-old.result c.market_of-market.result c.in_ok-table.table.entries table
+    subst (λ t. Changes c.args.sheets.now.entries t.entries c.insert.new.self.entries c.args.key.now None c.drop_fare_from-old.result) c.get_mut.follows.holds-at-none
+    (changes_from c.args.sheets.now.entries old mid c.insert.new.self.entries c.args.key.now None c.drop_fare_from-old.result c.market_of-market.result c.in_ok-table.table.entries table
     c.market_of-market.ensures c.in_ok-table.ensures.table c.in_ok-table.ensures.others c.drop_fare_from-old.ensures.old c.drop_fare_from-old.ensures.drops
-    (market_changes mid c.insert.new.self.entries c.market_of-market.result (Some table) c.in_ok-insert.ensures.updates.0)
+    (market_changes mid c.insert.new.self.entries c.market_of-market.result (Some table) c.in_ok-insert.ensures.updates.0))
