@@ -1,4 +1,4 @@
 pub mod NameLemmas
 pub mod TextLemmas
-pub mod ClassLemmas
+pub mod PairLemmas
 pub mod SeatLemmas

@@ -30,39 +30,28 @@ pub fn seats_of(text: &[u8]) -> Option<[u8; 32]>
     }
 }
 
-// The seats of any number of such pairs.
-#[tactic(auto, using(crate::proofs::SeatLemmas::seat_rules))]
+// The seats of any number of such pairs, taken from the last one on.
 fn seats_in(text: &[u8]) -> Option<[u8; 32]>
     ensures seats { result ≡ Seats.seats_in text.now }
     ensures form { IfSome result AreSeats }
 {
-    match text {
-        [] => Some([0; 32]),
-        [_] => None,
-        [letter, digit, rest @ ..] => {
-            if letter.is_ascii_uppercase()
-                && digit.is_ascii_digit()
-                && !names_class(*letter, rest)
-            {
-                let mut seats = seats_in(rest)?;
-                seats[(*letter - b'A') as usize] = *digit - b'0';
-                Some(seats)
-            } else {
-                None
-            }
-        }
+    if text.len() % 2 == 1 {
+        return None;
     }
-}
-
-// Whether a class letter comes among these pairs.
-#[tactic(auto, using(crate::proofs::ClassLemmas::class_steps))]
-fn names_class(letter: u8, text: &[u8]) -> bool
-    ensures { result ≡ Seats.names_class letter text.now }
-{
-    for i in 0..text.len() / 2 {
-        if text[2 * i] == letter {
-            return true;
+    let mut named = [false; 32];
+    let mut seats = [0; 32];
+    for i in (0..text.len() / 2).rev() {
+        let letter = text[2 * i];
+        let digit = text[2 * i + 1];
+        if !letter.is_ascii_uppercase() || !digit.is_ascii_digit() {
+            return None;
         }
+        let class = usize::from(letter - b'A');
+        if named[class] {
+            return None;
+        }
+        named[class] = true;
+        seats[class] = digit - b'0';
     }
-    false
+    Some(seats)
 }
