@@ -37,3 +37,4 @@ pub mod ResidualRead
 pub mod NamesKept
 pub mod CodesOfRuns
 pub mod Sizes
+pub mod DigitsAdded

@@ -17,10 +17,13 @@ mod open_units;
 mod parts;
 mod reading;
 mod residual;
+mod sameness;
 mod stepping;
 mod text;
 mod way;
 mod words;
+mod writer;
+mod written;
 
 pub use beginning::root;
 pub use choosing::moves;
@@ -38,3 +41,4 @@ pub use residual::{Chosen, Next, Residual};
 pub use stepping::step;
 pub use text::{push_residual, residual_text};
 pub use way::Way;
+pub use writer::ResidualWriter;

@@ -33,7 +33,8 @@ pub fn push_residual(text: &mut Vec<u8>, residual: &Residual) -> Result<(), Mem>
     push_part(text, &residual.part)
 }
 
-fn push_position(text: &mut Vec<u8>, at: &Position) -> Result<(), Mem>
+/// Adds the words of the position.
+pub fn push_position(text: &mut Vec<u8>, at: &Position) -> Result<(), Mem>
     ensures { OnOk result (text.new.items
         ≡ text.old.items ++ join_with_byte 32 (Text.position_words at.now)) }
 {
@@ -70,7 +71,8 @@ fn push_units(
     push_unit(text, second)
 }
 
-fn push_unit(text: &mut Vec<u8>, unit: &OpenUnit) -> Result<(), Mem>
+/// Adds the text of the open unit.
+pub fn push_unit(text: &mut Vec<u8>, unit: &OpenUnit) -> Result<(), Mem>
     ensures { OnOk result (text.new.items ≡ text.old.items ++ Text.unit_text unit.now) }
 {
     text.extend_from_slice(&unit.origin.0)?;

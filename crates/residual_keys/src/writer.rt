@@ -1,0 +1,149 @@
+//! Residuals written one after another. In order, they mostly have the position of the one before and open units that
+//! came before, so texts are kept and added in one piece.
+ghost use Rattle.std.specs.Prelude.{◌≡◌, ◌++◌, ◌∷◌, [], OnOk};
+ghost use Rattle.std.specs.List.{join_with_byte};
+ghost use Rattle.residual_keys.specs.Kept.{PartKept, open_units};
+ghost use Rattle.residual_keys.specs.ResidualText as Text;
+
+use crate::sameness::{same_position, same_unit};
+use crate::words::carriers_word;
+use crate::written::{WrittenPosition, WrittenUnit};
+use crate::{Residual, TicketPart};
+use fare_law::Mem;
+use flight_paths::Position;
+use open_unit::{CarrierMark, OpenUnit, RuleMark};
+use std::alloc::Global;
+
+/// How many texts of open units are kept, each at the spot of its unit.
+const SPOTS: usize = 1024;
+
+/// Writes residuals, and keeps texts of what they consist of.
+#[derive(Drop)]
+pub struct ResidualWriter {
+    alloc: Global,
+    /// The last position.
+    position: Option<WrittenPosition>,
+    /// At each spot the last open unit that had it.
+    units: Vec<Option<WrittenUnit>>,
+}
+
+impl ResidualWriter {
+    /// A writer that keeps no text yet.
+    pub fn new(alloc: Global) -> Result<ResidualWriter, Mem> {
+        let mut units = Vec::with_capacity(alloc, SPOTS)?;
+        for _ in 0..SPOTS {
+            units.push(None)?;
+        }
+        Ok(ResidualWriter {
+            alloc,
+            position: None,
+            units,
+        })
+    }
+
+    /// Adds the text of the residual.
+    pub fn push(&mut self, text: &mut Vec<u8>, residual: &Residual) -> Result<(), Mem>
+        ensures { OnOk result (text.new.items ≡ text.old.items ++ Text.residual_text residual.now) }
+    {
+        self.push_position(text, &residual.at)?;
+        self.push_units(text, &residual.unit1, &residual.unit2)?;
+        push_part(text, &residual.part)
+    }
+
+    // Adds the words of the position, with a space after each.
+    fn push_position(&mut self, text: &mut Vec<u8>, at: &Position) -> Result<(), Mem>
+        ensures { OnOk result (text.new.items
+            ≡ text.old.items ++ (join_with_byte 32 (Text.position_words at.now) ++ 32 ∷ [])) }
+    {
+        if let Some(written) = &self.position {
+            if same_position(&written.at, at) {
+                text.extend_from_slice(written.text.as_slice())?;
+                return Ok(());
+            }
+        }
+        let written = WrittenPosition::of(self.alloc, at)?;
+        text.extend_from_slice(written.text.as_slice())?;
+        self.position = Some(written);
+        Ok(())
+    }
+
+    fn push_units(
+        &mut self,
+        text: &mut Vec<u8>,
+        first: &Option<OpenUnit>,
+        second: &Option<OpenUnit>,
+    ) -> Result<(), Mem>
+        ensures { OnOk result (text.new.items
+            ≡ text.old.items ++ Text.units_text (open_units first.now second.now)) }
+    {
+        let Some(first) = first else {
+            text.push(b'-')?;
+            return Ok(());
+        };
+        self.push_unit(text, first)?;
+        let Some(second) = second else {
+            return Ok(());
+        };
+        text.push(b'/')?;
+        self.push_unit(text, second)
+    }
+
+    fn push_unit(&mut self, text: &mut Vec<u8>, unit: &OpenUnit) -> Result<(), Mem>
+        ensures { OnOk result (text.new.items ≡ text.old.items ++ Text.unit_text unit.now) }
+    {
+        let spot = spot_of(unit);
+        if let Some(Some(written)) = self.units.get(spot) {
+            if same_unit(&written.unit, unit) {
+                text.extend_from_slice(written.text.as_slice())?;
+                return Ok(());
+            }
+        }
+        let written = WrittenUnit::of(self.alloc, unit)?;
+        text.extend_from_slice(written.text.as_slice())?;
+        if let Some(place) = self.units.get_mut(spot) {
+            *place = Some(written);
+        }
+        Ok(())
+    }
+}
+
+// Adds the text of the ticket part after a space. Its numbers are digits.
+fn push_part(text: &mut Vec<u8>, part: &TicketPart) -> Result<(), Mem>
+    requires { PartKept part.now }
+    ensures { OnOk result (text.new.items ≡ text.old.items ++ 32 ∷ Text.part_text part.now) }
+{
+    let numbers = [b' ', b'0' + part.units, b':', b'0' + part.ends, b':'];
+    text.extend_from_slice(&numbers)?;
+    text.extend_from_slice(carriers_word(&part.carrier))?;
+    Ok(())
+}
+
+// The spot of an open unit. Another one may stand there.
+fn spot_of(unit: &OpenUnit) -> usize {
+    let [a, b, c] = unit.origin.0;
+    let [d, e, f] = unit.end.0;
+    let rule = match unit.rule {
+        RuleMark::One(rule) => rule,
+        RuleMark::Mixed => u16::MAX,
+    };
+    let [g, h] = match unit.carrier {
+        CarrierMark::One(carrier) => carrier.0,
+        _ => [0, 0],
+    };
+    let names = u64::from_le_bytes([a, b, c, d, e, f, g, h]);
+    let numbers = u64::from(rule) << 32 | u64::from(unit.count) << 16 | u64::from(unit.kinds) << 8;
+    let days = mixed(
+        mixed(day(Some(unit.first_day)), day(unit.least)),
+        day(unit.greatest),
+    );
+    (mixed(mixed(names, numbers), days) >> 54) as usize
+}
+
+fn day(day: Option<i32>) -> u64 {
+    day.map_or(u64::MAX, |day| u64::from(day.unsigned_abs()))
+}
+
+// One number of two.
+fn mixed(one: u64, other: u64) -> u64 {
+    (one ^ (one >> 29) ^ other).wrapping_mul(0x9e3779b97f4a7c15)
+}
