@@ -45,11 +45,8 @@ fn number_of(part: &TicketPart) -> u32
 /// What a key is sorted by: ranks in place of numbers, so that keys compare as their residuals do.
 #[derive(Clone, Copy, PartialEq, Eq, PartialOrd, Ord, Debug)]
 pub struct SortKey {
-    /// The rank of its position, from 1.
-    pub position: u32,
-    /// The rank of the unit that was opened first, from 1. 0 where none is open.
-    pub first: u32,
-    /// The same of the other one.
-    pub second: u32,
+    /// The ranks of its position, of the unit that was opened first and of the other one, as the digits of one number,
+    /// so that a comparison is one of numbers.
+    pub ranks: u128,
     pub part: TicketPart,
 }
