@@ -73,6 +73,7 @@ pub fn replace_fare(
     ensures { IfOk result (λ was. Changes sheets.now.entries tables.old.entries tables.new.entries fare.now.key (Some fare.now) was) }
 {
     let market = market_of(&fare.key);
+    // A market that was touched before has its table.
     if let Some(table) = tables.get_mut(&market) {
         return put_fare_in(table, fare);
     }

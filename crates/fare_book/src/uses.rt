@@ -38,6 +38,7 @@ pub fn forget_use(uses: &mut HashMap<RuleKey, u32>, rule: RuleKey) -> Result<(),
 pub fn move_use(uses: &mut HashMap<RuleKey, u32>, old: RuleKey, rule: RuleKey) -> Result<(), Mem>
     ensures { OnOk result ((k : RuleName) → 1 ≤ uses_at uses.old.entries old → uses_without uses.old.entries old rule + 1 < 2 ^ 32 → uses_at uses.new.entries k ≡ (if same_rule k rule then uses_without uses.old.entries old rule + 1 else uses_without uses.old.entries old k)) }
 {
+    // A fare that is filed again mostly names the same rule.
     if old == rule {
         return Ok(());
     }
