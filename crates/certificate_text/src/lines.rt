@@ -8,7 +8,7 @@ ghost use Rattle.fare_law.specs.Codes.{role_code};
 use certificate::{CertAnswer, CertRow};
 use fare_law::{Mem, Move, Role};
 use itoa::Buffer;
-use residual_keys::push_residual;
+use residual_keys::ResidualWriter;
 use word_text::push_word;
 
 /// Adds a line of a name and a number.
@@ -35,11 +35,15 @@ pub fn push_answer(text: &mut Vec<u8>, answer: &CertAnswer) -> Result<(), Mem>
 }
 
 /// Adds a line of a row.
-pub fn push_row(text: &mut Vec<u8>, row: &CertRow) -> Result<(), Mem>
+pub fn push_row(
+    text: &mut Vec<u8>,
+    residuals: &mut ResidualWriter,
+    row: &CertRow,
+) -> Result<(), Mem>
     ensures { OnOk result (text.new.items ≡ text.old.items ++ (row_line row.now ++ 10 ∷ [])) }
 {
     text.extend_from_slice(b"row ")?;
-    push_residual(text, &row.residual)?;
+    residuals.push(text, &row.residual)?;
     push_bound(text, row.bound)?;
     text.push(b'\n')?;
     Ok(())

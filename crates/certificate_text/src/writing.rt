@@ -7,6 +7,7 @@ use crate::lines::{push_answer, push_number_line, push_row};
 use certificate::{CertAnswer, CertRow, Certificate};
 use fare_law::{List, Mem};
 use request_text::request_text;
+use residual_keys::ResidualWriter;
 use std::alloc::Global;
 
 /// The text of the certificate, whose request is within its limits.
@@ -31,7 +32,7 @@ pub fn push_cert_text(
     let request = request_text(alloc, &certificate.request)?;
     push_head(text, certificate.number, request.as_slice())?;
     push_answers(text, certificate.answers.as_slice())?;
-    push_rows(text, certificate.rows.as_slice())?;
+    push_rows(alloc, text, certificate.rows.as_slice())?;
     text.extend_from_slice(b"end\n")?;
     Ok(())
 }
@@ -59,12 +60,13 @@ fn push_answers(text: &mut Vec<u8>, answers: &[CertAnswer]) -> Result<(), Mem>
     Ok(())
 }
 
-fn push_rows(text: &mut Vec<u8>, rows: &[CertRow]) -> Result<(), Mem>
+fn push_rows(alloc: Global, text: &mut Vec<u8>, rows: &[CertRow]) -> Result<(), Mem>
     ensures { OnOk result (text.new.items ≡ text.old.items ++ text_of (row_lines rows.now)) }
 {
     push_number_line(text, b"rows", rows.len() as u64)?;
+    let mut residuals = ResidualWriter::new(alloc)?;
     for row in rows {
-        push_row(text, row)?;
+        push_row(text, &mut residuals, row)?;
     }
     Ok(())
 }
