@@ -37,4 +37,5 @@ pub mod ResidualRead
 pub mod NamesKept
 pub mod CodesOfRuns
 pub mod Sizes
-pub mod DigitsAdded
+pub mod OneDigit
+pub mod PositionAhead

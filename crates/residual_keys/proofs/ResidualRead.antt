@@ -68,7 +68,7 @@ position_whole k text p a b c d f g slice leg place via lo hi was_a was_b was_c 
     let t1 = joined 32 text a (decimal slice) (decimal leg ++ 32 ∷ (place.0 ++ 32 ∷ (via_word via ++ 32 ∷ (decimal lo ++ 32 ∷ (decimal hi ++ 32 ∷ g.1))))) (k.cut.read 32 text a was_a) n1.1 t2 in
     subst (SpellsAt text) (same_Some (at, g.1) p e) (is, t1)
 
-position_read : Words → (text : List ℕ) (p : Position × List ℕ) → position_in text ≡ Some p → SpellsAt text p
+pub position_read : Words → (text : List ℕ) (p : Position × List ℕ) → position_in text ≡ Some p → SpellsAt text p
 unfolding position_in
 position_read k text p e =
     from_step (cut_at 32 text) _ p e (λ a was_a e.

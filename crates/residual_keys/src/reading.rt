@@ -13,11 +13,11 @@ use word_text::{cut, cuts_tell, numbers_tell};
 
 /// The parts of a residual, before it is known whether they make one.
 #[derive(Clone, Copy, Debug)]
-struct Parts {
-    at: Position,
-    first: Option<OpenUnit>,
-    second: Option<OpenUnit>,
-    part: TicketPart,
+pub struct Parts {
+    pub at: Position,
+    pub first: Option<OpenUnit>,
+    pub second: Option<OpenUnit>,
+    pub part: TicketPart,
 }
 
 /// The residual whose text the bytes are. None exactly where they are the text of no residual whose
@@ -27,7 +27,7 @@ pub fn read_residual(bytes: &[u8]) -> Option<Residual>
 {
     cuts_tell();
     numbers_tell();
-    let parts = parts_of(bytes)?;
+    let parts = parts_of(&mut Anew, bytes)?;
     Residual::checked(parts.at, parts.first, parts.second, parts.part)
 }
 
@@ -40,13 +40,40 @@ pub fn one_residual_text()
     numbers_tell();
 }
 
+/// What reads positions and open units, which come again in texts one after another.
+pub trait PartReader {
+    /// A position, and what follows it after a space.
+    fn position_of<'a>(&mut self, text: &'a [u8]) -> Option<(Position, &'a [u8])>
+        ensures position { MatchOption result (Reading.position_in text.now ≡ None)
+            (λ x. Reading.position_in text.now ≡ Some (x.0, x.1.now)) };
+
+    /// An open unit.
+    fn unit_of(&mut self, text: &[u8]) -> Option<OpenUnit>
+        ensures unit { result ≡ Reading.unit_in text.now };
+}
+
+/// Reads each from its words.
+#[derive(Drop)]
+pub struct Anew;
+
+impl PartReader for Anew {
+    fn position_of<'a>(&mut self, text: &'a [u8]) -> Option<(Position, &'a [u8])> {
+        position_of(text)
+    }
+
+    fn unit_of(&mut self, text: &[u8]) -> Option<OpenUnit> {
+        unit_of(text)
+    }
+}
+
+/// The parts of a residual, whether they make one or not.
 #[tactic(auto, unfolding(crate::specs::ResidualReading::parts_in))]
-fn parts_of(text: &[u8]) -> Option<Parts>
+pub fn parts_of<R: PartReader>(reader: &mut R, text: &[u8]) -> Option<Parts>
     ensures { result ≡ Reading.parts_in text.now }
 {
-    let (at, text) = position_of(text)?;
+    let (at, text) = reader.position_of(text)?;
     let (units, part) = cut(text, b' ')?;
-    let (first, second) = units_of(units)?;
+    let (first, second) = units_of(reader, units)?;
     let part = part_of(part)?;
     Some(Parts {
         at,
@@ -58,7 +85,7 @@ fn parts_of(text: &[u8]) -> Option<Parts>
 
 // A position, and what follows it after a space.
 #[tactic(auto, unfolding(crate::specs::ResidualReading::position_in))]
-fn position_of(text: &[u8]) -> Option<(Position, &[u8])>
+pub fn position_of(text: &[u8]) -> Option<(Position, &[u8])>
     ensures { MatchOption result (Reading.position_in text.now ≡ None)
         (λ x. Reading.position_in text.now ≡ Some (x.0, x.1.now)) }
 {
@@ -81,7 +108,10 @@ fn position_of(text: &[u8]) -> Option<(Position, &[u8])>
 
 // No open unit, one, or two.
 #[tactic(auto, unfolding(crate::specs::ResidualReading::units_in))]
-fn units_of(text: &[u8]) -> Option<(Option<OpenUnit>, Option<OpenUnit>)>
+fn units_of<R: PartReader>(
+    reader: &mut R,
+    text: &[u8],
+) -> Option<(Option<OpenUnit>, Option<OpenUnit>)>
     ensures { MatchOption result (Reading.units_in text.now ≡ None)
         (λ x. Reading.units_in text.now ≡ Some (x.0, x.1)) }
 {
@@ -89,13 +119,15 @@ fn units_of(text: &[u8]) -> Option<(Option<OpenUnit>, Option<OpenUnit>)>
         return Some((None, None));
     }
     let Some((first, second)) = cut(text, b'/') else {
-        return Some((Some(unit_of(text)?), None));
+        return Some((Some(reader.unit_of(text)?), None));
     };
-    Some((Some(unit_of(first)?), Some(unit_of(second)?)))
+    let first = reader.unit_of(first)?;
+    let second = reader.unit_of(second)?;
+    Some((Some(first), Some(second)))
 }
 
 #[tactic(auto, unfolding(crate::specs::ResidualReading::unit_in))]
-fn unit_of(text: &[u8]) -> Option<OpenUnit>
+pub fn unit_of(text: &[u8]) -> Option<OpenUnit>
     ensures { result ≡ Reading.unit_in text.now }
 {
     let (origin, text) = cut(text, b'>')?;

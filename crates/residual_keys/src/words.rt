@@ -9,7 +9,7 @@ use fare_law::Place;
 use itoa::Buffer;
 use name_text::{carrier_of, place_of};
 use open_unit::{CarrierMark, RuleMark};
-use word_text::number_of;
+use word_text::{number_of, numbers_tell};
 
 pub fn via_word(via: &Option<Place>) -> &[u8]
     ensures { result.now ≡ Text.via_word via.now }
@@ -52,7 +52,11 @@ pub fn rules_word(rules: RuleMark, buffer: &mut Buffer) -> &[u8]
 pub fn byte_of(word: &[u8]) -> Option<u8>
     ensures { result ≡ number_in 255 word.now }
 {
-    Some(number_of(word, 255)? as u8)
+    numbers_tell();
+    match word {
+        [digit] if digit.is_ascii_digit() => Some(*digit - b'0'),
+        _ => Some(number_of(word, 255)? as u8),
+    }
 }
 
 /// A number of 32 bits.

@@ -1,6 +1,6 @@
 use Rattle.std.proofs.Common.{◌∙◌, ap, ◌++◌}
 use Rattle.residual_keys.specs.ResidualText as Text
-use Rattle.residual_keys.proofs.DigitsAdded.{digits_added}
+use Rattle.residual_keys.proofs.OneDigit.{digits_added}
 use Rattle.residual_keys.proofs.writer.push_part.Goals as goal
 
 pub returns : goal.returns

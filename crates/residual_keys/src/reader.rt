@@ -1,0 +1,130 @@
+//! Residuals read one after another. In order, they mostly have the position of the one before and open units that
+//! came before, so these are kept with their texts.
+ghost use Rattle.std.specs.Prelude.{◌≡◌, ◌↔◌, ◌++◌, ◌∷◌, ℕ, List, [], Some};
+ghost use Rattle.std.specs.List.{join_with_byte};
+ghost use Rattle.residual_keys.specs.ResidualReading as Reading;
+ghost use Rattle.residual_keys.specs.ResidualText as Text;
+ghost use Rattle.residual_keys.specs.ResidualText.{Spells};
+ghost use Rattle.residual_keys.specs.Residuals.{State};
+
+use crate::Residual;
+use crate::reading::{PartReader, parts_of, position_of, unit_of};
+use crate::written::WrittenPosition;
+use fare_law::Mem;
+use flight_paths::Position;
+use open_unit::OpenUnit;
+use std::alloc::Global;
+use word_text::{cuts_tell, numbers_tell};
+
+/// How many open units are kept, each at the spot of its text.
+const SPOTS: usize = 1024;
+
+/// A position that its text spells, whatever follows.
+#[derive(Drop)]
+struct ReadPosition {
+    written: WrittenPosition,
+    ghost spells: { (rest : List ℕ) → Reading.position_in (written.text.items ++ rest) ≡ Some (written.at, rest) },
+}
+
+/// An open unit and the text that spells it.
+#[derive(Drop)]
+struct ReadUnit {
+    text: Vec<u8>,
+    unit: OpenUnit,
+    ghost spells: { Reading.unit_in text.items ≡ Some unit },
+}
+
+/// Reads residuals, and keeps what they consist of.
+#[derive(Drop)]
+pub struct ResidualReader {
+    alloc: Global,
+    /// The last position.
+    position: Option<ReadPosition>,
+    /// At each spot the last open unit that had it.
+    units: Vec<Option<ReadUnit>>,
+}
+
+impl ResidualReader {
+    /// A reader that keeps nothing yet.
+    pub fn new(alloc: Global) -> Result<ResidualReader, Mem> {
+        let mut units = Vec::with_capacity(alloc, SPOTS)?;
+        for _ in 0..SPOTS {
+            units.push(None)?;
+        }
+        Ok(ResidualReader {
+            alloc,
+            position: None,
+            units,
+        })
+    }
+
+    /// The residual whose text the bytes are, as by `read_residual`.
+    pub fn read(&mut self, bytes: &[u8]) -> Option<Residual>
+        ensures { (x : State) → (result ≡ Some x) ↔ Spells bytes.now x }
+    {
+        cuts_tell();
+        numbers_tell();
+        let parts = parts_of(self, bytes)?;
+        Residual::checked(parts.at, parts.first, parts.second, parts.part)
+    }
+
+    // Keeps a position that was read, where there is memory.
+    fn keep_position(&mut self, at: &Position)
+        requires { (rest : List ℕ) → Reading.position_in ((join_with_byte 32 (Text.position_words at.now) ++ 32 ∷ []) ++ rest) ≡ Some (at.now, rest) }
+    {
+        if let Ok(written) = WrittenPosition::of(self.alloc, at) {
+            self.position = Some(ReadPosition { written });
+        }
+    }
+
+    // Keeps an open unit that was read at a spot, where there is memory.
+    fn keep_unit(&mut self, spot: usize, text: &[u8], unit: &OpenUnit)
+        requires { Reading.unit_in text.now ≡ Some unit.now }
+    {
+        let Ok(text) = Vec::from_slice(self.alloc, text) else {
+            return;
+        };
+        if let Some(place) = self.units.get_mut(spot) {
+            *place = Some(ReadUnit { text, unit: *unit });
+        }
+    }
+}
+
+impl PartReader for ResidualReader {
+    fn position_of<'a>(&mut self, text: &'a [u8]) -> Option<(Position, &'a [u8])> {
+        if let Some(read) = &self.position {
+            if let Some(rest) = text.strip_prefix(read.written.text.as_slice()) {
+                return Some((read.written.at, rest));
+            }
+        }
+        cuts_tell();
+        numbers_tell();
+        let (at, rest) = position_of(text)?;
+        self.keep_position(&at);
+        Some((at, rest))
+    }
+
+    fn unit_of(&mut self, text: &[u8]) -> Option<OpenUnit> {
+        let spot = spot_of(text);
+        if let Some(Some(read)) = self.units.get(spot) {
+            if read.text.as_slice() == text {
+                return Some(read.unit);
+            }
+        }
+        let unit = unit_of(text)?;
+        self.keep_unit(spot, text, &unit);
+        Some(unit)
+    }
+}
+
+// The spot of a text. What stands there may have another text.
+fn spot_of(text: &[u8]) -> usize {
+    let front = text
+        .first_chunk::<16>()
+        .map_or(0, |bytes| u128::from_le_bytes(*bytes));
+    let end = text
+        .last_chunk::<8>()
+        .map_or(0, |bytes| u64::from_le_bytes(*bytes));
+    let both = front ^ (u128::from(end) << 59);
+    (both.wrapping_mul(0x2360ed051fc65da44385df649fccf645) >> 118) as usize
+}
