@@ -17,4 +17,5 @@ pub mod OfferedFacts
 pub mod ServedPaths
 pub mod TakenKeys
 pub mod SortedKeys
+pub mod RankedRows
 pub mod KeyedBounds

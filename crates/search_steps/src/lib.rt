@@ -15,6 +15,7 @@ mod nearest;
 mod numbered;
 mod numbered_case;
 mod offered;
+mod row_order;
 mod served;
 mod settling;
 mod shortening;
@@ -34,6 +35,7 @@ pub use laws::{least_prices_are_least, reached_states_are_reached, residuals_tel
 pub use least::LeastMove;
 pub use numbered::{PositionSteps, Step, StepLists, UnitSlot, UnitSteps};
 pub use numbered_case::NumberedCase;
+pub use row_order::RankedRow;
 pub use settling::has_keys_of;
 pub use steps::SearchSteps;
 pub use tables::{PositionTable, Tables, UnitKey, UnitTable};

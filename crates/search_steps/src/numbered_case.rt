@@ -16,7 +16,6 @@ ghost use Rattle.residual_keys.specs.Residuals.{State};
 ghost use Rattle.residual_keys.specs.Steps.{AreMoves};
 ghost use Rattle.residual_table.specs.declared.key.ResidualKey.{ResidualKey as AnyKey};
 ghost use Rattle.residual_table.specs.Keys.{Grows, IsLive, residual_at};
-ghost use Rattle.residual_table.specs.Ranks.{rank_of};
 ghost use Rattle.search_steps.specs.Leads.{leads_of, level_of};
 ghost use Rattle.search_steps.specs.LeastMoves.{AreLeastMoves, BoundBy, LeaveLive, least_as};
 
@@ -26,6 +25,7 @@ use crate::keying::keyed_moves;
 use crate::least::{counted_moves, first_of};
 use crate::nearest::least_by;
 use crate::numbered::StepLists;
+use crate::row_order::put_rows_in_order;
 use crate::tables::Tables;
 use crate::taking::take_keys;
 use crate::{Bounds, Case, LeastMove};
@@ -33,8 +33,8 @@ use fare_component::OfferSource;
 use fare_law::{List, Mem};
 use graph_walk::{Outcome, WalkFault, walk};
 use indexmap::IndexMap;
-use residual_keys::{Chosen, Residual, residual_order};
-use residual_table::{ResidualKey, SortKey, keys_found, ranks_order};
+use residual_keys::{Chosen, Residual};
+use residual_table::{ResidualKey, keys_found};
 use std::alloc::Global;
 use std::marker::Model;
 use ticket_order::order_laws;
@@ -162,16 +162,7 @@ impl<'a> NumberedCase<'a> {
         ensures same { OnOk result (IsPermutation rows.old.entries rows.new.entries) }
         ensures found { OnOk result ((key : AnyKey) → get ⟦<ResidualKey as PartialEq>⟧.eq rows.new key ≡ get ⟦<ResidualKey as PartialEq>⟧.eq rows.old key) }
     {
-        residual_order();
-        ranks_order();
-        self.lists.numbers.keys_tell();
-        let ranks = self.lists.numbers.ranks(alloc)?;
-        rows.sort_by_key(
-            |key: &ResidualKey, _: &Option<u64>| -> SortKey
-                ensures { result ≡ rank_of ranks key.now }
-            { ranks.of(key) },
-        )?;
-        Ok(())
+        put_rows_in_order(alloc, &self.lists.numbers, rows)
     }
 
     /// The moves of a residual that count under bounds, the first `wanted` of them by total and code. Its

@@ -1,0 +1,6 @@
+use Rattle.std.proofs.Common.{◌≡◌, ◌++◌, drop}
+use Rattle.search_steps.specs.RowOrder.{ranked_from}
+use Rattle.search_steps.proofs.row_order.ranked_rows.Given as goal
+
+abbrev pub invariant-loop-place : goal.invariant-loop-place
+invariant-loop-place l = l.ranked.items ++ ranked_from l.ranks l.place (drop l.place l.keys) ≡ ranked_from l.ranks 0 l.keys
