@@ -7,15 +7,11 @@ use fare_law::Place;
 use std::hash::{Hash, Hasher};
 
 impl Hash for OpenUnit {
-    ghost use Rattle.std.specs.Prelude.{◌+◌, ◌*◌, ◌++◌};
-    ghost use Rattle.std.specs.Hash as fed;
-    ghost use Rattle.std.specs.Cmp.Rules.{hashing};
-    ghost use Rattle.std.proofs.Common.{rules};
-    ghost use Rattle.open_unit.specs.Hashing.{day_number, marks_number, place_number};
+    ghost use Rattle.open_unit.specs.Hashing.{alike, writes};
 
-    ghost hash_input = { λ u. fed.u64 (place_number u.origin + place_number u.end * 4294967296) ++ fed.i32 u.first_day ++ fed.i32 (day_number u.least) ++ fed.i32 (day_number u.greatest) ++ fed.i32 (day_number u.by) ++ fed.u64 (marks_number u) };
+    ghost hash_input = { writes };
 
-    ghost respects_eq = { Prim.search (hashing, rules) };
+    ghost respects_eq = { alike };
 
     fn hash<H: Hasher>(&self, state: &mut H) {
         let ends = u64::from(place_number(self.origin))

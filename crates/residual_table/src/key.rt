@@ -23,11 +23,11 @@ impl Hash for ResidualKey {
     ghost use Rattle.std.specs.Hash as fed;
     ghost use Rattle.std.specs.Cmp.Rules.{hashing};
     ghost use Rattle.std.proofs.Common.{rules};
-    ghost use Rattle.open_unit.specs.Hashing.{carrier_number};
+    ghost use Rattle.open_unit.specs.Hashing.{carrier_is, carrier_number};
 
     ghost hash_input = { λ k. fed.u64 (k.position + k.first * 4294967296) ++ fed.u64 (k.second + (k.part.units + k.part.ends * 256 + carrier_number k.part.carrier * 65536) * 4294967296) };
 
-    ghost respects_eq = { Prim.search (hashing, rules) };
+    ghost respects_eq = { Prim.search (hashing, rules, carrier_is) };
 
     fn hash<H: Hasher>(&self, state: &mut H) {
         state.write_u64(u64::from(self.position) + u64::from(self.first) * 4294967296);
