@@ -10,6 +10,7 @@ use crate::CertFault;
 use crate::unread::Lines;
 use certificate::{CertAnswer, CertRow};
 use fare_law::List;
+use residual_keys::ResidualReader;
 use std::alloc::Global;
 
 /// The answers and how many there are, and what is left after their lines.
@@ -39,7 +40,11 @@ pub fn answers<'a>(
 }
 
 /// The rows and how many there are, and what is left after their lines.
-pub fn rows<'a>(alloc: Global, start: Lines<'a>) -> Result<(List<CertRow>, Lines<'a>), CertFault>
+pub fn rows<'a>(
+    alloc: Global,
+    residuals: &mut ResidualReader,
+    start: Lines<'a>,
+) -> Result<(List<CertRow>, Lines<'a>), CertFault>
     requires { HasRoom (unread start) }
     ensures ok { IfOk result (λ x. Passed Due.RowCount (unread start.entry)
         (row_lines x.0) Due.End (unread x.1)) }
@@ -51,7 +56,7 @@ pub fn rows<'a>(alloc: Global, start: Lines<'a>) -> Result<(List<CertRow>, Lines
     let mut at = first;
     while rows.len() < count as usize {
         // not by `?`, which takes the row and the rest by value in a form that has no proof
-        let (row, next) = match at.row() {
+        let (row, next) = match at.row(residuals) {
             Ok(found) => found,
             Err(fault) => return Err(fault),
         };

@@ -11,6 +11,7 @@ use crate::spelled::{answer_line, number_line, row_line};
 use crate::unread::Lines;
 use certificate::{CertAnswer, CertRow};
 use fare_law::Request;
+use residual_keys::ResidualReader;
 use std::alloc::Global;
 use word_text::{cut, cuts_tell};
 
@@ -183,7 +184,10 @@ impl<'a> Lines<'a> {
     }
 
     /// A row, and what is left after its line.
-    pub fn row(self) -> Result<(CertRow, Lines<'a>), CertFault>
+    pub fn row(
+        self,
+        residuals: &mut ResidualReader,
+    ) -> Result<(CertRow, Lines<'a>), CertFault>
         requires { HasRoom (unread self) }
         ensures ok { IfOk result (λ x. (more : ℕ) → Passed (Due.Row more) (unread self.entry)
             (Spelled.row_line x.0 ∷ []) (rows_due more) (unread x.1)) }
@@ -197,7 +201,7 @@ impl<'a> Lines<'a> {
             }
             return Err(self.syntax());
         };
-        let Some(found) = row_line(line) else {
+        let Some(found) = row_line(residuals, line) else {
             if line == b"end".as_slice() {
                 return Err(self.count());
             }
@@ -207,7 +211,7 @@ impl<'a> Lines<'a> {
     }
 
     /// After the line `end`, which nothing follows.
-    pub fn end(self) -> Result<(), CertFault>
+    pub fn end(self, residuals: &mut ResidualReader) -> Result<(), CertFault>
         requires { HasRoom (unread self) }
         ensures ok { IfOk result (λ x. PassedEnd (unread self.entry)) }
         ensures fault { IfErr result (FaultFrom Due.End (unread self.entry)) }
@@ -216,7 +220,7 @@ impl<'a> Lines<'a> {
             return Err(self.syntax());
         };
         if line != b"end".as_slice() {
-            if row_line(line).is_some() {
+            if row_line(residuals, line).is_some() {
                 return Err(self.count());
             }
             return Err(self.syntax());

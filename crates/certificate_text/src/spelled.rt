@@ -7,7 +7,7 @@ ghost use Rattle.certificate_text.specs.Lines.{SpellsAnswer, SpellsNumber, Spell
 
 use crate::words::{after, bound_of, moves_of, next_word, number_after};
 use certificate::{CertAnswer, CertRow};
-use residual_keys::read_residual;
+use residual_keys::ResidualReader;
 use word_text::{cut_last, cuts_tell, number_of, numbers_tell};
 
 /// The number of a line of this name.
@@ -27,14 +27,14 @@ pub fn answer_line(line: &[u8]) -> Option<CertAnswer>
 }
 
 /// The row of a line.
-pub fn row_line(line: &[u8]) -> Option<CertRow>
+pub fn row_line(residuals: &mut ResidualReader, line: &[u8]) -> Option<CertRow>
     ensures { (r : RowData) → (result ≡ Some r) ↔ SpellsRow line.now r }
 {
     numbers_tell();
     cuts_tell();
     let rest = after(b"row ", line)?;
     let (residual, bound) = cut_last(rest, b' ')?;
-    let residual = read_residual(residual)?;
+    let residual = residuals.read(residual)?;
     let bound = bound_of(bound)?;
     Some(CertRow { residual, bound })
 }
