@@ -19,6 +19,7 @@ mod reader;
 mod reading;
 mod residual;
 mod sameness;
+mod spots;
 mod stepping;
 mod text;
 mod way;

@@ -9,15 +9,13 @@ ghost use Rattle.residual_keys.specs.Residuals.{State};
 
 use crate::Residual;
 use crate::reading::{PartReader, parts_of, position_of, unit_of};
+use crate::spots::{SPOTS, text_spot};
 use crate::written::WrittenPosition;
 use fare_law::Mem;
 use flight_paths::Position;
 use open_unit::OpenUnit;
 use std::alloc::Global;
 use word_text::{cuts_tell, numbers_tell};
-
-/// How many open units are kept, each at the spot of its text.
-const SPOTS: usize = 1024;
 
 /// A position that its text spells, whatever follows.
 #[derive(Drop)]
@@ -105,7 +103,7 @@ impl PartReader for ResidualReader {
     }
 
     fn unit_of(&mut self, text: &[u8]) -> Option<OpenUnit> {
-        let spot = spot_of(text);
+        let spot = text_spot(text);
         if let Some(Some(read)) = self.units.get(spot) {
             if read.text.as_slice() == text {
                 return Some(read.unit);
@@ -115,16 +113,4 @@ impl PartReader for ResidualReader {
         self.keep_unit(spot, text, &unit);
         Some(unit)
     }
-}
-
-// The spot of a text. What stands there may have another text.
-fn spot_of(text: &[u8]) -> usize {
-    let front = text
-        .first_chunk::<16>()
-        .map_or(0, |bytes| u128::from_le_bytes(*bytes));
-    let end = text
-        .last_chunk::<8>()
-        .map_or(0, |bytes| u64::from_le_bytes(*bytes));
-    let both = front ^ (u128::from(end) << 59);
-    (both.wrapping_mul(0x2360ed051fc65da44385df649fccf645) >> 118) as usize
 }

@@ -6,16 +6,14 @@ ghost use Rattle.residual_keys.specs.Kept.{PartKept, open_units};
 ghost use Rattle.residual_keys.specs.ResidualText as Text;
 
 use crate::sameness::{same_position, same_unit};
+use crate::spots::{SPOTS, unit_spot};
 use crate::words::carriers_word;
 use crate::written::{WrittenPosition, WrittenUnit};
 use crate::{Residual, TicketPart};
 use fare_law::Mem;
 use flight_paths::Position;
-use open_unit::{CarrierMark, OpenUnit, RuleMark};
+use open_unit::OpenUnit;
 use std::alloc::Global;
-
-/// How many texts of open units are kept, each at the spot of its unit.
-const SPOTS: usize = 1024;
 
 /// Writes residuals, and keeps texts of what they consist of.
 #[derive(Drop)]
@@ -91,7 +89,7 @@ impl ResidualWriter {
     fn push_unit(&mut self, text: &mut Vec<u8>, unit: &OpenUnit) -> Result<(), Mem>
         ensures { OnOk result (text.new.items ≡ text.old.items ++ Text.unit_text unit.now) }
     {
-        let spot = spot_of(unit);
+        let spot = unit_spot(unit);
         if let Some(Some(written)) = self.units.get(spot) {
             if same_unit(&written.unit, unit) {
                 text.extend_from_slice(written.text.as_slice())?;
@@ -116,34 +114,4 @@ fn push_part(text: &mut Vec<u8>, part: &TicketPart) -> Result<(), Mem>
     text.extend_from_slice(&numbers)?;
     text.extend_from_slice(carriers_word(&part.carrier))?;
     Ok(())
-}
-
-// The spot of an open unit. Another one may stand there.
-fn spot_of(unit: &OpenUnit) -> usize {
-    let [a, b, c] = unit.origin.0;
-    let [d, e, f] = unit.end.0;
-    let rule = match unit.rule {
-        RuleMark::One(rule) => rule,
-        RuleMark::Mixed => u16::MAX,
-    };
-    let [g, h] = match unit.carrier {
-        CarrierMark::One(carrier) => carrier.0,
-        _ => [0, 0],
-    };
-    let names = u64::from_le_bytes([a, b, c, d, e, f, g, h]);
-    let numbers = u64::from(rule) << 32 | u64::from(unit.count) << 16 | u64::from(unit.kinds) << 8;
-    let days = mixed(
-        mixed(day(Some(unit.first_day)), day(unit.least)),
-        day(unit.greatest),
-    );
-    (mixed(mixed(names, numbers), days) >> 54) as usize
-}
-
-fn day(day: Option<i32>) -> u64 {
-    day.map_or(u64::MAX, |day| u64::from(day.unsigned_abs()))
-}
-
-// One number of two.
-fn mixed(one: u64, other: u64) -> u64 {
-    (one ^ (one >> 29) ^ other).wrapping_mul(0x9e3779b97f4a7c15)
 }
