@@ -1,9 +1,10 @@
 -- A path of a head and a tail, by what is known of the two.
-use Rattle.std.proofs.Common.{◌≡◌, ℕ, List, [], ◌∷◌, ◌++◌, All, IsBitSet, bit_and, refl, sym, ap, subst, ◌∙◌}
+use Rattle.std.proofs.Common.{◌≡◌, ℕ, List, [], ◌∷◌, ◌++◌, All, Option, IsBitSet, bit_and, refl, sym, ap, subst, ◌∙◌}
 use Rattle.std.proofs.lemmas.List.Elements.{All-append, All-cons, All-nil, All-head, All-tail}
-use Rattle.component_table.specs.declared.ends.End.{End}
-use Rattle.component_table.specs.Tables.{BeginsWith, EndsWith, HasLegs}
-use Rattle.component_table.proofs.Served.{ReachesEnd, reaches_as}
+use Rattle.component_table.specs.declared.facts.Joint.{Joint}
+use Rattle.component_table.specs.Classes.{IsOfClass}
+use Rattle.component_table.specs.Facts.{IsJoint, class_of}
+use Rattle.component_table.specs.Tables.{HasLegs}
 use Rattle.fare_groups.proofs.Bits.{both_set}
 use Rattle.fare_law.specs.declared.flights.Flight.{Flight}
 use Rattle.fare_law.specs.declared.requests.Request.{Request}
@@ -12,6 +13,7 @@ use Rattle.fare_law.specs.Book.{Book}
 use Rattle.fare_law.specs.Lists.{Matched, OnFirst, OnLast}
 use Rattle.fare_law.specs.Offers.{flights_of}
 use Rattle.fare_law.specs.Parts.{Numbers}
+use Rattle.flight_paths.specs.declared.positions.Position.{Position}
 use Rattle.residual_keys.specs.AskedKeys.{IsLeg}
 
 -- the flights of the one's numbers and of the other's
@@ -38,17 +40,6 @@ last_right P [] gs h = h
 last_right P (f ∷ []) [] h = absurd h
 last_right P (f ∷ []) (g ∷ gs) h = h
 last_right P (f ∷ e ∷ fs) gs h = last_right P (e ∷ fs) gs h
-
--- the first flight is the head's first, the last one the tail's last
-pub joined_begins : (b : Book) (ns ms : List ℕ) (first : Flight) → BeginsWith b ns first → BeginsWith b (ns ++ ms) first
-joined_begins b ns ms first h fs m = let x = halves b ns ms fs m in subst (OnFirst (λ f. f ≡ first)) (sym x.parts) (first_left (λ f. f ≡ first) x.front x.back (h x.front x.fronts))
-
-pub joined_ends : (b : Book) (ns ms : List ℕ) (last : Flight) → EndsWith b ms last → EndsWith b (ns ++ ms) last
-joined_ends b ns ms last h fs m = let x = halves b ns ms fs m in subst (OnLast (λ f. f ≡ last)) (sym x.parts) (last_right (λ f. f ≡ last) x.front x.back (h x.back x.backs))
-
--- so the path reaches an end of the first carrier's fares
-pub joined_reaches : (b : Book) (ns ms : List ℕ) (e : End) (first last : Flight) → e.key ≡ record { place = last.to; carrier = first.carrier } → BeginsWith b ns first → EndsWith b ms last → (fs : List Flight) → Numbers b (ns ++ ms) fs → ReachesEnd e fs
-joined_reaches b ns ms e first last key begins ends fs m = reaches_as e first last fs key (joined_begins b ns ms first begins fs m) (joined_ends b ns ms last ends fs m)
 
 all_front : (P : Leg → Type 0) (xs ys : List Leg) → All P (xs ++ ys) → All P xs
 all_front P [] ys h = All-nil P
@@ -87,3 +78,17 @@ legs_both b q fs gs here there h k = record {
 -- the classes that are open in both are open in all its legs
 pub joined_classes : (b : Book) (q : Request) (ns ms : List ℕ) (here there : ℕ) → ((fs : List Flight) → Numbers b ns fs → HasLegs b q fs here) → ((fs : List Flight) → Numbers b ms fs → HasLegs b q fs there) → (fs : List Flight) → Numbers b (ns ++ ms) fs → HasLegs b q fs (bit_and here there)
 joined_classes b q ns ms here there h k fs m = let x = halves b ns ms fs m in subst (λ gs. HasLegs b q gs (bit_and here there)) (sym x.parts) (legs_both b q x.front x.back here there (h x.front x.fronts) (k x.back x.backs))
+
+-- the class of a path that goes on from a head by a tail
+pub joint_class : (b : Book) (q : Request) (j : Joint) → IsJoint b q j → (after : Option Position) → after ≡ j.after.now → (fs : List Flight) → Numbers b (j.head.now.flights ++ j.tail.now.flights) fs → IsOfClass (class_of j) after fs
+joint_class b q j is after same fs m =
+    let x = halves b j.head.now.flights j.tail.now.flights fs m in
+    record {
+      after_is = same;
+      first = subst (OnFirst (λ f. (f.day ≡ j.head.now.first) × (f.carrier ≡ j.head.now.carrier))) (sym x.parts) (first_left (λ f. (f.day ≡ j.head.now.first) × (f.carrier ≡ j.head.now.carrier)) x.front x.back (is.head x.front x.fronts).first);
+      last = subst (OnLast (λ f. (f.to ≡ j.tail.now.end) × (f.day ≡ j.tail.now.last))) (sym x.parts) (last_right (λ f. (f.to ≡ j.tail.now.end) × (f.day ≡ j.tail.now.last)) x.front x.back (is.tail x.back x.backs).last);
+    }
+
+-- and the classes of seats that are open in all its flights
+pub joint_legs : (b : Book) (q : Request) (j : Joint) → IsJoint b q j → (fs : List Flight) → Numbers b (j.head.now.flights ++ j.tail.now.flights) fs → HasLegs b q fs (bit_and j.head.now.classes j.tail.now.classes)
+joint_legs b q j is = joined_classes b q j.head.now.flights j.tail.now.flights j.head.now.classes j.tail.now.classes (λ fs m. (is.head fs m).legs) (λ fs m. (is.tail fs m).legs)

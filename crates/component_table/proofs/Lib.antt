@@ -10,3 +10,5 @@ pub mod MaskFacts
 pub mod SomeLegs
 pub mod SettledFacts
 pub mod Halves
+pub mod Joints
+pub mod KnownFacts

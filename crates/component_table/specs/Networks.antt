@@ -3,6 +3,7 @@ use Rattle.std.specs.Prelude.{◌≡◌, ℕ, List, slice_get, Some}
 use Rattle.component_table.specs.declared.networks.FareTails.{FareTails}
 use Rattle.component_table.specs.declared.networks.Network.{Network}
 use Rattle.component_table.specs.declared.networks.SliceTails.{SliceTails}
+use Rattle.component_table.specs.Facts.{AreTailFacts}
 use Rattle.component_table.specs.Markets.{AreMarkets}
 use Rattle.component_table.specs.Masks.{AreMasks}
 use Rattle.component_table.specs.Tails.{AreTailsFrom}
@@ -17,11 +18,12 @@ use Rattle.flight_paths.specs.Heads.{AreTails}
 abbrev pub AreTailsOver : Book → List Slice → ℕ → List Path → Type 0
 AreTailsOver b slices i tails = (x : Book) → x.timetable.places ≡ b.timetable.places → x.timetable.flights ≡ b.timetable.flights → AreTails x slices i tails
 
--- The markets are the book's, the masks are those of its flights, and each list of tails is that of its slice, or those of them that its place needs.
+-- The markets are the book's, the masks are those of its flights, each list of tails is that of its slice, or those of them that its place needs, and what is known of the tails of a slice holds of their flights.
 pub record IsNetwork (b : Book) (q : Request) (n : Network) : Type 0 where
   pub markets : AreMarkets b n.markets.kept.items
   pub tails : Each (λ t. AreTailsOver b q.slices t.slice t.paths) n.tails.items
   pub masks : AreMasks b q n.masks
+  pub facts : Each (λ (t : SliceTails). AreTailFacts b q t.facts.items) n.tails.items
   pub fare_tails : Each (λ (t : FareTails). AreTailsFrom b q t.place t.slice t.paths) n.fare_tails.items
 
 -- the tails of this slice stand at this place

@@ -1,5 +1,5 @@
 -- A table as it grows: what it has stands there at no more, and each group of a path's market is put in.
-use Rattle.std.specs.Prelude.{◌≡◌, ◌≢◌, ◌⊎◌, ◌↔◌, ℕ, ◌+◌, ◌≤◌, ◌<◌, Bool, List, [], ◌++◌, length, slice_get, Option, Some, All, IsBitSet}
+use Rattle.std.specs.Prelude.{◌≡◌, ◌≢◌, ◌⊎◌, ◌↔◌, ℕ, ◌+◌, ◌≤◌, ◌<◌, Bool, List, [], length, slice_get, Option, Some, All, IsBitSet}
 use Rattle.std.specs.Int.{IsInRange}
 use Rattle.component_table.specs.declared.markets.Market.{Market}
 use Rattle.component_table.specs.declared.ways.Flown.{Flown}
@@ -158,9 +158,9 @@ pub record PathAdded (b : Book) (q : Request) (at : Position) (path : Path) (old
   pub goes : GoesOn b q at old new
   pub done : IsDone b q at path new
 
--- the path that goes on from a head by a tail adds nothing to the table
-abbrev pub AddNothing : Book → Request → Position → Path → Path → List Entry → Type 0
-AddNothing b q at head tail table = (path : Path) → path.flights ≡ head.flights ++ tail.flights → path.after ≡ tail.after → IsPathFrom b q at path → PathAdded b q at path table table
+-- a path of these numbers that leads there adds nothing to the table
+abbrev pub AddsNothing : Book → Request → Position → List ℕ → Option Position → List Entry → Type 0
+AddsNothing b q at numbers after table = (path : Path) → path.flights ≡ numbers → path.after ≡ after → IsPathFrom b q at path → PathAdded b q at path table table
 
 -- A table of a position as it is made.
 pub record Put : Type 0 where

@@ -1,6 +1,8 @@
 //! Classes of paths: those of one class have their outlines in common.
 ghost use Rattle.std.specs.Prelude.{◌≡◌, ◌↔◌, IsTrue};
+ghost use Rattle.component_table.specs.Facts.{class_of};
 
+use crate::facts::Joint;
 use crate::recent::{mixed, spot_of};
 use crate::same::same_after;
 use fare_law::{Carrier, Place};
@@ -37,6 +39,24 @@ impl PathClass {
             && self.first == other.first
             && self.last == other.last
     }
+
+    /// Whether it is the class of a head and a tail.
+    pub fn is_of(&self, joint: &Joint) -> bool
+        ensures { IsTrue result → self.now ≡ class_of joint.now }
+    {
+        same_after(&self.after, joint.after)
+            && self.end.is(joint.tail.end)
+            && self.carrier.is(joint.head.carrier)
+            && self.first == joint.head.first
+            && self.last == joint.tail.last
+    }
+
+    /// The spot of the class.
+    pub fn spot(&self) -> usize {
+        let head = head_mark(self.carrier, self.first);
+        let tail = tail_mark(&self.after, self.end, self.last);
+        spot_of(head ^ tail)
+    }
 }
 
 impl ClassKey {
@@ -56,6 +76,21 @@ impl ClassKey {
     pub fn spot(&self) -> usize {
         spot_of(mixed(mixed(mixed(self.range, self.ends), self.places), self.days))
     }
+}
+
+/// What the head of a path gives to the spot of its class.
+pub fn head_mark(carrier: Carrier, first: i32) -> u64 {
+    let [a, b] = carrier.0;
+    let [c, d, e, f] = first.to_le_bytes();
+    mixed(u64::from_le_bytes([a, b, c, d, e, f, 0, 0]), 0)
+}
+
+/// What the tail of a path gives to it.
+pub fn tail_mark(after: &Option<Position>, end: Place, last: i32) -> u64 {
+    let [a, b, c] = end.0;
+    let [d, e, f, g] = last.to_le_bytes();
+    let ends = u64::from_le_bytes([a, b, c, d, e, f, g, 0]);
+    mixed(mixed(range_of(after), places_of(after)), ends)
 }
 
 /// The days on which the first and the last flight depart, as one number.

@@ -6,6 +6,7 @@
 mod adding;
 mod classes;
 mod ends;
+mod facts;
 mod filed;
 mod gathering;
 mod growing;

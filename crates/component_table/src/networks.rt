@@ -1,10 +1,14 @@
 //! What is found once for a search, and kept for all its positions.
 ghost use Rattle.std.specs.Prelude.{IfOk, IfSome};
+ghost use Rattle.component_table.specs.declared.networks.SliceTails.{SliceTails as OneSliceTails};
+ghost use Rattle.component_table.specs.Facts.{AreTailFacts};
 ghost use Rattle.component_table.specs.Networks.{IsNetwork, TailsStand};
 ghost use Rattle.component_table.specs.Tails.{FareTailsStand};
 ghost use Rattle.fare_law.specs.declared.requests.Request.{Request as Asked};
 ghost use Rattle.fare_law.specs.Book.{Book as Version};
+ghost use Rattle.fare_law.specs.Lists.{Each};
 
+use crate::facts::{TailFacts, facts_of, numbers_of};
 use crate::gathering::schedule_of;
 use crate::markets::Markets;
 use crate::masks::Masks;
@@ -16,18 +20,24 @@ use indexmap::IndexMap;
 use std::alloc::Global;
 
 /// The tails of a slice.
-#[derive(Debug, Drop)]
+#[derive(Drop)]
 pub struct SliceTails {
     pub slice: u8,
     pub paths: List<Path>,
+    /// What is known of them.
+    pub facts: Vec<TailFacts>,
 }
 
 /// The tails of a slice that end where a fare is filed from a place or to it.
-#[derive(Debug, Drop)]
+#[derive(Drop)]
 pub struct FareTails {
     pub place: Place,
     pub slice: u8,
     pub paths: List<Path>,
+    /// Where the tails of the slice may stand.
+    pub among: usize,
+    /// Where the facts of each path may stand among those of the slice.
+    pub numbers: Vec<u32>,
 }
 
 /// What the tails of a slice that a place needs are looked up by.
@@ -79,7 +89,12 @@ impl Network {
         }
         let at = self.tails.len();
         let paths = tails(alloc, schedule_of(book), request, slice)?;
-        self.tails.push(SliceTails { slice, paths })?;
+        let facts = facts_of(alloc, book, request, &mut self.masks, paths.as_slice())?;
+        self.tails.push(SliceTails {
+            slice,
+            paths,
+            facts,
+        })?;
         Ok(at)
     }
 
@@ -100,16 +115,30 @@ impl Network {
         if let Some(at) = known_for(self.fare_tails.as_slice(), &self.places, place, slice) {
             return Ok(at);
         }
-        let all = self.find_tails(alloc, book, request, slice)?;
-        let paths = fare_tails(alloc, book, place, self.tails[all].paths.as_slice())?;
+        let among = self.find_tails(alloc, book, request, slice)?;
+        let all = &self.tails[among];
+        let paths = fare_tails(alloc, book, place, all.paths.as_slice())?;
+        let numbers = numbers_of(alloc, all.facts.as_slice(), paths.as_slice())?;
         let at = self.fare_tails.len();
         self.places.insert(TailsKey { place, slice }, at)?;
         self.fare_tails.push(FareTails {
             place,
             slice,
             paths,
+            among,
+            numbers,
         })?;
         Ok(at)
+    }
+}
+
+/// What is known of the tails of a slice that stand at a place. Nothing, if there are none.
+pub fn facts_at(tails: &[SliceTails], at: usize) -> &[TailFacts]
+    ensures { (b : Version) (q : Asked) → Each (λ (t : OneSliceTails). AreTailFacts b q t.facts.items) tails.now → AreTailFacts b q result.now }
+{
+    match tails.get(at) {
+        Some(tails) => tails.facts.as_slice(),
+        None => &[],
     }
 }
 
@@ -118,11 +147,19 @@ fn known(tails: &[SliceTails], slice: u8) -> Option<usize>
     ensures { IfSome result (TailsStand tails.now slice) }
 {
     for at in 0..tails.len() {
-        if tails[at].slice == slice {
-            return Some(at);
+        if let Some(found) = known_at(tails, at, slice) {
+            return Some(found);
         }
     }
     None
+}
+
+/// A place, if the tails of a slice stand there.
+fn known_at(tails: &[SliceTails], at: usize, slice: u8) -> Option<usize>
+    ensures { IfSome result (TailsStand tails.now slice) }
+{
+    let found = tails.get(at)?;
+    if found.slice == slice { Some(at) } else { None }
 }
 
 /// Where the tails of a slice stand that a place needs, if they are known.

@@ -36,3 +36,16 @@ fn same_via(one: &Option<Place>, other: &Option<Place>) -> bool
         _ => false,
     }
 }
+
+/// Whether the numbers are the same, up to four. Of more it says nothing.
+pub fn same_numbers(one: &[u32], other: &[u32]) -> bool
+    ensures { IsTrue result → one.now ≡ other.now }
+{
+    match (one, other) {
+        ([a], [w]) => a == w,
+        ([a, b], [w, x]) => a == w && b == x,
+        ([a, b, c], [w, x, y]) => a == w && b == x && c == y,
+        ([a, b, c, d], [w, x, y, z]) => a == w && b == x && c == y && d == z,
+        _ => false,
+    }
+}

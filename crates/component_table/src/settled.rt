@@ -3,9 +3,11 @@
 ghost use Rattle.std.specs.Prelude.{◌≡◌, ◌⊎◌, [], IfSome, IsTrue};
 ghost use Rattle.component_table.specs.declared.settled.SettledClass.{SettledClass as OneSettled};
 ghost use Rattle.component_table.specs.Classes.{AreAmong, IsSettledAt};
+ghost use Rattle.component_table.specs.Facts.{class_of};
 ghost use Rattle.fare_law.specs.Lists.{IsIn};
 
 use crate::classes::{ClassKey, PathClass};
+use crate::facts::Joint;
 use crate::growing::Growing;
 use crate::recent::Recent;
 use fare_law::Mem;
@@ -54,13 +56,13 @@ impl Settled {
         ensures same { self.new.kept.items ≡ self.old.kept.items }
         ensures found { IfSome result (IsSettledAt self.old.kept.items class.now) }
     {
-        let key = ClassKey::of(class, false);
-        let spot = key.spot();
+        let spot = class.spot();
         let kept = self.kept.as_slice();
         if let Some(at) = known(kept, self.recent.get(spot), class) {
             return Some(at);
         }
-        let at = known(kept, self.places.get(&key).copied(), class)?;
+        let found = self.places.get(&ClassKey::of(class, false)).copied();
+        let at = known(kept, found, class)?;
         self.recent.put(spot, at);
         Some(at)
     }
@@ -72,6 +74,20 @@ impl Settled {
     {
         match self.find(class) {
             Some(at) => are_among(classes, self.kept[at].classes),
+            None => false,
+        }
+    }
+
+    /// Whether the class of a head and a tail was asked for of late, and is settled for the classes of seats that are
+    /// open in both.
+    pub fn recalls(&self, joint: &Joint, classes: u32) -> bool
+        ensures { IsTrue result → (one : OneSettled) × IsIn one self.now.kept.items × (one.class ≡ class_of joint.now) × AreAmong classes one.classes }
+    {
+        let Some(at) = self.recent.get(joint.spot()) else {
+            return false;
+        };
+        match self.kept.as_slice().get(at) {
+            Some(one) => one.class.is_of(joint) && are_among(classes, one.classes),
             None => false,
         }
     }
@@ -88,6 +104,7 @@ impl Settled {
             self.kept[at] = one;
             return Ok(());
         }
+        self.recent.put(class.spot(), self.kept.len());
         self.places
             .insert(ClassKey::of(class, false), self.kept.len())?;
         self.kept.push(one)?;

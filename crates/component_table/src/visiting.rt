@@ -1,11 +1,13 @@
 //! What puts the paths that it visits into a table.
 ghost use Rattle.std.specs.Prelude.{◌≡◌, []};
+ghost use Rattle.component_table.specs.Facts.{AreFacts};
 ghost use Rattle.component_table.specs.Markets.{AreMarkets};
 ghost use Rattle.component_table.specs.Masks.{AreMasks};
 ghost use Rattle.component_table.specs.Tables.{PutsIn};
 
 use crate::adding::add_path;
 use crate::ends::Reach;
+use crate::facts::Facts;
 use crate::growing::Growing;
 use crate::markets::Markets;
 use crate::masks::Masks;
@@ -26,6 +28,7 @@ pub struct Putting<'a, S: Scene> {
     origin: Origin<'a>,
     reach: Reach,
     masks: Masks,
+    facts: Facts<'a>,
     filling: Filling,
     of: PhantomData<S>,
 }
@@ -47,7 +50,7 @@ impl<'a, S: Scene> Model for Putting<'a, S> {
 
     ghost view = { λ p. p.filling.table.entries.items };
 
-    ghost invariant = { λ p. IsPutting S.book S.request S.at p.origin.book.now p.origin.request.now p.origin.at.now p.reach p.masks p.filling };
+    ghost invariant = { λ p. IsPutting S.book S.request S.at p.origin.book.now p.origin.request.now p.origin.at.now p.reach p.masks p.facts p.filling };
 }
 
 impl<'a, S: Scene> PathVisitor for Putting<'a, S> {
@@ -64,26 +67,30 @@ impl<'a, S: Scene> PathVisitor for Putting<'a, S> {
         )
     }
 
-    fn skips(&mut self, head: &Path, tail: &Path) -> bool {
-        adds_nothing(
-            &mut self.filling,
-            &self.reach,
-            &self.masks,
-            &self.origin,
-            head,
-            tail,
-        )
+    fn skips(&mut self, head: &Path, tail: &Path, number: usize) -> bool {
+        self.facts.meet(&self.origin, &mut self.masks, head);
+        match self.facts.joint(tail, number) {
+            Some(joint) => adds_nothing(&mut self.filling, &self.reach, &self.origin, &joint),
+            None => false,
+        }
     }
 }
 
 impl<'a, S: Scene> Putting<'a, S> {
     /// An empty table.
-    pub fn new(alloc: Global, origin: &Origin<'a>, markets: Markets, masks: Masks) -> Putting<'a, S>
+    pub fn new(
+        alloc: Global,
+        origin: &Origin<'a>,
+        facts: Facts<'a>,
+        markets: Markets,
+        masks: Masks,
+    ) -> Putting<'a, S>
         requires book { origin.now.book.now ≡ S.book }
         requires request { origin.now.request.now ≡ S.request }
         requires at { origin.now.at.now ≡ S.at }
         requires markets { AreMarkets origin.now.book.now markets.kept.items }
         requires masks { AreMasks origin.now.book.now origin.now.request.now masks }
+        requires facts { AreFacts origin.now.book.now origin.now.request.now facts }
         ensures { result ≡ [] }
     {
         Putting {
@@ -91,6 +98,7 @@ impl<'a, S: Scene> Putting<'a, S> {
             origin: *origin,
             reach: Reach::new(alloc, origin.book, origin.at.place, markets),
             masks,
+            facts,
             filling: Filling {
                 table: Growing::new(alloc),
                 settled: Settled::new(alloc),

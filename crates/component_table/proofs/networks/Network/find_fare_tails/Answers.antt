@@ -10,10 +10,10 @@ use Rattle.fare_law.specs.Lists.{Each}
 use Rattle.residual_keys.proofs.Sheeted.{got_in}
 use Rattle.component_table.proofs.networks.Network.find_fare_tails.Goals as goal
 
-pub index-requires : goal.index-requires
-index-requires c =
-    let s = c.in_ok-all.ensures.tails in
-    let lt = got_lt c.find_tails.new.self.tails.items c.in_ok-all.all s.kept s.stands in
+pub index-all-requires : goal.index-all-requires
+index-all-requires c =
+    let s = c.in_ok-among.ensures.tails in
+    let lt = got_lt c.find_tails.new.self.tails.items c.in_ok-among.among s.kept s.stands in
     let e : vec_len c.find_tails.new.self.tails ≡ length c.find_tails.new.self.tails.items = omega arith in
     omega (arith, lt, e)
 
@@ -21,17 +21,18 @@ pub returns-clause-network : goal.returns-clause-network
 returns-clause-network c =
     let b = c.args.book.now in
     let q = c.args.request.now in
-    let n = c.in_ok-all.ensures.network in
-    let s = c.in_ok-all.ensures.tails in
+    let n = c.in_ok-among.ensures.network in
+    let s = c.in_ok-among.ensures.tails in
     let ts = c.find_tails.new.self.tails.items in
-    let t : FareTails = record { place = c.args.place; slice = c.args.slice; paths = c.in_ok-paths.paths } in
-    let same = c.index.ensures ∙ got_is ts c.in_ok-all.all c.index.result.now s.kept s.stands in
-    let are = each_in (λ (x : SliceTails). AreTailsOver b q.slices x.slice x.paths) ts s.kept n.tails (got_in ts c.in_ok-all.all s.kept s.stands) in
+    let t : FareTails = record { place = c.args.place; slice = c.args.slice; paths = c.in_ok-paths.paths; among = c.in_ok-among.among; numbers = c.in_ok-numbers.numbers } in
+    let same = c.index-all.ensures ∙ got_is ts c.in_ok-among.among c.index-all.result.now s.kept s.stands in
+    let are = each_in (λ (x : SliceTails). AreTailsOver b q.slices x.slice x.paths) ts s.kept n.tails (got_in ts c.in_ok-among.among s.kept s.stands) in
     let over = subst (AreTailsOver b q.slices c.args.slice) (sym (c.as_slice-2.ensures ∙ ap (λ (x : SliceTails). x.paths) same)) (subst (λ i. AreTailsOver b q.slices i s.kept.paths) s.slice_is are) in
     record {
       markets = n.markets;
       tails = n.tails;
       masks = n.masks;
+      facts = n.facts;
       fare_tails = subst (Each (λ (x : FareTails). AreTailsFrom b q x.place x.slice x.paths)) (sym c.in_ok-push.ensures.items)
           (each_last (λ (x : FareTails). AreTailsFrom b q x.place x.slice x.paths) c.find_tails.new.self.fare_tails.items t n.fare_tails (c.in_ok-paths.ensures q c.args.slice over));
     }
@@ -39,6 +40,6 @@ returns-clause-network c =
 pub returns-clause-tails : goal.returns-clause-tails
 returns-clause-tails c =
     let old = c.find_tails.new.self.fare_tails.items in
-    let t : FareTails = record { place = c.args.place; slice = c.args.slice; paths = c.in_ok-paths.paths } in
+    let t : FareTails = record { place = c.args.place; slice = c.args.slice; paths = c.in_ok-paths.paths; among = c.in_ok-among.among; numbers = c.in_ok-numbers.numbers } in
     let n : c.len-at.result ≡ length old = omega (arith, c.len-at.ensures) in
     record { tails = t; stands = ap (λ xs. slice_get xs c.len-at.result) c.in_ok-push.ensures.items ∙ ap (slice_get (old ++ t ∷ [])) n ∙ last_got old t; place_is = refl; slice_is = refl }

@@ -1,5 +1,6 @@
 use Rattle.std.proofs.Common.{◌≡◌, [], ◌∷◌, ◌++◌, ap, length, refl, slice_get, subst, sym, ◌∙◌, arith}
 use Rattle.component_table.specs.declared.networks.SliceTails.{SliceTails}
+use Rattle.component_table.specs.Facts.{AreTailFacts}
 use Rattle.component_table.specs.Networks.{AreTailsOver}
 use Rattle.component_table.proofs.PathFacts.{last_got}
 use Rattle.component_table.proofs.ReachFacts.{each_last}
@@ -10,10 +11,12 @@ pub returns-clause-network : goal.returns-clause-network
 returns-clause-network c =
     let b = c.args.book.now in
     let q = c.args.request.now in
-    let t : SliceTails = record { slice = c.args.slice; paths = c.in_ok-paths.paths } in
+    let t : SliceTails = record { slice = c.args.slice; paths = c.in_ok-paths.paths; facts = c.in_ok-facts.facts } in
     record {
       markets = c.requires.markets;
-      masks = c.requires.masks;
+      masks = c.in_ok-facts.ensures.masks;
+      facts = subst (Each (λ (x : SliceTails). AreTailFacts b q x.facts.items)) (sym c.in_ok-push.ensures.items)
+          (each_last (λ (x : SliceTails). AreTailFacts b q x.facts.items) c.args.self.now.tails.items t c.requires.facts c.in_ok-facts.ensures.facts);
       fare_tails = c.requires.fare_tails;
       tails = subst (Each (λ (x : SliceTails). AreTailsOver b q.slices x.slice x.paths)) (sym c.in_ok-push.ensures.items)
           (each_last (λ (x : SliceTails). AreTailsOver b q.slices x.slice x.paths) c.args.self.now.tails.items t c.requires.tails
@@ -23,6 +26,6 @@ returns-clause-network c =
 pub returns-clause-tails : goal.returns-clause-tails
 returns-clause-tails c =
     let old = c.args.self.now.tails.items in
-    let t : SliceTails = record { slice = c.args.slice; paths = c.in_ok-paths.paths } in
+    let t : SliceTails = record { slice = c.args.slice; paths = c.in_ok-paths.paths; facts = c.in_ok-facts.facts } in
     let n : c.len-at.result ≡ length old = omega (arith, c.len-at.ensures) in
     record { kept = t; stands = ap (λ xs. slice_get xs c.len-at.result) c.in_ok-push.ensures.items ∙ ap (slice_get (old ++ t ∷ [])) n ∙ last_got old t; slice_is = refl }
