@@ -12,9 +12,9 @@ use crate::facts::Joint;
 use crate::settled::Filling;
 use crate::ways::Origin;
 
-/// Whether the path that goes on from a head by a tail adds nothing to the table: where its class is settled, where the
-/// carrier of its first flight has no fare to its end or from it, and where no class of seats is open in every leg. The
-/// class that was asked for of late comes first, since it costs only comparisons.
+/// Whether the path that goes on from a head by a tail adds nothing to the table: where the carrier of its first flight
+/// has no fare to its end or from it, where no class of seats is open in every leg, and where its class is settled. The
+/// ends come first, since there are few of them, so that they stay near.
 pub fn adds_nothing(filling: &mut Filling, reach: &Reach, origin: &Origin, joint: &Joint) -> bool
     requires reach { IsReach origin.now.book.now origin.now.at.now.place reach.now }
     requires joint { IsJoint origin.now.book.now origin.now.request.now joint.now }
@@ -24,10 +24,10 @@ pub fn adds_nothing(filling: &mut Filling, reach: &Reach, origin: &Origin, joint
     ensures nothing { IsTrue result → AddsNothing origin.now.book.now origin.now.request.now origin.now.at.now (joint.now.head.now.flights ++ joint.now.tail.now.flights) joint.now.after.now filling.old.table.entries.items }
 {
     let classes = joint.head.classes & joint.tail.classes;
-    if filling.settled.recalls(joint, classes) {
+    if is_closed(reach, origin, joint, classes) {
         return true;
     }
-    if is_closed(reach, origin, joint, classes) {
+    if filling.settled.recalls(joint, classes) {
         return true;
     }
     filling.settled.has(&joint.class(), classes)
