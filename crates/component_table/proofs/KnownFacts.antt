@@ -1,5 +1,5 @@
 -- What is known of heads and of tails by themselves.
-use Rattle.std.proofs.Common.{◌≡◌, ℕ, ℤ, List, [], ◌∷◌, ◌++◌, Option, Some, None, IfSome, refl, sym, ap, subst, ◌∙◌}
+use Rattle.std.proofs.Common.{◌≡◌, ℕ, ℤ, List, [], ◌∷◌, ◌++◌, Option, Some, None, IfSome, sym, ap, subst, ◌∙◌}
 use Rattle.component_table.specs.declared.facts.Facts.{Facts}
 use Rattle.component_table.specs.declared.facts.HeadFacts.{HeadFacts}
 use Rattle.component_table.specs.declared.facts.Joint.{Joint}

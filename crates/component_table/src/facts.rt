@@ -1,6 +1,6 @@
 //! What is known of heads and of tails by themselves, so that a few comparisons tell of a path of the two.
 ghost use Rattle.std.specs.Prelude.{◌≡◌, IfOk, IfSome, IsTrue};
-ghost use Rattle.component_table.specs.Facts.{AreFacts, AreTailFacts, IsHeadFacts, IsHeadOf, IsJoint, IsTailFacts, IsTailOf, JoinsTo, class_of};
+ghost use Rattle.component_table.specs.Facts.{AreFacts, AreTailFacts, IsHeadOf, IsTailFacts, IsTailOf, JoinsTo, class_of};
 ghost use Rattle.component_table.specs.Masks.{AreMasks};
 ghost use Rattle.fare_law.specs.declared.requests.Request.{Request as Asked};
 ghost use Rattle.fare_law.specs.Book.{Book as Version};
