@@ -184,10 +184,7 @@ impl<'a> Lines<'a> {
     }
 
     /// A row, and what is left after its line.
-    pub fn row(
-        self,
-        residuals: &mut ResidualReader,
-    ) -> Result<(CertRow, Lines<'a>), CertFault>
+    pub fn row(self, residuals: &mut ResidualReader) -> Result<(CertRow, Lines<'a>), CertFault>
         requires { HasRoom (unread self) }
         ensures ok { IfOk result (λ x. (more : ℕ) → Passed (Due.Row more) (unread self.entry)
             (Spelled.row_line x.0 ∷ []) (rows_due more) (unread x.1)) }
