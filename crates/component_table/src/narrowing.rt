@@ -10,7 +10,7 @@ use crate::recent::{Recent, spot_of};
 use fare_book::Book;
 use fare_law::{Flight, List, Mem, Place};
 use flight_paths::{Ends, Path, tails_to};
-use indexmap::IndexMap;
+use indexmap::{IndexMap, IndexSet};
 use std::alloc::Global;
 
 /// Ends of paths, each with whether a fare is filed from a place to it or back.
@@ -68,31 +68,48 @@ impl Ends for FareEnds {
     }
 }
 
-/// The tails that end where a fare is filed from a place or to it.
+/// The tails that end where a fare is filed from a place or to it. Each of some ends is asked for once.
 pub fn fare_tails(
     alloc: Global,
     book: &Book,
     from: Place,
     tails: &[Path],
+    ends: &IndexSet<Place>,
 ) -> Result<List<Path>, Mem>
     ensures { IfOk result (λ some. (q : Asked) (slice : ℕ) → AreTailsOver book.now q.slices slice tails.now → AreTailsFrom book.now q from slice some) }
 {
-    let ends = ends_of(alloc, book, from, tails)?;
+    let ends = fare_ends(alloc, book, from, ends)?;
     tails_to(alloc, schedule_of(book), tails, &ends)
 }
 
-/// The ends of tails, each with whether a fare is filed from a place to it or back.
-fn ends_of(alloc: Global, book: &Book, from: Place, tails: &[Path]) -> Result<FareEnds, Mem>
+/// Some ends, each with whether a fare is filed from a place to it or back.
+fn fare_ends(
+    alloc: Global,
+    book: &Book,
+    from: Place,
+    ends: &IndexSet<Place>,
+) -> Result<FareEnds, Mem>
     ensures { IfOk result (λ ends. KnowsEnds ⟦<Place as PartialEq>⟧.eq book.now from ends.known) }
 {
-    let flights = schedule_of(book).flights();
-    let mut ends = FareEnds {
+    let mut known = FareEnds {
         known: IndexMap::new(alloc),
         recent: Recent::new(),
     };
+    for at in 0..ends.len() {
+        if let Some(place) = ends.get_index(at) {
+            known.add(book, from, *place)?;
+        }
+    }
+    Ok(known)
+}
+
+/// The places where tails end.
+pub fn ends_of(alloc: Global, book: &Book, tails: &[Path]) -> Result<IndexSet<Place>, Mem> {
+    let flights = schedule_of(book).flights();
+    let mut ends = IndexSet::new(alloc);
     for tail in tails {
         if let Some(place) = end_of(flights, tail) {
-            ends.add(book, from, place)?;
+            ends.insert(place)?;
         }
     }
     Ok(ends)

@@ -12,11 +12,11 @@ use crate::facts::{TailFacts, facts_of, numbers_of};
 use crate::gathering::schedule_of;
 use crate::markets::Markets;
 use crate::masks::Masks;
-use crate::narrowing::fare_tails;
+use crate::narrowing::{ends_of, fare_tails};
 use fare_book::Book;
 use fare_law::{List, Mem, Place, Request};
 use flight_paths::{Path, tails};
-use indexmap::IndexMap;
+use indexmap::{IndexMap, IndexSet};
 use std::alloc::Global;
 
 /// The tails of a slice.
@@ -26,6 +26,8 @@ pub struct SliceTails {
     pub paths: List<Path>,
     /// What is known of them.
     pub facts: Vec<TailFacts>,
+    /// Where they end.
+    pub ends: IndexSet<Place>,
 }
 
 /// The tails of a slice that end where a fare is filed from a place or to it.
@@ -90,10 +92,12 @@ impl Network {
         let at = self.tails.len();
         let paths = tails(alloc, schedule_of(book), request, slice)?;
         let facts = facts_of(alloc, book, request, &mut self.masks, paths.as_slice())?;
+        let ends = ends_of(alloc, book, paths.as_slice())?;
         self.tails.push(SliceTails {
             slice,
             paths,
             facts,
+            ends,
         })?;
         Ok(at)
     }
@@ -117,7 +121,7 @@ impl Network {
         }
         let among = self.find_tails(alloc, book, request, slice)?;
         let all = &self.tails[among];
-        let paths = fare_tails(alloc, book, place, all.paths.as_slice())?;
+        let paths = fare_tails(alloc, book, place, all.paths.as_slice(), &all.ends)?;
         let numbers = numbers_of(alloc, all.facts.as_slice(), paths.as_slice())?;
         let at = self.fare_tails.len();
         self.places.insert(TailsKey { place, slice }, at)?;

@@ -11,7 +11,7 @@ pub returns-clause-network : goal.returns-clause-network
 returns-clause-network c =
     let b = c.args.book.now in
     let q = c.args.request.now in
-    let t : SliceTails = record { slice = c.args.slice; paths = c.in_ok-paths.paths; facts = c.in_ok-facts.facts } in
+    let t : SliceTails = record { slice = c.args.slice; paths = c.in_ok-paths.paths; facts = c.in_ok-facts.facts; ends = c.in_ok-ends.ends } in
     record {
       markets = c.requires.markets;
       masks = c.in_ok-facts.ensures.masks;
@@ -26,6 +26,6 @@ returns-clause-network c =
 pub returns-clause-tails : goal.returns-clause-tails
 returns-clause-tails c =
     let old = c.args.self.now.tails.items in
-    let t : SliceTails = record { slice = c.args.slice; paths = c.in_ok-paths.paths; facts = c.in_ok-facts.facts } in
+    let t : SliceTails = record { slice = c.args.slice; paths = c.in_ok-paths.paths; facts = c.in_ok-facts.facts; ends = c.in_ok-ends.ends } in
     let n : c.len-at.result ≡ length old = omega (arith, c.len-at.ensures) in
     record { kept = t; stands = ap (λ xs. slice_get xs c.len-at.result) c.in_ok-push.ensures.items ∙ ap (slice_get (old ++ t ∷ [])) n ∙ last_got old t; slice_is = refl }
