@@ -18,7 +18,7 @@ use Rattle.residual_keys.specs.Steps.{left_at}
 use Rattle.residual_keys.proofs.Adding.{in_either, in_left, in_right}
 use Rattle.search_steps.specs.declared.tables.PositionTable.{PositionTable}
 use Rattle.search_steps.specs.Giving.{GivenBy, LeftBy, OpenedBy, UnitBy, UnitGiven}
-use Rattle.search_steps.specs.Tables.{IsListed}
+use Rattle.search_steps.specs.Tables.{IsOwnTable}
 
 module _ (P : Listed → Tried → Type 0) where
   pub given_none : (old : List Tried) → Grows (GivenBy P []) old old
@@ -150,10 +150,10 @@ module _ (r : State) (alone opens first second : List Listed) (few : length r.un
   given_all (inr (inr c)) = four_by_unit c.slot c.unit c.stands c.listed c.within (record { leaves = c.leaves; price = c.price })
 
 -- the table and the lists of a residual's position
-record ListedAt (b : Book) (q : Request) (at : Position) (t : PositionTable) : Type 0 where
+record ListedAt (b : Book) (q : Request) (at : Position) (t : PositionTable) (alone opening : List Listed) : Type 0 where
   table : IsTable b q at t.entries
-  alone : IsList (IsAlone at.place q.sale) t.entries t.alone
-  opening : IsList (IsOpening at.place q.sale) t.entries t.opening
+  alone_is : IsList (IsAlone at.place q.sale) t.entries alone
+  opening_is : IsList (IsOpening at.place q.sale) t.entries opening
 
 units_two : (q : Request) (r : State) (ts : List PositionTable) (place : ℕ) (t : PositionTable) (f2 f3 f4 : List Tried) → length r.units ≤ 2 → slice_get ts place ≡ Some t → t.at ≡ r.at
     → (one : UnitGiven q ts place r 0 f2 f3) → (two : UnitGiven q ts place r 1 f3 f4) → (slot : ℕ) (u : OpenUnit) → slice_get r.units slot ≡ Some u → IsList (IsOfUnit r.at.place q.sale u) t.entries (of_two one.list two.list slot)
@@ -168,22 +168,23 @@ units_two q r ts place t f2 f3 f4 few stands at one two (suc (suc n)) u e = absu
     past (a ∷ b ∷ c ∷ us) h n u e = omega (arith, h)
 
 -- what was added from the four lists is what the residual leads to
-pub four_are : (b : Book) (q : Request) (r : State) (ts : List PositionTable) (place : ℕ) (t : PositionTable) (f1 f2 f3 f4 : List Tried) → ListsAreOutcomes b q r → length r.units ≤ 2
-    → slice_get ts place ≡ Some t → t.at ≡ r.at → IsListed b q t → Grows (GivenBy (LeftBy r true r.units) t.alone) [] f1 → Grows (GivenBy (OpenedBy r) t.opening) f1 f2 → UnitGiven q ts place r 0 f2 f3 → UnitGiven q ts place r 1 f3 f4
+pub four_are : (b : Book) (q : Request) (r : State) (ts : List PositionTable) (place : ℕ) (t : PositionTable) (alone opening : List Listed) (f1 f2 f3 f4 : List Tried) → ListsAreOutcomes b q r → length r.units ≤ 2
+    → slice_get ts place ≡ Some t → t.at ≡ r.at → IsOwnTable b q t → IsList (IsAlone t.at.place q.sale) t.entries alone → IsList (IsOpening t.at.place q.sale) t.entries opening
+    → Grows (GivenBy (LeftBy r true r.units) alone) [] f1 → Grows (GivenBy (OpenedBy r) opening) f1 f2 → UnitGiven q ts place r 0 f2 f3 → UnitGiven q ts place r 1 f3 f4
     → AreOutcomes b q r f4
-four_are b q r ts place t f1 f2 f3 f4 law few stands at listed one two three four =
-    law t.entries t.alone t.opening (of_two three.list four.list) f4 there.table.rules there.table.tabled
-    (record { alone_is = there.alone; opens_is = there.opening; units_are = units_two q r ts place t f2 f3 f4 few stands at three four })
+four_are b q r ts place t alone opening f1 f2 f3 f4 law few stands at table alone_is opening_is one two three four =
+    law t.entries alone opening (of_two three.list four.list) f4 there.table.rules there.table.tabled
+    (record { alone_is = there.alone_is; opens_is = there.opening_is; units_are = units_two q r ts place t f2 f3 f4 few stands at three four })
     (λ o. (
-      λ i. all_given r t.alone t.opening three.list four.list few o (record { is = (all.are o).0 (subst (IsIn o) all.joined i) }),
-      λ g. subst (IsIn o) (sym all.joined) ((all.are o).1 (given_all r t.alone t.opening three.list four.list few o g).is),
+      λ i. all_given r alone opening three.list four.list few o (record { is = (all.are o).0 (subst (IsIn o) all.joined i) }),
+      λ g. subst (IsIn o) (sym all.joined) ((all.are o).1 (given_all r alone opening three.list four.list few o g).is),
     ))
   where
     A : Tried → Type 0
-    A = GivenBy (LeftBy r true r.units) t.alone
+    A = GivenBy (LeftBy r true r.units) alone
 
     B : Tried → Type 0
-    B = GivenBy (OpenedBy r) t.opening
+    B = GivenBy (OpenedBy r) opening
 
     C : Tried → Type 0
     C = GivenBy (UnitBy r 0) three.list
@@ -194,5 +195,5 @@ four_are b q r ts place t f1 f2 f3 f4 law few stands at listed one two three fou
     all : Grows (λ o. ((A o ⊎ B o) ⊎ C o) ⊎ D o) [] f4
     all = grows_then (λ o. (A o ⊎ B o) ⊎ C o) D [] f3 f4 (grows_then (λ o. A o ⊎ B o) C [] f2 f3 (grows_then A B [] f1 f2 one two) three.grows) four.grows
 
-    there : ListedAt b q r.at t
-    there = subst (λ (a : Position). ListedAt b q a t) at (record { table = listed.table; alone = listed.alone; opening = listed.opening })
+    there : ListedAt b q r.at t alone opening
+    there = subst (λ (a : Position). ListedAt b q a t alone opening) at (record { table = table; alone_is = alone_is; opening_is = opening_is })

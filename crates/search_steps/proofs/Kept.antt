@@ -7,7 +7,7 @@ use Rattle.fare_law.specs.Lists.{Each}
 use Rattle.flight_paths.specs.declared.positions.Position.{Position}
 use Rattle.residual_table.specs.Keys.{KeepsNumbers}
 use Rattle.search_steps.specs.declared.tables.PositionTable.{PositionTable}
-use Rattle.search_steps.specs.Tables.{HasTable, IsListed, TableAt}
+use Rattle.search_steps.specs.Tables.{HasTable, IsOwnTable, TableAt}
 use Rattle.search_steps.proofs.TableFacts.{each_last, got_each, got_is, last_got}
 
 still_got : {X : Type 0} (xs ys : List X) (n : ℕ) (x : X) → slice_get xs n ≡ Some x → slice_get (xs ++ ys) n ≡ Some x
@@ -28,18 +28,18 @@ some_one : {X : Type 0} (o : Option X) (x y : X) → o ≡ Some x → o ≡ Some
 some_one o x y e f = let z : Some x ≡ Some y = sym e ∙ f in cc
 
 -- one table more
-pub tables_more : (b : Book) (q : Request) (old new : List PositionTable) (t : PositionTable) → new ≡ old ++ t ∷ [] → Each (IsListed b q) old → IsListed b q t → Each (IsListed b q) new
-tables_more b q old new t is h k = subst (Each (IsListed b q)) (sym is) (each_last (IsListed b q) old t h k)
+pub tables_more : (b : Book) (q : Request) (old new : List PositionTable) (t : PositionTable) → new ≡ old ++ t ∷ [] → Each (IsOwnTable b q) old → IsOwnTable b q t → Each (IsOwnTable b q) new
+tables_more b q old new t is h k = subst (Each (IsOwnTable b q)) (sym is) (each_last (IsOwnTable b q) old t h k)
 
 pub table_last : (old new : List PositionTable) (t : PositionTable) (at : Position) (n : ℕ) → new ≡ old ++ t ∷ [] → n ≡ length old → t.at ≡ at → TableAt new at n
 table_last old new t at n is e same = record { table = t; stands = ap (λ ts. slice_get ts n) is ∙ ap (slice_get (old ++ t ∷ [])) e ∙ last_got old t; position = same }
 
 -- the table that a place gives
-pub table_is : (b : Book) (q : Request) (ts : List PositionTable) (n : ℕ) (t : PositionTable) → Each (IsListed b q) ts → HasTable ts n → t ≡ get_or ts n t → (slice_get ts n ≡ Some t) × IsListed b q t
+pub table_is : (b : Book) (q : Request) (ts : List PositionTable) (n : ℕ) (t : PositionTable) → Each (IsOwnTable b q) ts → HasTable ts n → t ≡ get_or ts n t → (slice_get ts n ≡ Some t) × IsOwnTable b q t
 table_is b q ts n t h s is =
     let same : t ≡ s.0 = is ∙ got_is ts n t s.0 s.1 in
     let stands : slice_get ts n ≡ Some t = s.1 ∙ ap Some (sym same) in
-    (stands, got_each (IsListed b q) ts n t h stands)
+    (stands, got_each (IsOwnTable b q) ts n t h stands)
 
 pub has_table : (ts : List PositionTable) (at : Position) (n : ℕ) → TableAt ts at n → HasTable ts n
 has_table ts at n s = (s.table, s.stands)
@@ -48,10 +48,10 @@ pub still_has : (ts us : List PositionTable) (n : ℕ) → us ≡ ts → HasTabl
 still_has ts us n e s = subst (λ xs. HasTable xs n) (sym e) s
 
 -- the table of a position, at the place where it stands
-pub table_there : (b : Book) (q : Request) (ts : List PositionTable) (at : Position) (n : ℕ) (t : PositionTable) → Each (IsListed b q) ts → TableAt ts at n → t ≡ get_or ts n t → IsTable b q at t.entries
+pub table_there : (b : Book) (q : Request) (ts : List PositionTable) (at : Position) (n : ℕ) (t : PositionTable) → Each (IsOwnTable b q) ts → TableAt ts at n → t ≡ get_or ts n t → IsTable b q at t.entries
 table_there b q ts at n t h s is =
     let same : t ≡ s.table = is ∙ got_is ts n t s.table s.stands in
-    let table = (got_each (IsListed b q) ts n s.table h s.stands).table in
+    let table = got_each (IsOwnTable b q) ts n s.table h s.stands in
     subst (λ (x : PositionTable). IsTable b q at x.entries) (sym same) (subst (λ a. IsTable b q a s.table.entries) s.position table)
 
 -- the table of a position is at it

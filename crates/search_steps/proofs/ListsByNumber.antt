@@ -10,7 +10,9 @@ use Rattle.graph_walk.specs.Steps.{AreOutcomes, LeadToLive, outcome_of, outcomes
 use Rattle.open_unit.specs.declared.units.OpenUnit.{OpenUnit}
 use Rattle.outlines.specs.declared.marks.Listed.{Listed}
 use Rattle.outlines.specs.declared.outline.Outcome.{Outcome as Tried}
-use Rattle.outlines.specs.Marks.{IsList, IsOfUnit, ListsAreOutcomes}
+use Rattle.outlines.specs.declared.marks.Mark.{Mark}
+use Rattle.outlines.specs.declared.outline.Entry.{Entry}
+use Rattle.outlines.specs.Marks.{IsAlone, IsList, IsOfUnit, IsOpening, ListsAreOutcomes}
 use Rattle.outlines.specs.Outcomes.{AreOutcomes as TriedAre, Grows as Given}
 use Rattle.outlines.proofs.Growing.{grows_like, grows_none, grows_then}
 use Rattle.residual_keys.proofs.Adding.{in_either, in_left, in_right}
@@ -27,12 +29,11 @@ use Rattle.search_steps.specs.declared.numbered.Step.{Step}
 use Rattle.search_steps.specs.declared.numbered.StepLists.{StepLists}
 use Rattle.search_steps.specs.declared.numbered.UnitSteps.{UnitSteps}
 use Rattle.search_steps.specs.declared.tables.PositionTable.{PositionTable}
-use Rattle.search_steps.specs.declared.tables.UnitTable.{UnitTable}
 use Rattle.search_steps.specs.Giving.{GivenBy, OpenedBy, UnitBy, UnitGiven}
 use Rattle.search_steps.specs.Leads.{leads_of}
-use Rattle.search_steps.specs.Numbers.{AddsAll, AddsOne, ArePositionSteps, AreStepLists, AreSteps, AreUnitSteps, IsStep, StepsAt, UnitStandsAt, UnitStepsAt, tried_in, tried_of}
+use Rattle.search_steps.specs.Numbers.{AddsAll, AddsOne, ArePositionSteps, AreStepLists, AreSteps, AreStepsOf, AreUnitSteps, IsStep, StepsAt, UnitStandsAt, UnitStepsAt, tried_in, tried_of}
 use Rattle.search_steps.specs.Placed.{AddsFour, AddsOfUnit, ArePlaced, MayStand}
-use Rattle.search_steps.specs.Tables.{AsTried, IsListed, HasTable, IsUnitList, outcome_tried}
+use Rattle.search_steps.specs.Tables.{AsTried, HasTable, IsOwnTable, outcome_tried}
 use Rattle.search_steps.proofs.Given.{four_are, opening_not, unit_not}
 use Rattle.search_steps.proofs.LeftByNumber.{at_most_two, no_room}
 use Rattle.search_steps.proofs.Kept.{got_within}
@@ -125,19 +126,23 @@ step_stays t u g x s h = record {
 pub steps_stay : (t u : Numbers) → Grows t u → (xs : List Listed) (ss : List Step) → AreSteps t xs ss → AreSteps u xs ss
 steps_stay t u g xs ss h = matched_weaker (IsStep t) (IsStep u) (λ x s k. step_stays t u g x s k) xs ss h
 
+-- they go on to be a list of these marks
+pub marks_stay : (t u : Numbers) (Is : Entry → Mark → Type 0) (table : List Entry) (ss : List Step) → Grows t u → AreStepsOf t Is table ss → AreStepsOf u Is table ss
+marks_stay t u Is table ss g h = record { list = h.list; is = h.is; steps = steps_stay t u g h.list ss h.steps }
+
 pub grows_same : (t : Numbers) → Grows t t
 grows_same t = record { positions = λ n x h. h; units = λ n x h. h }
 
 pub grows_on : (t u v : Numbers) → Grows t u → Grows u v → Grows t v
 grows_on t u v g h = record { positions = λ n x e. h.positions n x (g.positions n x e); units = λ n x e. h.units n x (g.units n x e) }
 
-pub position_stays : (t u : Numbers) (ts us : List PositionTable) → Grows t u → KeepsNumbers ts us → (s : PositionSteps) → ArePositionSteps t ts s → ArePositionSteps u us s
-position_stays t u ts us g keeps s h = record {
+pub position_stays : (q : Request) (t u : Numbers) (ts us : List PositionTable) → Grows t u → KeepsNumbers ts us → (s : PositionSteps) → ArePositionSteps q t ts s → ArePositionSteps q u us s
+position_stays q t u ts us g keeps s h = record {
   table = h.table;
   stands = keeps s.place h.table h.stands;
   at = g.positions s.position h.table.at h.at;
-  alone = steps_stay t u g h.table.alone s.alone.items h.alone;
-  opening = steps_stay t u g h.table.opening s.opening.items h.opening;
+  alone = marks_stay t u (IsAlone h.table.at.place q.sale) h.table.entries s.alone.items g h.alone;
+  opening = marks_stay t u (IsOpening h.table.at.place q.sale) h.table.entries s.opening.items g h.opening;
 }
 
 pub unit_stays : (q : Request) (t u : Numbers) (ts us : List PositionTable) → Grows t u → KeepsNumbers ts us → (s : UnitSteps) → AreUnitSteps q t ts s → AreUnitSteps q u us s
@@ -146,13 +151,11 @@ unit_stays q t u ts us g keeps s h = record {
   stands = keeps s.place h.table h.stands;
   unit = h.unit;
   slot = slot_stays t.units u.units s.slot (Some h.unit) g.units h.slot;
-  list = h.list;
-  is = h.is;
-  steps = steps_stay t u g h.list s.steps.items h.steps;
+  steps = marks_stay t u (IsOfUnit h.table.at.place q.sale h.unit) h.table.entries s.steps.items g h.steps;
 }
 
-pub positions_stay : (t u : Numbers) (ts us : List PositionTable) (ss : List PositionSteps) → Grows t u → KeepsNumbers ts us → Each (ArePositionSteps t ts) ss → Each (ArePositionSteps u us) ss
-positions_stay t u ts us ss g keeps h = weaken (ArePositionSteps t ts) (ArePositionSteps u us) (position_stays t u ts us g keeps) ss h
+pub positions_stay : (q : Request) (t u : Numbers) (ts us : List PositionTable) (ss : List PositionSteps) → Grows t u → KeepsNumbers ts us → Each (ArePositionSteps q t ts) ss → Each (ArePositionSteps q u us) ss
+positions_stay q t u ts us ss g keeps h = weaken (ArePositionSteps q t ts) (ArePositionSteps q u us) (position_stays q t u ts us g keeps) ss h
 
 pub units_stay_by : (q : Request) (t u : Numbers) (ts us : List PositionTable) (ss : List UnitSteps) → Grows t u → KeepsNumbers ts us → Each (AreUnitSteps q t ts) ss → Each (AreUnitSteps q u us) ss
 units_stay_by q t u ts us ss g keeps h = weaken (AreUnitSteps q t ts) (AreUnitSteps q u us) (unit_stays q t u ts us g keeps) ss h
@@ -194,13 +197,13 @@ module _ (q : Request) (t : Numbers) (ts : List PositionTable) (us : List UnitSt
   given_of_unit None old new e adds = (subst (λ z. UnitGiven q ts place r slot (tried_in t old) (tried_in t z)) (sym adds) (unit_not q ts place r slot (tried_in t old) (is_none e)), λ l. subst (LeadToLive (IsLive t)) (sym adds) l)
   given_of_unit (Some n) old new at adds =
       let h = got_each (AreUnitSteps q t ts) us n at.steps all at.stands in
-      let a = adds at.steps at.stands t r h.list stands h.steps in (
+      let a = adds at.steps at.stands t r h.steps.list stands h.steps.steps in (
         record {
-          list = h.list;
+          list = h.steps.list;
           is = λ v has table there.
               let unit : h.unit ≡ v = is_unit h.unit v (subst (λ z. IsSlot t.units z (Some h.unit)) at.of_slot h.slot) has in
               let same : h.table ≡ table = some_same (slice_get ts place) h.table table (ap (slice_get ts) (sym at.of_place) ∙ h.stands) there in
-              subst (λ (y : PositionTable). IsList (IsOfUnit y.at.place q.sale v) y.entries h.list) same (subst (λ (w : OpenUnit). IsList (IsOfUnit h.table.at.place q.sale w) h.table.entries h.list) unit h.is);
+              subst (λ (y : PositionTable). IsList (IsOfUnit y.at.place q.sale v) y.entries h.steps.list) same (subst (λ (w : OpenUnit). IsList (IsOfUnit h.table.at.place q.sale w) h.table.entries h.steps.list) unit h.steps.is);
           grows = a.given;
         },
         a.live,
@@ -219,19 +222,19 @@ as_tried t (o ∷ os) = let e = sym (next_state t o) in let f = as_tried t os in
 
 -- the four lists that were added give the outcomes of the residual
 module _ (b : Book) (q : Request) (ts : List PositionTable) (l : StepLists) (k : ResidualKey) (r : State) (p : Placed) (found : List (Outcome ResidualKey))
-    (law : ListsAreOutcomes b q r) (tables : Each (IsListed b q) ts) (lists : AreStepLists q ts l) (stands : StandsFor l.numbers k r) (placed : ArePlaced l k p) (adds : AddsFour l k p found) where
+    (law : ListsAreOutcomes b q r) (tables : Each (IsOwnTable b q) ts) (lists : AreStepLists q ts l) (stands : StandsFor l.numbers k r) (placed : ArePlaced l k p) (adds : AddsFour l k p found) where
   four_by_number : TriedAre b q r (tried_in l.numbers found) × LeadToLive (IsLive l.numbers) found
   four_by_number =
       let t = l.numbers in
       let s = placed.steps in
-      let h = got_each (ArePositionSteps t ts) l.positions.items p.at s lists.positions placed.stands in
+      let h = got_each (ArePositionSteps q t ts) l.positions.items p.at s lists.positions placed.stands in
       let sl = slots t.units k.first k.second r.units stands.units in
       let at : h.table.at ≡ r.at = some_same (slice_get t.positions k.position) h.table.at r.at (ap (slice_get t.positions) (sym placed.of_position) ∙ h.at) stands.at in
-      let by_alone = adds.alone s placed.stands t r h.table.alone stands h.alone in
-      let by_opening = adds.opening s placed.stands t r h.table.opening stands h.opening in
+      let by_alone = adds.alone s placed.stands t r h.alone.list stands h.alone.steps in
+      let by_opening = adds.opening s placed.stands t r h.opening.list stands h.opening.steps in
       let by_first = given_of_unit q t ts l.units.items s.place k r stands lists.units 0 k.first (λ u v i e. unit_is_first t.units k.first k.second r.units u v sl i e) (λ z. none_first t.units k.first k.second r.units sl z) p.first adds.two adds.three placed.first adds.first in
       let by_second = given_of_unit q t ts l.units.items s.place k r stands lists.units 1 k.second (λ u v i e. unit_is_second t.units k.first k.second r.units u v sl i e) (λ z. none_second t.units k.first k.second r.units sl z) p.second adds.three found placed.second adds.second in (
-        four_are b q r ts s.place h.table (tried_in t adds.one) (tried_in t adds.two) (tried_in t adds.three) (tried_in t found) law (at_most_two t.units k.first k.second r.units sl) h.stands at (got_each (IsListed b q) ts s.place h.table tables h.stands)
+        four_are b q r ts s.place h.table h.alone.list h.opening.list (tried_in t adds.one) (tried_in t adds.two) (tried_in t adds.three) (tried_in t found) law (at_most_two t.units k.first k.second r.units sl) h.stands at (got_each (IsOwnTable b q) ts s.place h.table tables h.stands) h.alone.is h.opening.is
             by_alone.given by_opening.given by_first.0 by_second.0,
         by_second.1 (by_first.1 (by_opening.live (by_alone.live tt))),
       )
@@ -252,38 +255,25 @@ steps_next t u xs i d ss ss' s g lt h k e =
 pub steps_whole : (t : Numbers) (xs : List Listed) (i : ℕ) (ss : List Step) → length xs ≤ i → AreSteps t (take i xs) ss → AreSteps t xs ss
 steps_whole t xs i ss h are = subst (λ ys. AreSteps t ys ss) (take_all i xs h) are
 
--- the list of an open unit by numbers
-pub unit_steps_of : (q : Request) (t u : Numbers) (ts : List PositionTable) (table : UnitTable) (place slot : ℕ) (unit : OpenUnit) (steps : List Step) → IsUnitList q ts table → table.place ≡ place → table.unit ≡ unit → IsSlot t.units slot (Some unit)
-    → Grows t u → AreSteps u table.list steps → (s : UnitSteps) → s.place ≡ place → s.slot ≡ slot → s.steps.items ≡ steps → AreUnitSteps q u ts s
-unit_steps_of q t u ts table place slot unit steps h of_place of_unit at g are s p n e = record {
-  table = h.table;
-  stands = ap (slice_get ts) (p ∙ sym of_place) ∙ h.stands;
-  unit = unit;
-  slot = subst (λ z. IsSlot u.units z (Some unit)) (sym n) (slot_stays t.units u.units slot (Some unit) g.units at);
-  list = table.list;
-  is = subst (λ (w : OpenUnit). IsList (IsOfUnit h.table.at.place q.sale w) h.table.entries table.list) of_unit h.list;
-  steps = subst (AreSteps u table.list) (sym e) are;
-}
-
 -- the lists of all, where numbers and tables grew
 pub lists_stay : (q : Request) (ts us : List PositionTable) (u : Numbers) (l m : StepLists) → Grows l.numbers u → KeepsNumbers ts us → m.numbers ≡ u → m.positions.items ≡ l.positions.items → m.units.items ≡ l.units.items → AreStepLists q ts l → AreStepLists q us m
 lists_stay q ts us u l m g keeps e p n h = record {
-  positions = subst (λ z. Each (ArePositionSteps z us) m.positions.items) (sym e) (subst (Each (ArePositionSteps u us)) (sym p) (positions_stay l.numbers u ts us l.positions.items g keeps h.positions));
+  positions = subst (λ z. Each (ArePositionSteps q z us) m.positions.items) (sym e) (subst (Each (ArePositionSteps q u us)) (sym p) (positions_stay q l.numbers u ts us l.positions.items g keeps h.positions));
   units = subst (λ z. Each (AreUnitSteps q z us) m.units.items) (sym e) (subst (Each (AreUnitSteps q u us)) (sym n) (units_stay_by q l.numbers u ts us l.units.items g keeps h.units));
 }
 
 -- one more of a position
 pub position_more : (q : Request) (ts us : List PositionTable) (u : Numbers) (l m : StepLists) (s : PositionSteps) → Grows l.numbers u → KeepsNumbers ts us → m.numbers ≡ u → m.positions.items ≡ l.positions.items ++ s ∷ [] → m.units.items ≡ l.units.items
-    → ArePositionSteps u us s → AreStepLists q ts l → AreStepLists q us m
+    → ArePositionSteps q u us s → AreStepLists q ts l → AreStepLists q us m
 position_more q ts us u l m s g keeps e p n k h = record {
-  positions = subst (λ z. Each (ArePositionSteps z us) m.positions.items) (sym e) (subst (Each (ArePositionSteps u us)) (sym p) (each_last (ArePositionSteps u us) l.positions.items s (positions_stay l.numbers u ts us l.positions.items g keeps h.positions) k));
+  positions = subst (λ z. Each (ArePositionSteps q z us) m.positions.items) (sym e) (subst (Each (ArePositionSteps q u us)) (sym p) (each_last (ArePositionSteps q u us) l.positions.items s (positions_stay q l.numbers u ts us l.positions.items g keeps h.positions) k));
   units = subst (λ z. Each (AreUnitSteps q z us) m.units.items) (sym e) (subst (Each (AreUnitSteps q u us)) (sym n) (units_stay_by q l.numbers u ts us l.units.items g keeps h.units));
 }
 
 -- one more of an open unit
 pub unit_more : (q : Request) (ts : List PositionTable) (u : Numbers) (l m : StepLists) (s : UnitSteps) → Grows l.numbers u → m.numbers ≡ u → m.positions.items ≡ l.positions.items → m.units.items ≡ l.units.items ++ s ∷ [] → AreUnitSteps q u ts s → AreStepLists q ts l → AreStepLists q ts m
 unit_more q ts u l m s g e p n k h = record {
-  positions = subst (λ z. Each (ArePositionSteps z ts) m.positions.items) (sym e) (subst (Each (ArePositionSteps u ts)) (sym p) (positions_stay l.numbers u ts ts l.positions.items g (λ i x y. y) h.positions));
+  positions = subst (λ z. Each (ArePositionSteps q z ts) m.positions.items) (sym e) (subst (Each (ArePositionSteps q u ts)) (sym p) (positions_stay q l.numbers u ts ts l.positions.items g (λ i x y. y) h.positions));
   units = subst (λ z. Each (AreUnitSteps q z ts) m.units.items) (sym e) (subst (Each (AreUnitSteps q u ts)) (sym n) (each_last (AreUnitSteps q u ts) l.units.items s (units_stay_by q l.numbers u ts ts l.units.items g (λ i x y. y) h.units) k));
 }
 
@@ -319,7 +309,7 @@ placed_are l0 l1 l2 k at s first second found is e1 e2 keeps h i p a f g =
 pub has_table_of : (q : Request) (ts : List PositionTable) (l : StepLists) (position at : ℕ) (s : PositionSteps) → AreStepLists q ts l → StepsAt l.positions.items position at → s ≡ get_or l.positions.items at s → HasTable ts s.place
 has_table_of q ts l position at s h found is =
     let same : s ≡ found.steps = is ∙ got_is l.positions.items at s found.steps found.stands in
-    let a = got_each (ArePositionSteps l.numbers ts) l.positions.items at found.steps h.positions found.stands in
+    let a = got_each (ArePositionSteps q l.numbers ts) l.positions.items at found.steps h.positions found.stands in
     (a.table, ap (λ (z : PositionSteps). slice_get ts z.place) same ∙ a.stands)
 
 -- the slots of a live key

@@ -1,9 +1,8 @@
--- A list without what another mark of it makes idle is as good.
-use Rattle.std.proofs.Common.{◌≡◌, ◌⊎◌, ◌∙◌, ℕ, ℤ, zero, suc, ◌+◌, ◌≤◌, ◌<◌, List, [], ◌∷◌, ◌++◌, length, take, get_or, slice_get, Some, refl, sym, ap, subst, inl, inr, IfSome, arith}
+-- Steps without what another of the list makes idle are a list of the same marks.
+use Rattle.std.proofs.Common.{◌≡◌, ◌⊎◌, ◌∙◌, ℕ, ℤ, zero, suc, ◌+◌, ◌≤◌, ◌<◌, List, [], ◌∷◌, ◌++◌, length, take, get_or, slice_get, Option, Some, None, refl, sym, ap, subst, inl, inr, arith}
 use Rattle.std.proofs.Math.Seq.{take-suc}
 use Rattle.std.specs.List.Sorted.{IsPermutation}
-use Rattle.fare_law.specs.Lists.{Each, IsIn}
-use Rattle.open_unit.specs.Ranges.{UnitInRanges}
+use Rattle.fare_law.specs.Lists.{Each, IsIn, Matched}
 use Rattle.outlines.specs.declared.marks.Listed.{Listed}
 use Rattle.outlines.specs.declared.marks.Mark.{Mark}
 use Rattle.outlines.specs.declared.outline.Entry.{Entry}
@@ -11,93 +10,143 @@ use Rattle.outlines.specs.Marks.{IsList}
 use Rattle.residual_keys.proofs.Adding.{in_either, in_left, in_right}
 use Rattle.residual_keys.proofs.LeastOne.{in_each, weaken}
 use Rattle.residual_keys.proofs.SortedWords.{same_elements}
-use Rattle.search_steps.specs.Shortening.{HasNoDearer, IsShorter, OnceMore}
-use Rattle.search_steps.specs.Tables.{UnitsKept}
+use Rattle.residual_table.specs.Keys.{IsSlot, Tables as Numbers}
+use Rattle.search_steps.specs.declared.numbered.Step.{Step}
+use Rattle.search_steps.specs.Numbers.{AreSteps, AreStepsOf, HasSteps, IsStep}
+use Rattle.search_steps.specs.Shortening.{HasNoDearer, HaveOneMark, IsShorter, OnceMore}
 use Rattle.search_steps.proofs.TableFacts.{each_last}
 
-each_of : {X : Type 0} (P : X → Type 0) (xs : List X) → ((x : X) → IsIn x xs → P x) → Each P xs
-each_of P [] h = tt
-each_of P (x ∷ xs) h = (h x (inl refl), each_of P xs (λ y i. h y (inr i)))
-
-pub got_in : (xs : List Listed) (n : ℕ) (x : Listed) → slice_get xs n ≡ Some x → IsIn x xs
-got_in [] n x e = absurd (cc)
-got_in (y ∷ xs) zero x e = inl (let z : x ≡ y = cc in z)
-got_in (y ∷ xs) (suc n) x e = inr (got_in xs n x e)
+pub got_in : (ss : List Step) (n : ℕ) (s : Step) → slice_get ss n ≡ Some s → IsIn s ss
+got_in [] n s e = absurd (cc)
+got_in (u ∷ ss) zero s e = inl (let z : s ≡ u = cc in z)
+got_in (u ∷ ss) (suc n) s e = inr (got_in ss n s e)
 
 itself : (n : ℕ) → n ≤ n
 itself n = omega arith
 
+one_mark : (s u : Step) → s ≡ u → HaveOneMark u s
+one_mark s u e = record { after = ap (λ (z : Step). z.after) (sym e); unit = ap (λ (z : Step). z.unit) (sym e); carrier = ap (λ (z : Step). z.carrier) (sym e); ends = ap (λ (z : Step). z.ends) (sym e) }
+
 pub shorter_none : IsShorter [] []
-shorter_none = record { part = tt; covered = λ x i. absurd i }
+shorter_none = record { part = tt; covered = λ s i. absurd i }
 
-once_more : (xs old new : List Listed) (x : Listed) → OnceMore old x new → IsShorter xs old → IsShorter (xs ++ x ∷ []) new
-once_more xs old new x (inl is) h = subst (IsShorter (xs ++ x ∷ [])) (sym is) (record {
-  part = each_last (λ y. IsIn y (xs ++ x ∷ [])) old x (weaken (λ y. IsIn y xs) (λ y. IsIn y (xs ++ x ∷ [])) (λ y i. in_left y xs (x ∷ []) i) old h.part) (in_right x xs (x ∷ []) (inl refl));
-  covered = λ y i. cover y (in_either y xs (x ∷ []) i);
+once_more : (ss old new : List Step) (s : Step) → OnceMore old s new → IsShorter ss old → IsShorter (ss ++ s ∷ []) new
+once_more ss old new s (inl is) h = subst (IsShorter (ss ++ s ∷ [])) (sym is) (record {
+  part = each_last (λ u. IsIn u (ss ++ s ∷ [])) old s (weaken (λ u. IsIn u ss) (λ u. IsIn u (ss ++ s ∷ [])) (λ u i. in_left u ss (s ∷ []) i) old h.part) (in_right s ss (s ∷ []) (inl refl));
+  covered = λ u i. cover u (in_either u ss (s ∷ []) i);
 })
   where
-    cover : (y : Listed) → IsIn y xs ⊎ IsIn y (x ∷ []) → HasNoDearer (old ++ x ∷ []) y
-    cover y (inl i) = let z = h.covered y i in (z.0, in_left z.0 old (x ∷ []) z.1, z.2, z.3)
-    cover y (inr (inl s)) = (x, in_right x old (x ∷ []) (inl refl), sym (ap (λ (l : Listed). l.mark) s), subst (λ (l : Listed). x.price ≤ l.price) (sym s) (itself x.price))
-    cover y (inr (inr n)) = absurd n
-once_more xs old new x (inr had) h = subst (IsShorter (xs ++ x ∷ [])) (sym had.0) (record {
-  part = weaken (λ y. IsIn y xs) (λ y. IsIn y (xs ++ x ∷ [])) (λ y i. in_left y xs (x ∷ []) i) old h.part;
-  covered = λ y i. cover y (in_either y xs (x ∷ []) i);
+    cover : (u : Step) → IsIn u ss ⊎ IsIn u (s ∷ []) → HasNoDearer (old ++ s ∷ []) u
+    cover u (inl i) = let z = h.covered u i in (z.0, in_left z.0 old (s ∷ []) z.1, z.2, z.3)
+    cover u (inr (inl e)) = (s, in_right s old (s ∷ []) (inl refl), one_mark u s e, subst (λ (z : Step). s.price ≤ z.price) (sym e) (itself s.price))
+    cover u (inr (inr n)) = absurd n
+once_more ss old new s (inr had) h = subst (IsShorter (ss ++ s ∷ [])) (sym had.0) (record {
+  part = weaken (λ u. IsIn u ss) (λ u. IsIn u (ss ++ s ∷ [])) (λ u i. in_left u ss (s ∷ []) i) old h.part;
+  covered = λ u i. cover u (in_either u ss (s ∷ []) i);
 })
   where
-    cover : (y : Listed) → IsIn y xs ⊎ IsIn y (x ∷ []) → HasNoDearer old y
-    cover y (inl i) = h.covered y i
-    cover y (inr (inl s)) = subst (HasNoDearer old) (sym s) had.1
-    cover y (inr (inr n)) = absurd n
+    cover : (u : Step) → IsIn u ss ⊎ IsIn u (s ∷ []) → HasNoDearer old u
+    cover u (inl i) = h.covered u i
+    cover u (inr (inl e)) = subst (HasNoDearer old) (sym e) had.1
+    cover u (inr (inr n)) = absurd n
 
-kept_more : (old new : List Listed) (x : Listed) → OnceMore old x new → UnitsKept old → IfSome x.mark.unit UnitInRanges → UnitsKept new
-kept_more old new x (inl is) h k = subst UnitsKept (sym is) (each_last (λ y. IfSome y.mark.unit UnitInRanges) old x h k)
-kept_more old new x (inr had) h k = subst UnitsKept (sym had.0) h
+pub shorter_next : (ss : List Step) (i : ℕ) (d : Step) (old new : List Step) → i < length ss → OnceMore old (get_or ss i d) new → IsShorter (take i ss) old → IsShorter (take (i + 1) ss) new
+shorter_next ss i d old new lt more h =
+    let one : i + 1 ≡ suc i = omega arith in
+    let front : take (i + 1) ss ≡ take i ss ++ get_or ss i d ∷ [] = ap (λ n. take n ss) one ∙ take-suc ss i d lt in
+    subst (λ us. IsShorter us new) (sym front) (once_more (take i ss) old new (get_or ss i d) more h)
 
-shorter_more : (list : List Listed) (i : ℕ) (d x : Listed) (old new : List Listed) → i < length list → x ≡ get_or list i d → OnceMore old x new → IsShorter (take i list) old → IsShorter (take (i + 1) list) new
-shorter_more list i d x old new lt is more h = subst (λ xs. IsShorter xs new) (sym front) (once_more (take i list) old new x more h)
-  where
-    one : i + 1 ≡ suc i
-    one = omega arith
-
-    front : take (i + 1) list ≡ take i list ++ x ∷ []
-    front = ap (λ n. take n list) one ∙ take-suc list i d lt ∙ ap (λ y. take i list ++ y ∷ []) (sym is)
-
-pub shorter_next : (list : List Listed) (i : ℕ) (d : Listed) (old new : List Listed) → i < length list → OnceMore old (get_or list i d) new → IsShorter (take i list) old → IsShorter (take (i + 1) list) new
-shorter_next list i d old new lt more h = shorter_more list i d (get_or list i d) old new lt refl more h
-
-pub shorter_order : (old mid new : List Listed) → IsPermutation old mid → IsShorter mid new → IsShorter old new
+pub shorter_order : (old mid new : List Step) → IsPermutation old mid → IsShorter mid new → IsShorter old new
 shorter_order old mid new p h = record {
-  part = weaken (λ x. IsIn x mid) (λ x. IsIn x old) (λ x i. (same_elements x old mid p).1 i) new h.part;
-  covered = λ x i. h.covered x ((same_elements x old mid p).0 i);
+  part = weaken (λ s. IsIn s mid) (λ s. IsIn s old) (λ s i. (same_elements s old mid p).1 i) new h.part;
+  covered = λ s i. h.covered s ((same_elements s old mid p).0 i);
 }
 
-pub shorter_kept : (old new : List Listed) → IsShorter old new → UnitsKept old → UnitsKept new
-shorter_kept old new h k = weaken (λ x. IsIn x old) (λ x. IfSome x.mark.unit UnitInRanges) (λ x i. in_each (λ x. IfSome x.mark.unit UnitInRanges) x old k i) new h.part
+-- what is matched with one of a list
+matched_left : {X Y : Type 0} (R : X → Y → Type 0) (xs : List X) (ys : List Y) (y : Y) → Matched R xs ys → IsIn y ys → (x : X) × IsIn x xs × R x y
+matched_left R [] [] y h i = absurd i
+matched_left R [] (v ∷ ys) y h i = absurd h
+matched_left R (x ∷ xs) [] y h i = absurd h
+matched_left R (x ∷ xs) (v ∷ ys) y h (inl e) = (x, inl refl, subst (R x) (sym e) h.0)
+matched_left R (x ∷ xs) (v ∷ ys) y h (inr i) = let r = matched_left R xs ys y h.1 i in (r.0, inr r.1, r.2)
 
-pub order_kept : (old new : List Listed) → IsPermutation old new → UnitsKept old → UnitsKept new
-order_kept old new p k = each_of (λ x. IfSome x.mark.unit UnitInRanges) new (λ x i. in_each (λ x. IfSome x.mark.unit UnitInRanges) x old k ((same_elements x old new p).1 i))
+matched_right : {X Y : Type 0} (R : X → Y → Type 0) (xs : List X) (ys : List Y) (x : X) → Matched R xs ys → IsIn x xs → (y : Y) × IsIn y ys × R x y
+matched_right R [] [] x h i = absurd i
+matched_right R [] (v ∷ ys) x h i = absurd h
+matched_right R (w ∷ xs) [] x h i = absurd h
+matched_right R (w ∷ xs) (v ∷ ys) x h (inl e) = (v, inl refl, subst (λ z. R z v) (sym e) h.0)
+matched_right R (w ∷ xs) (v ∷ ys) x h (inr i) = let r = matched_right R xs ys x h.1 i in (r.0, inr r.1, r.2)
 
-item_kept : (list : List Listed) (i : ℕ) (d : Listed) → i < length list → UnitsKept list → IfSome (get_or list i d).mark.unit UnitInRanges
-item_kept [] i d lt h = absurd (omega (arith, lt))
-item_kept (y ∷ ys) zero d lt h = h.0
-item_kept (y ∷ ys) (suc i) d lt h = item_kept ys i d (omega (arith, lt)) h.1
+some_one : {X : Type 0} (o : Option X) (x y : X) → o ≡ Some x → o ≡ Some y → x ≡ y
+some_one o x y e f = let z : Some x ≡ Some y = sym e ∙ f in cc
 
-pub kept_next : (list : List Listed) (i : ℕ) (d : Listed) (old new : List Listed) → i < length list → UnitsKept list → OnceMore old (get_or list i d) new → UnitsKept old → UnitsKept new
-kept_next list i d old new lt h more k = kept_more old new (get_or list i d) more k (item_kept list i d lt h)
+-- what has one slot is one
+slot_one : {X : Type 0} (xs : List X) (m n : ℕ) (a b : Option X) → m ≡ n → IsSlot xs m a → IsSlot xs n b → a ≡ b
+slot_one xs m n None None e h k = refl
+slot_one xs m n None (Some y) e h k = absurd (let z = k.1 in omega (arith, e, h, z))
+slot_one xs m n (Some x) None e h k = absurd (let z = h.1 in omega (arith, e, k, z))
+slot_one xs m n (Some x) (Some y) e h k =
+    let p = h.1 in
+    let q = k.1 in
+    let same : h.0 ≡ k.0 = omega (arith, e, p, q) in
+    ap Some (some_one (slice_get xs k.0) x y (ap (slice_get xs) (sym same) ∙ h.2) k.2)
 
--- a list as a call asks for it
-pub told : (Is : ℤ → Entry → Mark → Type 0) (sale day : ℤ) (table entries : List Entry) (list : List Listed) → sale ≡ day → table ≡ entries → IsList (Is sale) table list → IsList (Is day) entries list
-told Is sale day table entries list e f h = subst (λ es. IsList (Is day) es list) f (subst (λ d. IsList (Is d) table list) e h)
+mark_one : (t : Numbers) (x y : Listed) (s u : Step) → IsStep t x s → IsStep t y u → HaveOneMark u s → y.mark ≡ x.mark
+mark_one t x y s u h k e =
+    let after : y.mark.after ≡ x.mark.after = slot_one t.positions u.after s.after y.mark.after x.mark.after e.after k.after h.after in
+    let unit : y.mark.unit ≡ x.mark.unit = slot_one t.units u.unit s.unit y.mark.unit x.mark.unit e.unit k.unit h.unit in
+    let carrier : y.mark.carrier ≡ x.mark.carrier = sym k.carrier ∙ e.carrier ∙ h.carrier in
+    let ends : y.mark.ends ≡ x.mark.ends = sym k.ends ∙ e.ends ∙ h.ends in
+    λ j. record { after = after j; unit = unit j; carrier = carrier j; ends = ends j }
 
-pub shorter_list : (Is : Entry → Mark → Type 0) (table : List Entry) (old new : List Listed) → IsShorter old new → IsList Is table old → IsList Is table new
-shorter_list Is table old new s h = record {
-  attained = weaken (λ x. IsIn x old) Attained (λ x i. in_each Attained x old h.attained i) new s.part;
-  covered = λ e i m k.
-      let x = h.covered e i m k in
-      let y = s.covered x.0 x.1 in
-      (y.0, y.1, y.2 ∙ x.2, omega (arith, y.3, x.3));
+-- the marks of some of the steps of a list
+record Picked (t : Numbers) (list : List Listed) (kept : List Step) : Type 0 where
+  marks : List Listed
+  steps : AreSteps t marks kept
+  part : Each (λ x. IsIn x list) marks
+
+picked : (t : Numbers) (list : List Listed) (steps kept : List Step) → AreSteps t list steps → Each (λ s. IsIn s steps) kept → Picked t list kept
+picked t list steps [] are h = record { marks = []; steps = tt; part = tt }
+picked t list steps (s ∷ kept) are h =
+    let x = matched_left (IsStep t) list steps s are h.0 in
+    let more = picked t list steps kept are h.1 in
+    record { marks = x.0 ∷ more.marks; steps = (x.2, more.steps); part = (x.1, more.part) }
+
+pub shorter_steps : (t : Numbers) (list : List Listed) (steps kept : List Step) → AreSteps t list steps → IsShorter steps kept → HasSteps t list kept
+shorter_steps t list steps kept are short = record {
+  marks = some.marks;
+  part = some.part;
+  covered = λ x i.
+      let s = matched_right (IsStep t) list steps x are i in
+      let u = short.covered s.0 s.1 in
+      let y = matched_left (IsStep t) some.marks kept u.0 some.steps u.1 in
+      let below = u.3 in
+      let of_x = s.2.price in
+      let of_y = y.2.price in
+      (y.0, y.1, mark_one t x y.0 s.0 u.0 s.2 y.2 u.2, omega (arith, below, of_x, of_y));
+  steps = some.steps;
+}
+  where
+    some : Picked t list kept
+    some = picked t list steps kept are short.part
+
+-- marks of a table's entries stay a list of them
+pub list_of_steps : (t : Numbers) (Is : Entry → Mark → Type 0) (table : List Entry) (xs : List Listed) (ss : List Step) → HasSteps t xs ss → IsList Is table xs → AreStepsOf t Is table ss
+list_of_steps t Is table xs ss has h = record {
+  list = has.marks;
+  is = record {
+    attained = weaken (λ x. IsIn x xs) Attained (λ x i. in_each Attained x xs h.attained i) has.marks has.part;
+    covered = λ e i m k.
+        let x = h.covered e i m k in
+        let y = has.covered x.0 x.1 in
+        (y.0, y.1, y.2 ∙ x.2, omega (arith, y.3, x.3));
+  };
+  steps = has.steps;
 }
   where
     Attained : Listed → Type 0
     Attained x = (e : Entry) × IsIn e table × Is e x.mark × (x.price ≡ e.price)
+
+-- a list as a call asks for it
+pub told : (Is : ℤ → Entry → Mark → Type 0) (sale day : ℤ) (table entries : List Entry) (list : List Listed) → sale ≡ day → table ≡ entries → IsList (Is sale) table list → IsList (Is day) entries list
+told Is sale day table entries list e f h = subst (λ es. IsList (Is day) es list) f (subst (λ d. IsList (Is d) table list) e h)

@@ -1,16 +1,18 @@
 -- Marks, lists and outcomes by the numbers of positions and of open units.
-use Rattle.std.specs.Prelude.{◌≡◌, ◌≢◌, ℕ, zero, suc, Bool, List, map, slice_get, Option, Some, None}
+use Rattle.std.specs.Prelude.{◌≡◌, ◌≢◌, ℕ, zero, suc, ◌≤◌, Bool, List, map, slice_get, Option, Some, None}
 use Rattle.std.specs.Borrow.{Bor}
 use Rattle.fare_law.specs.declared.requests.Request.{Request}
 use Rattle.fare_law.specs.Book.{Book}
-use Rattle.fare_law.specs.Lists.{Each, Matched}
+use Rattle.fare_law.specs.Lists.{Each, IsIn, Matched}
 use Rattle.graph_walk.specs.declared.outcome.Outcome.{Outcome}
 use Rattle.graph_walk.specs.Steps.{LeadToLive}
 use Rattle.open_unit.specs.declared.units.OpenUnit.{OpenUnit}
 use Rattle.open_unit.specs.OpenUnits.{carrier_with}
 use Rattle.outlines.specs.declared.marks.Listed.{Listed}
 use Rattle.outlines.specs.declared.outline.Outcome.{Outcome as Tried}
-use Rattle.outlines.specs.Marks.{IsList, IsOfUnit}
+use Rattle.outlines.specs.declared.marks.Mark.{Mark}
+use Rattle.outlines.specs.declared.outline.Entry.{Entry}
+use Rattle.outlines.specs.Marks.{IsAlone, IsList, IsOfUnit, IsOpening}
 use Rattle.outlines.specs.Outcomes.{Grows as Given}
 use Rattle.residual_keys.specs.declared.parts.TicketPart.{TicketPart}
 use Rattle.residual_keys.specs.declared.residual.Next.{Next}
@@ -35,6 +37,19 @@ pub record IsStep (t : Numbers) (x : Listed) (s : Step) : Type 0 where
 
 abbrev pub AreSteps : Numbers → List Listed → List Step → Type 0
 AreSteps t xs steps = Matched (IsStep t) xs steps
+
+-- The steps are a list of these marks of a table's entries, by numbers.
+pub record AreStepsOf (t : Numbers) (Is : Entry → Mark → Type 0) (table : List Entry) (ss : List Step) : Type 0 where
+  pub list : List Listed
+  pub is : IsList Is table list
+  pub steps : AreSteps t list ss
+
+-- The steps are marks of a list by numbers, and each mark of it is among them at no higher price.
+pub record HasSteps (t : Numbers) (xs : List Listed) (ss : List Step) : Type 0 where
+  pub marks : List Listed
+  pub part : Each (λ x. IsIn x xs) marks
+  pub covered : (x : Listed) → IsIn x xs → (y : Listed) × IsIn y marks × (y.mark ≡ x.mark) × (y.price ≤ x.price)
+  pub steps : AreSteps t marks ss
 
 -- an outcome by numbers, as one of residuals
 abbrev pub next_at : Numbers → Option ResidualKey → Next
@@ -74,13 +89,13 @@ AddsOne P k s old new = (t : Numbers) (r : State) (x : Listed) → StandsFor t k
 abbrev pub AddsAll : (State → Listed → Tried → Type 0) → ResidualKey → List Step → List (Outcome ResidualKey) → List (Outcome ResidualKey) → Type 0
 AddsAll P k steps old new = (t : Numbers) (r : State) (xs : List Listed) → StandsFor t k r → AreSteps t xs steps → Adds t (GivenBy (P r) xs) old new
 
--- These are the lists of the table that stands at its place, by numbers.
-pub record ArePositionSteps (t : Numbers) (ts : List PositionTable) (s : PositionSteps) : Type 0 where
+-- These are the lists of the table that stands at its place, where its components stand alone and where they open a unit, by numbers.
+pub record ArePositionSteps (q : Request) (t : Numbers) (ts : List PositionTable) (s : PositionSteps) : Type 0 where
   pub table : PositionTable
   pub stands : slice_get ts s.place ≡ Some table
   pub at : slice_get t.positions s.position ≡ Some table.at
-  pub alone : AreSteps t table.alone s.alone.items
-  pub opening : AreSteps t table.opening s.opening.items
+  pub alone : AreStepsOf t (IsAlone table.at.place q.sale) table.entries s.alone.items
+  pub opening : AreStepsOf t (IsOpening table.at.place q.sale) table.entries s.opening.items
 
 -- This is the list of an open unit, from the table that stands at its place, by numbers.
 pub record AreUnitSteps (q : Request) (t : Numbers) (ts : List PositionTable) (s : UnitSteps) : Type 0 where
@@ -88,13 +103,11 @@ pub record AreUnitSteps (q : Request) (t : Numbers) (ts : List PositionTable) (s
   pub stands : slice_get ts s.place ≡ Some table
   pub unit : OpenUnit
   pub slot : IsSlot t.units s.slot (Some unit)
-  pub list : List Listed
-  pub is : IsList (IsOfUnit table.at.place q.sale unit) table.entries list
-  pub steps : AreSteps t list s.steps.items
+  pub steps : AreStepsOf t (IsOfUnit table.at.place q.sale unit) table.entries s.steps.items
 
 -- the lists by numbers are those of the tables
 pub record AreStepLists (q : Request) (ts : List PositionTable) (l : StepLists) : Type 0 where
-  pub positions : Each (ArePositionSteps l.numbers ts) l.positions.items
+  pub positions : Each (ArePositionSteps q l.numbers ts) l.positions.items
   pub units : Each (AreUnitSteps q l.numbers ts) l.units.items
 
 -- the lists of a position stand at this place

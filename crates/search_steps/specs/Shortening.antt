@@ -1,17 +1,24 @@
--- Lists of marks without what another of the list makes idle.
+-- Lists of steps without what another of the list makes idle.
 use Rattle.std.specs.Prelude.{◌≡◌, ◌⊎◌, ◌≤◌, List, [], ◌∷◌, ◌++◌}
 use Rattle.fare_law.specs.Lists.{Each, IsIn}
-use Rattle.outlines.specs.declared.marks.Listed.{Listed}
+use Rattle.search_steps.specs.declared.numbered.Step.{Step}
 
--- the list has this mark at no higher price
-abbrev pub HasNoDearer : List Listed → Listed → Type 0
-HasNoDearer xs x = (y : Listed) × IsIn y xs × (y.mark ≡ x.mark) × (y.price ≤ x.price)
+-- the steps have one mark
+pub record HaveOneMark (s u : Step) : Type 0 where
+  pub after : s.after ≡ u.after
+  pub unit : s.unit ≡ u.unit
+  pub carrier : s.carrier ≡ u.carrier
+  pub ends : s.ends ≡ u.ends
+
+-- the list has a step of this mark at no higher price
+abbrev pub HasNoDearer : List Step → Step → Type 0
+HasNoDearer ss s = (u : Step) × IsIn u ss × HaveOneMark u s × (u.price ≤ s.price)
 
 -- The new list is a part of the old one, and has each of its marks at no higher price.
-pub record IsShorter (old new : List Listed) : Type 0 where
-  pub part : Each (λ x. IsIn x old) new
-  pub covered : (x : Listed) → IsIn x old → HasNoDearer new x
+pub record IsShorter (old new : List Step) : Type 0 where
+  pub part : Each (λ s. IsIn s old) new
+  pub covered : (s : Step) → IsIn s old → HasNoDearer new s
 
 -- one was added at the end, or the list had its mark at no higher price
-abbrev pub OnceMore : List Listed → Listed → List Listed → Type 0
-OnceMore old x new = (new ≡ old ++ x ∷ []) ⊎ ((new ≡ old) × HasNoDearer old x)
+abbrev pub OnceMore : List Step → Step → List Step → Type 0
+OnceMore old s new = (new ≡ old ++ s ∷ []) ⊎ ((new ≡ old) × HasNoDearer old s)

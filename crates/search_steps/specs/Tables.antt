@@ -1,4 +1,4 @@
--- The tables of positions with their lists by role, and the lists of open units.
+-- The tables of positions, and the lists that are made of them.
 use Rattle.std.specs.Prelude.{◌≡◌, ℕ, List, map, slice_get, Some, IfSome}
 use Rattle.component_table.specs.Networks.{IsNetwork}
 use Rattle.component_table.specs.Tables.{IsTable}
@@ -10,35 +10,22 @@ use Rattle.graph_walk.specs.declared.outcome.Outcome.{Outcome}
 use Rattle.open_unit.specs.Ranges.{UnitInRanges}
 use Rattle.outlines.specs.declared.marks.Listed.{Listed}
 use Rattle.outlines.specs.declared.outline.Outcome.{Outcome as Tried}
-use Rattle.outlines.specs.Marks.{IsAlone, IsList, IsOfUnit, IsOpening}
 use Rattle.residual_keys.specs.Residuals.{State}
 use Rattle.search_steps.specs.declared.tables.PositionTable.{PositionTable}
 use Rattle.search_steps.specs.declared.tables.Tables.{Tables}
-use Rattle.search_steps.specs.declared.tables.UnitTable.{UnitTable}
 use Rattle.search_steps.specs.Leads.{state_of}
 
 -- the units that marks leave open are in their ranges
 abbrev pub UnitsKept : List Listed → Type 0
 UnitsKept xs = Each (λ x. IfSome x.mark.unit UnitInRanges) xs
 
--- It is the table of its position, with the lists of its components where they stand alone and where they open a unit.
-pub record IsListed (b : Book) (q : Request) (t : PositionTable) : Type 0 where
-  pub table : IsTable b q t.at t.entries
-  pub alone : IsList (IsAlone t.at.place q.sale) t.entries t.alone
-  pub opening : IsList (IsOpening t.at.place q.sale) t.entries t.opening
-  pub kept : UnitsKept t.opening
-
--- It is the list of its open unit, from the table that stands at its place.
-pub record IsUnitList (q : Request) (ts : List PositionTable) (u : UnitTable) : Type 0 where
-  pub unit : UnitInRanges u.unit
-  pub table : PositionTable
-  pub stands : slice_get ts u.place ≡ Some table
-  pub list : IsList (IsOfUnit table.at.place q.sale u.unit) table.entries u.list
-  pub kept : UnitsKept u.list
+-- it is the table of its position
+abbrev pub IsOwnTable : Book → Request → PositionTable → Type 0
+IsOwnTable b q t = IsTable b q t.at t.entries
 
 -- the tables and the network are the book's and the request's
 pub record AreTables (b : Book) (q : Request) (t : Tables) : Type 0 where
-  pub tables : Each (IsListed b q) t.kept.items
+  pub tables : Each (IsOwnTable b q) t.kept.items
   pub network : IsNetwork b q t.network
 
 -- a table stands at this place

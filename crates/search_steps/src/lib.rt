@@ -5,7 +5,6 @@
 mod adding;
 mod bounds;
 mod case;
-mod digests;
 mod keyed;
 mod keying;
 mod laws;
@@ -24,7 +23,6 @@ mod stepping;
 mod steps;
 mod tables;
 mod taking;
-mod unit_lists;
 mod walking;
 mod within;
 
@@ -38,4 +36,4 @@ pub use numbered_case::NumberedCase;
 pub use row_order::RankedRow;
 pub use settling::has_keys_of;
 pub use steps::SearchSteps;
-pub use tables::{PositionTable, Tables, UnitKey, UnitTable};
+pub use tables::{PositionTable, Tables};

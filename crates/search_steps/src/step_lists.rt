@@ -9,9 +9,11 @@ ghost use Rattle.search_steps.specs.Tables.{AreTables, HasTable};
 use crate::Case;
 use crate::numbered::{PositionSteps, StepLists, UnitSlot, UnitSteps};
 use crate::stepping::steps_of;
-use crate::tables::{Tables, UnitKey};
+use crate::tables::Tables;
 use fare_law::Mem;
 use indexmap::IndexMap;
+use open_unit::OpenUnit;
+use outlines::{alone_list, opening_list, unit_list};
 use residual_table::ResidualParts;
 use std::alloc::Global;
 
@@ -90,7 +92,7 @@ impl StepLists {
         ensures tables { AreTables case.now.book.now case.now.request.now tables.new }
         ensures right { AreStepLists case.now.request.now tables.new.kept.items self.new }
         ensures grows { Grows self.old.numbers self.new.numbers }
-        ensures steps { IfOk result (ArePositionSteps self.new.numbers tables.new.kept.items) }
+        ensures steps { IfOk result (ArePositionSteps case.now.request.now self.new.numbers tables.new.kept.items) }
         ensures position { IfOk result (λ s. s.position ≡ position) }
     {
         position_steps(alloc, case, tables, &mut self.numbers, position)
@@ -136,14 +138,18 @@ fn position_steps(
     ensures tables { AreTables case.now.book.now case.now.request.now tables.new }
     ensures stays { KeepsNumbers tables.old.kept.items tables.new.kept.items }
     ensures grows { Grows numbers.old numbers.new }
-    ensures steps { IfOk result (ArePositionSteps numbers.new tables.new.kept.items) }
+    ensures steps { IfOk result (ArePositionSteps case.now.request.now numbers.new tables.new.kept.items) }
     ensures position { IfOk result (λ s. s.position ≡ position) }
 {
     let at = numbers.position_at(position);
     let place = tables.find(alloc, case, &at)?;
     let table = &tables.kept[place];
-    let alone = steps_of(alloc, numbers, table.alone.as_slice())?;
-    let opening = steps_of(alloc, numbers, table.opening.as_slice())?;
+    let begin = table.at.place;
+    let sale = case.request.sale;
+    let alone = alone_list(alloc, begin, sale, table.entries.as_slice())?;
+    let alone = steps_of(alloc, numbers, alone.as_slice())?;
+    let opening = opening_list(alloc, begin, sale, table.entries.as_slice())?;
+    let opening = steps_of(alloc, numbers, opening.as_slice())?;
     Ok(PositionSteps {
         position,
         place,
@@ -171,13 +177,7 @@ fn unit_steps(
     ensures slot { IfOk result (λ s. s.slot ≡ key.slot) }
 {
     match numbers.unit_in(key.slot) {
-        Some(unit) => {
-            let from = UnitKey {
-                place: key.place,
-                unit,
-            };
-            steps_of_unit(alloc, case, tables, numbers, &from, key.slot)
-        }
+        Some(unit) => steps_of_unit(alloc, case, tables, numbers, key, &unit),
         None => unreachable!(),
     }
 }
@@ -188,24 +188,32 @@ fn steps_of_unit(
     case: &Case,
     tables: &Tables,
     numbers: &mut ResidualParts,
-    from: &UnitKey,
-    slot: u32,
+    key: UnitSlot,
+    unit: &OpenUnit,
 ) -> Result<UnitSteps, Mem>
     requires request { IsRequest case.now.request.now }
-    requires slot { IsSlot numbers.old.units slot (Some from.now.unit) }
-    requires unit { UnitInRanges from.now.unit }
-    requires place { HasTable tables.now.kept.items from.now.place }
+    requires slot { IsSlot numbers.old.units key.slot (Some unit.now) }
+    requires unit { UnitInRanges unit.now }
+    requires place { HasTable tables.now.kept.items key.place }
     requires tables { AreTables case.now.book.now case.now.request.now tables.now }
     ensures grows { Grows numbers.old numbers.new }
     ensures steps { IfOk result (AreUnitSteps case.now.request.now numbers.new tables.now.kept.items) }
-    ensures place { IfOk result (λ s. s.place ≡ from.now.place) }
-    ensures slot { IfOk result (λ s. s.slot ≡ slot) }
+    ensures place { IfOk result (λ s. s.place ≡ key.place) }
+    ensures slot { IfOk result (λ s. s.slot ≡ key.slot) }
 {
-    let table = tables.unit_table(alloc, case, from)?;
-    let steps = steps_of(alloc, numbers, table.list.as_slice())?;
+    let table = &tables.kept[key.place];
+    let begin = table.at.place;
+    let list = unit_list(
+        alloc,
+        begin,
+        case.request.sale,
+        unit,
+        table.entries.as_slice(),
+    )?;
+    let steps = steps_of(alloc, numbers, list.as_slice())?;
     Ok(UnitSteps {
-        place: from.place,
-        slot,
+        place: key.place,
+        slot: key.slot,
         steps,
     })
 }

@@ -1,14 +1,10 @@
 use Rattle.std.proofs.Common.{[], sym, subst}
 use Rattle.search_steps.specs.Shortening.{IsShorter}
-use Rattle.search_steps.specs.Tables.{UnitsKept}
-use Rattle.search_steps.proofs.Shorter.{kept_next, shorter_next, shorter_none}
+use Rattle.search_steps.proofs.Shorter.{shorter_next, shorter_none}
 use Rattle.search_steps.proofs.shortening.once_each.Goals as goal
 
-pub loop-listed-init : goal.loop-listed-init
-loop-listed-init c = record { shorter = subst (IsShorter []) (sym c.new-kept.ensures) shorter_none; kept = subst UnitsKept (sym c.new-kept.ensures) tt }
+pub loop-step-init : goal.loop-step-init
+loop-step-init c = subst (IsShorter []) (sym c.new-kept.ensures.items) shorter_none
 
-pub loop-listed-preserved : goal.loop-listed-preserved
-loop-listed-preserved c = record {
-  shorter = shorter_next c.args.list.now c.loop-listed.listed-index _ c.loop-listed.kept c.add_once.new.kept c.loop-listed-test.true c.in_ok-add_once.ensures c.loop-listed.invariant.shorter;
-  kept = kept_next c.args.list.now c.loop-listed.listed-index _ c.loop-listed.kept c.add_once.new.kept c.loop-listed-test.true c.requires c.in_ok-add_once.ensures c.loop-listed.invariant.kept;
-}
+pub loop-step-preserved : goal.loop-step-preserved
+loop-step-preserved c = shorter_next c.args.steps.now c.loop-step.step-index _ c.loop-step.kept.items c.add_once.new.kept.items c.loop-step-test.true c.in_ok-add_once.ensures c.loop-step.invariant

@@ -1,7 +1,7 @@
 use Rattle.std.proofs.Common.{subst, sym}
 use Rattle.fare_law.specs.Lists.{Each}
 use Rattle.search_steps.specs.Numbers.{ArePositionSteps, AreUnitSteps}
-use Rattle.search_steps.specs.Tables.{IsListed}
+use Rattle.search_steps.specs.Tables.{IsOwnTable}
 use Rattle.search_steps.proofs.numbered_case.NumberedCase.new.Goals as goal
 
 pub invariant_of-result : goal.invariant_of-result
@@ -11,11 +11,11 @@ invariant_of-result c =
     let ts = c.new.result.kept.items in
     let l = c.new-2.result in (
       record {
-        tables = subst (Each (IsListed b q)) (sym c.new.ensures.kept) tt;
+        tables = subst (Each (IsOwnTable b q)) (sym c.new.ensures.kept) tt;
         network = c.new.ensures.network b q;
       },
       record {
-        positions = subst (Each (ArePositionSteps l.numbers ts)) (sym c.new-2.ensures.positions) tt;
+        positions = subst (Each (ArePositionSteps q l.numbers ts)) (sym c.new-2.ensures.positions) tt;
         units = subst (Each (AreUnitSteps q l.numbers ts)) (sym c.new-2.ensures.units) tt;
       },
     )

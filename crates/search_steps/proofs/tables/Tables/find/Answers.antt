@@ -1,4 +1,4 @@
-use Rattle.std.proofs.Common.{arith}
+use Rattle.std.proofs.Common.{arith, refl}
 use Rattle.search_steps.proofs.Kept.{keeps_pushed, table_last, tables_more}
 use Rattle.search_steps.proofs.tables.Tables.find.Goals as goal
 
@@ -10,12 +10,13 @@ returns-clause-right c =
     let kept = c.push.new.self.items in
     let right = c.requires.right in
     record {
-      tables = tables_more b q old.kept.items kept c.in_ok-table.table c.in_ok-push.ensures.items right.tables c.in_ok-table.ensures.listed;
-      network = c.table_with_lists.ensures.network;
+      tables = tables_more b q old.kept.items kept (record { at = c.args.at.now; entries = c.in_ok-entries.entries }) c.in_ok-push.ensures.items right.tables c.in_ok-entries.ensures.table;
+      network = c.outlines_of.ensures.network;
     }
 
 pub returns-clause-found : goal.returns-clause-found
-returns-clause-found c = table_last c.args.self.now.kept.items c.push.new.self.items c.in_ok-table.table _ c.len-place.result c.in_ok-push.ensures.items (omega (arith, c.len-place.ensures)) c.in_ok-table.ensures.at
+returns-clause-found c =
+    table_last c.args.self.now.kept.items c.push.new.self.items (record { at = c.args.at.now; entries = c.in_ok-entries.entries }) _ c.len-place.result c.in_ok-push.ensures.items (omega (arith, c.len-place.ensures)) refl
 
 pub returns-clause-stays : goal.returns-clause-stays
-returns-clause-stays c = keeps_pushed c.args.self.now.kept.items c.push.new.self.items c.in_ok-table.table c.in_ok-push.ensures.items
+returns-clause-stays c = keeps_pushed c.args.self.now.kept.items c.push.new.self.items (record { at = c.args.at.now; entries = c.in_ok-entries.entries }) c.in_ok-push.ensures.items

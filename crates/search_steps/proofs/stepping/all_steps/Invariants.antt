@@ -1,7 +1,7 @@
 use Rattle.std.proofs.Common.{take}
 use Rattle.residual_table.specs.Keys.{Grows}
 use Rattle.search_steps.specs.Numbers.{AreSteps}
-use Rattle.search_steps.proofs.stepping.steps_of.Given as goal
+use Rattle.search_steps.proofs.stepping.all_steps.Given as goal
 
 abbrev pub invariant-loop-listed : goal.invariant-loop-listed
 invariant-loop-listed l = record {
