@@ -28,3 +28,5 @@ pub mod Timely
 pub mod Ranging
 pub mod Wanting
 pub mod Skipping
+pub mod Choosing
+pub mod Running

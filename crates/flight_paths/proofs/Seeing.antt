@@ -35,23 +35,23 @@ module _ (b : Book) (sl : List Slice) (at : Position) where
   pub rest_not : (h t : Path) → (Follows b sl at h t → ⊥) → AreRest b sl at h (t ∷ []) []
   rest_not h t never = record { once = tt; are = λ p. (λ i. absurd i, λ w. never (subst (Follows b sl at h) (in_one w.0 t w.1) w.2.follows)) }
 
-  pub rest_more : (h t : Path) (ts ps qs : List Path) → (IsIn t ts → ⊥) → AreRest b sl at h ts ps → AreRest b sl at h (t ∷ []) qs → AreRest b sl at h (ts ++ t ∷ []) (ps ++ qs)
-  rest_more h t ts ps qs new r f = record { once = different_more ps qs r.once f.once again; are = λ q. (forth q, λ w. back q w.0 w.1 w.2) }
+  pub rest_both : (h : Path) (ts us ps qs : List Path) → ((t : Path) → IsIn t ts → IsIn t us → ⊥) → AreRest b sl at h ts ps → AreRest b sl at h us qs → AreRest b sl at h (ts ++ us) (ps ++ qs)
+  rest_both h ts us ps qs differ r f = record { once = different_more ps qs r.once f.once again; are = λ q. (forth q, λ w. back q w.0 w.1 w.2) }
     where
       again : (x : Path) → IsIn x ps → IsIn x qs → ⊥
       again x i k =
           let w = (r.are x).0 i in
           let v = (f.are x).0 k in
-          new (subst (λ y. IsIn y ts) (joined_tail b sl at h w.0 v.0 x w.2 v.2 ∙ in_one v.0 t v.1) w.1)
+          differ v.0 (subst (λ y. IsIn y ts) (joined_tail b sl at h w.0 v.0 x w.2 v.2) w.1) v.1
 
-      forth : (q : Path) → IsIn q (ps ++ qs) → (tail : Path) × IsIn tail (ts ++ t ∷ []) × IsJoined b sl at h tail q
+      forth : (q : Path) → IsIn q (ps ++ qs) → (tail : Path) × IsIn tail (ts ++ us) × IsJoined b sl at h tail q
       forth q i = elim (in_either q ps qs i) [
-        | inl l ↦ let w = (r.are q).0 l in (w.0, in_left w.0 ts (t ∷ []) w.1, w.2)
-        | inr k ↦ let w = (f.are q).0 k in (w.0, in_right w.0 ts (t ∷ []) w.1, w.2)
+        | inl l ↦ let w = (r.are q).0 l in (w.0, in_left w.0 ts us w.1, w.2)
+        | inr k ↦ let w = (f.are q).0 k in (w.0, in_right w.0 ts us w.1, w.2)
       ]
 
-      back : (q x : Path) → IsIn x (ts ++ t ∷ []) → IsJoined b sl at h x q → IsIn q (ps ++ qs)
-      back q x i k = elim (in_either x ts (t ∷ []) i) [
+      back : (q x : Path) → IsIn x (ts ++ us) → IsJoined b sl at h x q → IsIn q (ps ++ qs)
+      back q x i k = elim (in_either x ts us i) [
         | inl l ↦ in_left q ps qs ((r.are q).1 (x, l, k))
         | inr m ↦ in_right q ps qs ((f.are q).1 (x, m, k))
       ]

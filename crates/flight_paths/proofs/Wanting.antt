@@ -1,18 +1,21 @@
 -- The tails that end where they are wanted.
-use Rattle.std.proofs.Common.{◌≡◌, ℕ, zero, suc, ◌-◌, ◌≤◌, Bool, true, false, cond, filter, option_map, unwrap_or, List, [], ◌∷◌, ◌++◌, length, drop, append-nil, get_or, Some, None, refl, sym, ap, subst, ◌∙◌, inl, inr, arith}
+use Rattle.std.proofs.Common.{◌≡◌, ℕ, zero, suc, ◌+◌, ◌-◌, ◌≤◌, ◌<◌, Bool, true, false, cond, filter, option_map, unwrap_or, List, [], ◌∷◌, ◌++◌, length, drop, append-nil, append_assoc, get_or, Some, None, refl, sym, ap, subst, ◌∙◌, inl, inr, arith}
 use Rattle.fare_law.specs.declared.flights.Flight.{Flight}
 use Rattle.fare_law.specs.declared.names.Place.{Place}
 use Rattle.fare_law.specs.declared.requests.Slice.{Slice}
 use Rattle.fare_law.specs.Book.{Book}
-use Rattle.fare_law.specs.Lists.{EachPair, IsIn}
+use Rattle.fare_law.specs.Lists.{Each, EachPair, IsIn}
 use Rattle.flight_paths.specs.declared.positions.Path.{Path}
-use Rattle.flight_paths.specs.Heads.{AreTails, EndWanted, IsTail, TailsTo, ends_wanted, last_wanted, number_wanted}
+use Rattle.flight_paths.specs.Heads.{AreTails, EndWanted, IsTail, TailsTo, chosen, ends_wanted, last_wanted, number_wanted}
 use Rattle.flight_paths.specs.Paths.{Precedes}
 use Rattle.flight_paths.specs.Plans.{HasPlan}
 use Rattle.flight_paths.specs.Positions.{position_before}
 use Rattle.flight_paths.specs.Ways.{AreFlightsOf}
 use Rattle.flight_paths.proofs.Apart.{first_of_all}
+use Rattle.flight_paths.proofs.Choosing.{chosen_both, chosen_one}
 use Rattle.flight_paths.proofs.Growth.{flies_numbers}
+use Rattle.flight_paths.proofs.Parting.{each_both}
+use Rattle.flight_paths.proofs.Places.{get_some}
 use Rattle.schedule_book.specs.Plan.{Plan}
 
 pub last_number : (flights : List Flight) (wanted : Place → Bool) (ns : List ℕ) (d : ℕ) → 1 ≤ length ns → number_wanted flights wanted (get_or ns (length ns - 1) d) ≡ last_wanted flights wanted ns
@@ -89,3 +92,27 @@ all_kept t some ps i le h = sym (append-nil some) ∙ ap (λ qs. some ++ filter 
     none_left [] (suc n) k = refl
     none_left (q ∷ qs) zero k = absurd (omega (arith, k))
     none_left (q ∷ qs) (suc n) k = none_left qs n (omega (arith, k))
+
+-- the next number, of a path that is kept, and of one that isn't
+module _ (t : Path → Bool) (ps : List Path) (ns : List ℕ) (i : ℕ) (x : Path) (lt : i < length ps) (is : x ≡ get_or ps i x) where
+  next_is : (c : Bool) → t x ≡ c → filter t (drop i ps) ≡ cond c (x ∷ filter t (drop (i + 1) ps)) (filter t (drop (i + 1) ps))
+  next_is c e = ap (filter t) (drop_first ps i x lt ∙ ap (λ y. y ∷ drop (i + 1) ps) (sym is)) ∙ ap (λ k. cond k (x ∷ filter t (drop (i + 1) ps)) (filter t (drop (i + 1) ps))) e
+    where
+      drop_first : (qs : List Path) (n : ℕ) (d : Path) → n < length qs → drop n qs ≡ get_or qs n d ∷ drop (n + 1) qs
+      drop_first [] n d h = absurd (omega (arith, h))
+      drop_first (q ∷ qs) zero d h = refl
+      drop_first (q ∷ qs) (suc n) d h = drop_first qs n d (omega (arith, h)) ∙ ap (λ k. get_or qs n d ∷ drop k (q ∷ qs)) (one_more n)
+        where
+          one_more : (k : ℕ) → suc (k + 1) ≡ suc k + 1
+          one_more k = omega arith
+
+  pub kept_next : t x ≡ true → chosen ps ns ++ filter t (drop i ps) ≡ filter t ps → chosen ps (ns ++ i ∷ []) ++ filter t (drop (i + 1) ps) ≡ filter t ps
+  kept_next e h =
+      ap (λ ys. ys ++ filter t (drop (i + 1) ps)) (chosen_both ps ns (i ∷ []) ∙ ap (λ ys. chosen ps ns ++ ys) (chosen_one ps i x (get_some ps i x lt ∙ ap Some (sym is))))
+      ∙ append_assoc (chosen ps ns) (x ∷ []) (filter t (drop (i + 1) ps)) ∙ ap (λ ys. chosen ps ns ++ ys) (sym (next_is true e)) ∙ h
+
+  pub left_next : t x ≡ false → chosen ps ns ++ filter t (drop i ps) ≡ filter t ps → chosen ps ns ++ filter t (drop (i + 1) ps) ≡ filter t ps
+  left_next e h = ap (λ ys. chosen ps ns ++ ys) (sym (next_is false e)) ∙ h
+
+  pub known_next : Each (λ n. n < length ps) ns → Each (λ n. n < length ps) (ns ++ i ∷ [])
+  known_next h = each_both (λ n. n < length ps) ns (i ∷ []) h (lt, tt)

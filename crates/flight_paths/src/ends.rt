@@ -1,9 +1,10 @@
 //! Places where paths are wanted to end, and the tails that end there.
-ghost use Rattle.std.specs.Prelude.{◌≡◌, ℕ, Bool, List as Items, filter, IfOk};
+ghost use Rattle.std.specs.Prelude.{◌≡◌, ◌<◌, ℕ, Bool, List as Items, filter, length, IfOk};
 ghost use Rattle.fare_law.specs.declared.names.Place.{Place as PlaceName};
 ghost use Rattle.fare_law.specs.declared.requests.Slice.{Slice as RequestSlice};
 ghost use Rattle.fare_law.specs.Book.{Book};
-ghost use Rattle.flight_paths.specs.Heads.{AreTails, TailsTo, ends_wanted, last_wanted, number_wanted};
+ghost use Rattle.fare_law.specs.Lists.{Each};
+ghost use Rattle.flight_paths.specs.Heads.{AreTails, TailsTo, chosen, ends_wanted, last_wanted, number_wanted};
 ghost use Rattle.flight_paths.specs.Plans.{HasPlan};
 
 use crate::Path;
@@ -21,25 +22,26 @@ pub trait Ends {
         ensures { result ≡ wanted self.now place };
 }
 
-/// The tails that end where they are wanted, in their order. A caller keeps them for all positions at one
-/// place.
+/// The numbers of the tails that end where they are wanted, in their order. A caller keeps them for all
+/// positions at one place.
 pub fn tails_to<E: Ends>(
     alloc: Global,
     schedule: &Schedule,
     tails: &[Path],
     ends: &E,
-) -> Result<List<Path>, Mem>
-    ensures those { IfOk result (λ some. some ≡ filter (ends_wanted schedule.now.flights (E.wanted ends.now)) tails.now) }
-    ensures tails { IfOk result (λ some. (b : Book) (slices : Items RequestSlice) (i : ℕ) → HasPlan b schedule.now → AreTails b slices i tails.now → TailsTo b slices i (E.wanted ends.now) some) }
+) -> Result<List<usize>, Mem>
+    ensures within { IfOk result (λ numbers. Each (λ n. n < length tails.now) numbers) }
+    ensures those { IfOk result (λ numbers. chosen tails.now numbers ≡ filter (ends_wanted schedule.now.flights (E.wanted ends.now)) tails.now) }
+    ensures tails { IfOk result (λ numbers. (b : Book) (slices : Items RequestSlice) (i : ℕ) → HasPlan b schedule.now → AreTails b slices i tails.now → TailsTo b slices i (E.wanted ends.now) (chosen tails.now numbers)) }
 {
     let flights = schedule.flights();
-    let mut some = List::new(alloc);
-    for tail in tails {
+    let mut numbers = List::new(alloc);
+    for (number, tail) in tails.iter().enumerate() {
         if ends_wanted(flights, tail.flights.as_slice(), ends) {
-            some.push(tail.copied())?;
+            numbers.push(number)?;
         }
     }
-    Ok(some)
+    Ok(numbers)
 }
 
 /// Whether the last of the flights of these numbers ends at a wanted place.

@@ -19,6 +19,6 @@ pub use ends::{Ends, tails_to};
 pub use laws::{crosses_in_time, heads_and_tails, heads_are_short};
 pub use parts::{heads, tails};
 pub use paths::{component_paths, root_position, slice_paths};
-pub use positions::{Path, Position};
+pub use positions::{Path, Position, SomeTails};
 pub use single::path_of;
 pub use visits::{PathVisitor, visit_paths};

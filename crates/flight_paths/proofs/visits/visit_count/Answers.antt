@@ -1,8 +1,10 @@
-use Rattle.std.proofs.Common.{◌-◌, ◌≤◌, take, drop, arith}
-use Rattle.flight_paths.specs.Heads.{AreRest, AreRestOf, Saw}
+use Rattle.std.proofs.Common.{◌-◌, ◌<◌, ◌≤◌, length, suc, take, drop, subst, arith}
+use Rattle.flight_paths.specs.Heads.{AreRest, AreRestOf, Saw, chosen}
 use Rattle.flight_paths.specs.Plans.{plan_book}
 use Rattle.flight_paths.proofs.Seeing.{on_ok, saw_like, saw_none}
-use Rattle.flight_paths.proofs.Ranging.{all_between, none_between, part_of, part_ordered}
+use Rattle.flight_paths.proofs.Ranging.{all_between, none_between}
+use Rattle.flight_paths.proofs.Running.{part_tails}
+use Rattle.flight_paths.proofs.Choosing.{chosen_part, each_drop, each_take}
 use Rattle.flight_paths.proofs.visits.visit_count.Goals as goal
 
 pub returns-then-to-from : goal.returns-then-to-from
@@ -11,16 +13,20 @@ returns-then-to-from g c =
     let sl = c.args.junction.now.slices.now in
     let at = c.args.junction.now.start.now in
     let h = c.args.junction.now.head.now in
-    let ts = c.args.tails.now in
+    let ts = chosen c.args.tails.now.all.now c.args.tails.now.numbers.now in
     let n = c.args.count in
     saw_none (g.V.PathVisitor.told c.args.visitor.now) (AreRestOf b sl at h ts n)
     (none_between b sl at h c.args.junction.now.middle c.requires.crossing ts n c.place_of-from.result c.place_of-to.result c.place_of-from.ensures.point c.place_of-to.ensures.point c.if-to-from.true)
 
-pub visit_each-requires-clause-order : goal.visit_each-requires-clause-order
-visit_each-requires-clause-order g c = part_ordered c.args.tails.now c.place_of-from.result (c.place_of-to.result - c.place_of-from.result) c.requires.tails.in_order
+pub visit_each-requires-clause-numbers : goal.visit_each-requires-clause-numbers
+visit_each-requires-clause-numbers g c =
+    let all = c.args.tails.now.all.now in
+    each_take (λ n. n < length all) (drop c.place_of-from.result c.args.tails.now.numbers.now) (c.place_of-to.result - c.place_of-from.result) (each_drop (λ n. n < length all) c.args.tails.now.numbers.now c.place_of-from.result c.requires.numbers)
 
-pub visit_each-requires-clause-each : goal.visit_each-requires-clause-each
-visit_each-requires-clause-each g c = λ t i. c.requires.tails.each t (part_of c.args.tails.now c.place_of-from.result (c.place_of-to.result - c.place_of-from.result) t i)
+pub visit_each-requires-clause-tails : goal.visit_each-requires-clause-tails
+visit_each-requires-clause-tails g c =
+    let from = c.place_of-from.result in
+    part_tails (plan_book c.args.junction.now.schedule.now) c.args.junction.now.slices.now (suc c.args.junction.now.start.now.slice) c.args.tails.now.all.now c.args.tails.now.numbers.now from (c.place_of-to.result - from) c.requires.numbers c.requires.tails
 
 pub returns : goal.returns
 returns g c =
@@ -28,13 +34,15 @@ returns g c =
     let sl = c.args.junction.now.slices.now in
     let at = c.args.junction.now.start.now in
     let h = c.args.junction.now.head.now in
-    let ts = c.args.tails.now in
+    let all = c.args.tails.now.all.now in
+    let ns = c.args.tails.now.numbers.now in
+    let ts = chosen all ns in
     let n = c.args.count in
     let from = c.place_of-from.result in
     let to = c.place_of-to.result in
     let le : from ≤ to = omega (arith, c.if-to-from.false) in
     let old = g.V.PathVisitor.told c.args.visitor.now in
     let new = g.V.PathVisitor.told c.visit_each.new.visitor in
-    on_ok (Saw old new (AreRest b sl at h (take (to - from) (drop from ts)))) (Saw old new (AreRestOf b sl at h ts n)) c.visit_each.result c.visit_each.ensures
-    (λ s. saw_like old new (AreRest b sl at h (take (to - from) (drop from ts))) (AreRestOf b sl at h ts n) s
-    (λ ps r. all_between b sl at h c.args.junction.now.middle c.requires.crossing ts n from to c.place_of-from.ensures.point c.place_of-to.ensures.point ps le r))
+    on_ok (Saw old new (AreRest b sl at h (chosen all (take (to - from) (drop from ns))))) (Saw old new (AreRestOf b sl at h ts n)) c.visit_each.result c.visit_each.ensures
+    (λ s. saw_like old new (AreRest b sl at h (chosen all (take (to - from) (drop from ns)))) (AreRestOf b sl at h ts n) s
+    (λ ps r. all_between b sl at h c.args.junction.now.middle c.requires.crossing ts n from to c.place_of-from.ensures.point c.place_of-to.ensures.point ps le (subst (λ xs. AreRest b sl at h xs ps) (chosen_part all ns from (to - from) c.requires.numbers) r)))

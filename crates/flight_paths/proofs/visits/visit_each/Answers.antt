@@ -1,30 +1,37 @@
-use Rattle.std.proofs.Common.{◌≡◌, ◌+◌, ◌++◌, ◌∷◌, [], take, sym, ap, subst, ◌∙◌}
-use Rattle.fare_law.specs.Lists.{IsIn}
-use Rattle.flight_paths.specs.Heads.{AreRest, Saw}
+use Rattle.std.proofs.Common.{◌+◌, ◌-◌, ◌≤◌, ℕ, suc, List, length, take, drop, subst, arith}
+use Rattle.std.proofs.lemmas.List.{length-drop}
+use Rattle.flight_paths.specs.Heads.{AreRest, Saw, chosen}
 use Rattle.flight_paths.specs.Plans.{plan_book}
-use Rattle.flight_paths.proofs.Apart.{not_before}
-use Rattle.flight_paths.proofs.Seeing.{rest_more, saw_more}
-use Rattle.flight_paths.proofs.Places.{front_is, in_list}
+use Rattle.flight_paths.proofs.Choosing.{rest_of}
+use Rattle.flight_paths.proofs.Running.{one_more_run, part_tails}
 use Rattle.flight_paths.proofs.visits.visit_each.Goals as goal
 
-pub visit_joined-requires-clause-tail : goal.visit_joined-requires-clause-tail
-visit_joined-requires-clause-tail g c =
-    let ts = c.args.tails.now in
-    let t = c.tail-item.result in
-    let among : IsIn t ts = subst (λ x. IsIn x ts) (sym c.tail-item.is) (in_list ts c.loop-tail.tail-index t c.loop-tail-test.true) in
-    c.requires.each t among
+pub visit_run-requires-clause-tails : goal.visit_run-requires-clause-tails
+visit_run-requires-clause-tails g c =
+    let ns = c.args.numbers.now in
+    let k = c.loop-done.done in
+    part_tails (plan_book c.args.junction.now.schedule.now) c.args.junction.now.slices.now (suc c.args.junction.now.start.now.slice) c.args.all.now ns k (length ns - k) c.requires.numbers c.requires.tails
 
-pub loop-tail-preserved : goal.loop-tail-preserved
-loop-tail-preserved g c =
+pub loop-done-preserved : goal.loop-done-preserved
+loop-done-preserved g c =
     let b = plan_book c.args.junction.now.schedule.now in
     let sl = c.args.junction.now.slices.now in
     let at = c.args.junction.now.start.now in
     let h = c.args.junction.now.head.now in
-    let ts = c.args.tails.now in
-    let i = c.loop-tail.tail-index in
-    let t = c.tail-item.result in
-    let front : take (i + 1) ts ≡ take i ts ++ t ∷ [] = front_is ts i t c.loop-tail-test.true ∙ ap (λ x. take i ts ++ x ∷ []) (sym c.tail-item.is) in
-    let new : IsIn t (take i ts) → ⊥ = λ k. not_before ts i t c.requires.order c.loop-tail-test.true (subst (λ x. IsIn x (take i ts)) c.tail-item.is k) in
-    subst (λ xs. Saw (g.V.PathVisitor.told c.args.visitor.now) (g.V.PathVisitor.told c.visit_joined.new.visitor) (AreRest b sl at h xs)) (sym front)
-    (saw_more (g.V.PathVisitor.told c.args.visitor.now) (g.V.PathVisitor.told c.loop-tail.visitor) (g.V.PathVisitor.told c.visit_joined.new.visitor) (AreRest b sl at h (take i ts)) (AreRest b sl at h (t ∷ [])) (AreRest b sl at h (take i ts ++ t ∷ []))
-    c.loop-tail.invariant c.in_ok-visit_joined.ensures (λ ps qs a d. rest_more b sl at h t (take i ts) ps qs new a d))
+    let all = c.args.all.now in
+    let ns = c.args.numbers.now in
+    let k = c.loop-done.done in
+    let m = c.in_ok-done.field-0 in
+    let old = g.V.PathVisitor.told c.args.visitor.now in
+    let mid = g.V.PathVisitor.told c.loop-done.visitor in
+    let new = g.V.PathVisitor.told c.visit_run.new.visitor in
+    let rest = rest_of ns k in
+    let saw = subst (λ xs. Saw mid new (AreRest b sl at h (chosen all (take m xs)))) rest c.in_ok-done.ensures.saw in
+    let few : m ≤ length (drop k ns) = subst (λ xs. m ≤ length xs) rest c.in_ok-done.ensures.within in
+    record {
+      within = room k m ns c.loop-done.invariant.within few;
+      saw = one_more_run b sl at h c.args.junction.now.middle c.requires.crossing old mid new all ns k m c.requires.numbers c.requires.tails c.loop-done.invariant.saw saw;
+    }
+  where
+    room : (k m : ℕ) (ns : List ℕ) → k ≤ length ns → m ≤ length (drop k ns) → k + m ≤ length ns
+    room k m ns le few = omega (arith, le, few, length-drop k ns)

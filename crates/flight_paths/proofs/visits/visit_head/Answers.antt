@@ -1,5 +1,5 @@
 use Rattle.std.proofs.Common.{◌≡◌, ◌++◌, ◌∷◌, [], refl, sym, subst}
-use Rattle.flight_paths.specs.Heads.{AreFrom, AreRest, Saw}
+use Rattle.flight_paths.specs.Heads.{AreFrom, AreRest, Saw, chosen}
 use Rattle.flight_paths.specs.Plans.{plan_book}
 use Rattle.flight_paths.specs.Ways.{AreFlightsOf}
 use Rattle.flight_paths.proofs.Joining.{head_flights}
@@ -12,7 +12,7 @@ returns-in-Some g c =
     let sl = c.args.slices.now in
     let at = c.args.start.now in
     let h = c.args.head.now in
-    let ts = c.args.tails.now in
+    let ts = chosen c.args.tails.now.all.now c.args.tails.now.numbers.now in
     let old = g.V.PathVisitor.told c.args.visitor.now in
     let mid = g.V.PathVisitor.told c.visit.new.self in
     let new = g.V.PathVisitor.told c.visit_tails.new.visitor in
@@ -26,7 +26,7 @@ returns-in-None g c =
     let sl = c.args.slices.now in
     let at = c.args.start.now in
     let h = c.args.head.now in
-    let ts = c.args.tails.now in
+    let ts = chosen c.args.tails.now.all.now c.args.tails.now.numbers.now in
     saw_one (g.V.PathVisitor.told c.args.visitor.now) (g.V.PathVisitor.told c.visit.new.self) (AreFrom b sl at h ts) h c.in_ok-visit.ensures (from_alone b sl at h ts c.in-None.ensures.none)
 
 pub arrivals-places-requires-clause-known : goal.arrivals-places-requires-clause-known

@@ -1,7 +1,7 @@
 use Rattle.std.proofs.Common.{◌≡◌, ◌+◌, ◌++◌, ◌∷◌, [], take, sym, ap, subst, ◌∙◌}
 use Rattle.std.proofs.lemmas.List.{take_all}
 use Rattle.fare_law.specs.Lists.{IsIn}
-use Rattle.flight_paths.specs.Heads.{AreFrom, AreReached, Saw}
+use Rattle.flight_paths.specs.Heads.{AreFrom, AreReached, Saw, chosen}
 use Rattle.flight_paths.specs.Plans.{plan_book}
 use Rattle.flight_paths.proofs.Apart.{not_before}
 use Rattle.flight_paths.proofs.Seeing.{AreSeen, saw_like, saw_more, seen_more, seen_reached}
@@ -22,7 +22,7 @@ loop-head-preserved g c =
     let sl = c.args.slices.now in
     let at = c.args.start.now in
     let hs = c.args.heads.now in
-    let ts = c.args.tails.now in
+    let ts = chosen c.args.tails.now.all.now c.args.tails.now.numbers.now in
     let i = c.loop-head.head-index in
     let h = c.head-item.result in
     let front : take (i + 1) hs ≡ take i hs ++ h ∷ [] = front_is hs i h c.loop-head-test.true ∙ ap (λ x. take i hs ++ x ∷ []) (sym c.head-item.is) in
@@ -38,6 +38,6 @@ returns g c = λ wanted all.
     let sl = c.args.slices.now in
     let at = c.args.start.now in
     let hs = c.args.heads.now in
-    let ts = c.args.tails.now in
+    let ts = chosen c.args.tails.now.all.now c.args.tails.now.numbers.now in
     saw_like (g.V.PathVisitor.told c.args.visitor.now) (g.V.PathVisitor.told c.loop-head.visitor) (AreSeen b sl at ts (take c.loop-head.head-index hs)) (AreReached b sl at wanted) c.loop-head.invariant
     (λ ps a. seen_reached b sl at wanted ts hs ps c.requires.heads c.requires.tails all (subst (λ xs. AreSeen b sl at ts xs ps) (take_all c.loop-head.head-index hs c.loop-head-test.false) a))

@@ -1,7 +1,7 @@
 use Rattle.std.proofs.Common.{◌≡◌, Bool, ℕ, suc, ◌+◌, refl, sym, subst, arith}
 use Rattle.fare_law.specs.declared.names.Place.{Place}
 use Rattle.fare_law.specs.Book.{Book}
-use Rattle.flight_paths.specs.Heads.{AreReached, AreSomeTails, HasTails, Saw}
+use Rattle.flight_paths.specs.Heads.{AreReached, AreSomeTails, HasTails, Saw, chosen}
 use Rattle.flight_paths.specs.Plans.{HasPlan, plan_book}
 use Rattle.flight_paths.proofs.AnyBook.{alike_back, alike_plan}
 use Rattle.flight_paths.proofs.Seeing.{on_ok, saw_like}
@@ -15,15 +15,15 @@ pub visit_heads-requires-clause-tails : goal.visit_heads-requires-clause-tails
 visit_heads-requires-clause-tails g c =
     let b = plan_book c.args.schedule.now in
     let h = c.requires.tails b (record { places = refl; flights = refl }) in
-    subst (λ sl. AreSomeTails b sl (suc c.args.position.now.slice) c.args.tails.now) (sym c.as_slice-slices.ensures.items)
-    (subst (λ i. AreSomeTails b c.args.request.now.slices i c.args.tails.now) (one_more c.args.position.now.slice) h)
+    subst (λ sl. AreSomeTails b sl (suc c.args.position.now.slice) (chosen c.args.tails.now.all.now c.args.tails.now.numbers.now)) (sym c.as_slice-slices.ensures.items)
+    (subst (λ i. AreSomeTails b c.args.request.now.slices i (chosen c.args.tails.now.all.now c.args.tails.now.numbers.now)) (one_more c.args.position.now.slice) h)
 
 pub returns : goal.returns
 returns g c =
     let plan = c.args.schedule.now in
     let sl = c.args.request.now.slices in
     let at = c.args.position.now in
-    let ts = c.args.tails.now in
+    let ts = chosen c.args.tails.now.all.now c.args.tails.now.numbers.now in
     let old = g.V.PathVisitor.told c.args.visitor.now in
     let new = g.V.PathVisitor.told c.visit_heads.new.visitor in
     on_ok ((wanted : Place → Bool) → HasTails (plan_book plan) c.as_slice-slices.result.now (suc at.slice) wanted ts → Saw old new (AreReached (plan_book plan) c.as_slice-slices.result.now at wanted))

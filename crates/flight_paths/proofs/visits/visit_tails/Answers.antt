@@ -1,4 +1,4 @@
-use Rattle.flight_paths.specs.Heads.{AreRest, AreRestOf, Saw}
+use Rattle.flight_paths.specs.Heads.{AreRest, AreRestOf, Saw, chosen}
 use Rattle.flight_paths.specs.Plans.{plan_book}
 use Rattle.flight_paths.proofs.Seeing.{on_ok, saw_more}
 use Rattle.flight_paths.proofs.Ranging.{IsTwo, counts, two_parts}
@@ -10,7 +10,7 @@ returns g c =
     let sl = c.args.junction.now.slices.now in
     let at = c.args.junction.now.start.now in
     let h = c.args.junction.now.head.now in
-    let ts = c.args.tails.now in
+    let ts = chosen c.args.tails.now.all.now c.args.tails.now.numbers.now in
     let old = g.V.PathVisitor.told c.args.visitor.now in
     let one = g.V.PathVisitor.told c.visit_count.new.visitor in
     let two = g.V.PathVisitor.told c.visit_count-2.new.visitor in
