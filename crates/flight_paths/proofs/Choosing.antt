@@ -102,9 +102,12 @@ front_and_more xs zero m = ap (λ k. take k xs) (zero_more m)
   where
     zero_more : (m : ℕ) → 0 + m ≡ m
     zero_more m = omega arith
-front_and_more [] (suc a) m = none (suc a + m) ∙ sym (none m)
+front_and_more {X} [] (suc a) m = none (suc a + m) ∙ sym (none m)
   where
-    none : {X : Type 0} (k : ℕ) → take k ([] {A = X}) ≡ []
+    empty : List X
+    empty = []
+
+    none : (k : ℕ) → take k empty ≡ empty
     none zero = refl
     none (suc k) = refl
 front_and_more (x ∷ xs) (suc a) m = ap (λ k. take k (x ∷ xs)) (one_more a m) ∙ ap (λ ys. x ∷ ys) (front_and_more xs a m)

@@ -49,7 +49,7 @@ module _ (b : Book) (sl : List Slice) (at : Position) (h : Path) (middle : Posit
         let p : Path = record { flights = h.flights ++ t.flights; after = t.after } in
         elim (follows_or b sl at h t middle crossing fs tail) [
           | inl f ↦ saw_one told told (AreRest b sl at h (t ∷ [])) p (skipped t e p refl refl) (rest_one b sl at h t p (record { follows = f; numbers = refl; after = refl }))
-          | inr no ↦ saw_none told (AreRest b sl at h (t ∷ [])) (rest_not b sl at h t no)
+          | inr never ↦ saw_none told (AreRest b sl at h (t ∷ [])) (rest_not b sl at h t never)
         ]
 
     -- a run of tails that need no visit
@@ -57,14 +57,12 @@ module _ (b : Book) (sl : List Slice) (at : Position) (h : Path) (middle : Posit
     run_skipped [] zero f d = saw_none told (AreRest b sl at h []) (rest_none b sl at h)
     run_skipped [] (suc k) f d = saw_none told (AreRest b sl at h []) (rest_none b sl at h)
     run_skipped (n ∷ ns) zero f d = saw_none told (AreRest b sl at h []) (rest_none b sl at h)
-    run_skipped (n ∷ ns) (suc k) f d = by (slice_get all n) refl d
+    run_skipped (n ∷ ns) (suc k) f d = by (λ e. run_skipped ns k (λ i lt m g. f (suc i) (omega (arith, lt)) m g) e) (slice_get all n) refl d
       where
-        more : AreSomeTails b sl (suc at.slice) (chosen all (take k ns)) → Saw told told (AreRest b sl at h (chosen all (take k ns)))
-        more e = run_skipped ns k (λ i lt m g. f (suc i) (omega (arith, lt)) m g) e
-
-        by : (o : Option Path) → slice_get all n ≡ o → AreSomeTails b sl (suc at.slice) (put_one o (chosen all (take k ns))) → Saw told told (AreRest b sl at h (put_one o (chosen all (take k ns))))
-        by None e t = more t
-        by (Some x) e t =
+        by : (AreSomeTails b sl (suc at.slice) (chosen all (take k ns)) → Saw told told (AreRest b sl at h (chosen all (take k ns))))
+            → (o : Option Path) → slice_get all n ≡ o → AreSomeTails b sl (suc at.slice) (put_one o (chosen all (take k ns))) → Saw told told (AreRest b sl at h (put_one o (chosen all (take k ns))))
+        by more None e t = more t
+        by more (Some x) e t =
             let is = t.each x (inl refl) in
             saw_parts told told told (x ∷ []) (chosen all (take k ns)) t.in_order (one_skipped x n is.0 e is.1 (f 0 (omega arith) n refl))
             (more (record { in_order = rest_order x (chosen all (take k ns)) t.in_order; each = λ p i. t.each p (inr i) }))
