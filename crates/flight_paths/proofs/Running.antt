@@ -1,5 +1,5 @@
 -- Runs of tails that a visitor skips.
-use Rattle.std.proofs.Common.{◌≡◌, ◌⊎◌, ℕ, zero, suc, ◌+◌, ◌<◌, List, [], ◌∷◌, ◌++◌, length, take, drop, get_or, slice_get, Option, Some, None, refl, sym, ap, subst, ◌∙◌, inl, inr, arith}
+use Rattle.std.proofs.Common.{◌≡◌, ℕ, zero, suc, ◌+◌, ◌<◌, List, [], ◌∷◌, ◌++◌, length, take, drop, get_or, slice_get, Option, Some, None, refl, sym, ap, subst, ◌∙◌, inl, inr, arith}
 use Rattle.fare_law.specs.declared.flights.Flight.{Flight}
 use Rattle.fare_law.specs.declared.requests.Slice.{Slice}
 use Rattle.fare_law.specs.Book.{Book}
@@ -72,7 +72,7 @@ module _ (b : Book) (sl : List Slice) (at : Position) (h : Path) (middle : Posit
         → k < length ns → n ≡ get_or ns k n → slice_get all n ≡ Some t → Saw told new (AreRest b sl at h (t ∷ [])) → Saw told new (AreRest b sl at h (chosen all (take (k + 1) ns)))
     run_and_one new ns k n t known d skipped lt is at_n one =
         let parts : chosen all (take (k + 1) ns) ≡ chosen all (take k ns) ++ t ∷ [] =
-            ap (chosen all) (front_is ns k n lt ∙ ap (λ x. take k ns ++ x ∷ []) (sym is)) ∙ chosen_both all (take k ns) (n ∷ []) ∙ ap (λ xs. chosen all (take k ns) ++ xs) (chosen_one all n t at_n) in
+        ap (chosen all) (front_is ns k n lt ∙ ap (λ x. take k ns ++ x ∷ []) (sym is)) ∙ chosen_both all (take k ns) (n ∷ []) ∙ ap (λ xs. chosen all (take k ns) ++ xs) (chosen_one all n t at_n) in
         let order = (part_tails b sl (suc at.slice) all ns 0 (k + 1) known d).in_order in
         subst (λ xs. Saw told new (AreRest b sl at h xs)) (sym parts)
         (saw_parts told told new (chosen all (take k ns)) (t ∷ []) (subst InOrder parts order) (run_skipped ns k skipped (part_tails b sl (suc at.slice) all ns 0 k known d)) one)

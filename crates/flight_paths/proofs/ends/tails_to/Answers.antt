@@ -1,4 +1,4 @@
-use Rattle.std.proofs.Common.{◌≡◌, ◌+◌, ◌++◌, ◌<◌, List, ℕ, drop, filter, length, sym, ap, subst, ◌∙◌}
+use Rattle.std.proofs.Common.{◌≡◌, ◌+◌, ◌++◌, ◌<◌, List, ℕ, drop, filter, length, sym, subst, ◌∙◌}
 use Rattle.fare_law.specs.Lists.{Each}
 use Rattle.flight_paths.specs.Heads.{TailsTo, chosen, ends_wanted, last_wanted}
 use Rattle.flight_paths.proofs.Wanting.{all_kept, kept_next, known_next, left_next, wanted_tails}
@@ -14,22 +14,22 @@ loop-number-preserved g c =
     let i = c.loop-number.number in
     let t = c.index-tails-number.result in
     let test = ends_wanted flights wanted in
-    let told = c.ends_wanted.ensures ∙ ap (λ fs. last_wanted fs wanted c.as_slice.result.now) c.flights-flights.ensures.flights ∙ ap (last_wanted flights wanted) c.as_slice.ensures.items in
+    let told = subst (λ ns. c.ends_wanted.result ≡ last_wanted flights wanted ns) c.as_slice.ensures.items (subst (λ fs. c.ends_wanted.result ≡ last_wanted fs wanted c.as_slice.result.now) c.flights-flights.ensures.flights c.ends_wanted.ensures) in
     let is = c.index-tails-number.is in
     let lt = c.loop-number-test.true in
     let old = c.loop-number.invariant in
     elim c.if-ends_wanted.branch [
       | then-ends_wanted+in_ok-push w ↦
-        let new = w.numbers-is ∙ w.in_ok-push.ensures.items in
-        record {
-          within = subst (Each (λ n. n < length ts)) (sym new) (known_next test ts ns i t lt is old.within);
-          those = subst (λ (xs : List ℕ). chosen ts xs ++ filter test (drop (i + 1) ts) ≡ filter test ts) (sym new) (kept_next test ts ns i t lt is (sym told ∙ w.if-ends_wanted.true) old.those);
-        }
+          let new = w.numbers-is ∙ w.in_ok-push.ensures.items in
+          record {
+            within = subst (Each (λ n. n < length ts)) (sym new) (known_next test ts ns i t lt is old.within);
+            those = subst (λ (xs : List ℕ). chosen ts xs ++ filter test (drop (i + 1) ts) ≡ filter test ts) (sym new) (kept_next test ts ns i t lt is (sym told ∙ w.if-ends_wanted.true) old.those);
+          }
       | else-ends_wanted w ↦
-        record {
-          within = subst (Each (λ n. n < length ts)) (sym w.numbers-is) old.within;
-          those = subst (λ (xs : List ℕ). chosen ts xs ++ filter test (drop (i + 1) ts) ≡ filter test ts) (sym w.numbers-is) (left_next test ts ns i t lt is (sym told ∙ w.if-ends_wanted.false) old.those);
-        }
+          record {
+            within = subst (Each (λ n. n < length ts)) (sym w.numbers-is) old.within;
+            those = subst (λ (xs : List ℕ). chosen ts xs ++ filter test (drop (i + 1) ts) ≡ filter test ts) (sym w.numbers-is) (left_next test ts ns i t lt is (sym told ∙ w.if-ends_wanted.false) old.those);
+          }
     ]
 
 pub returns-clause-tails : goal.returns-clause-tails
