@@ -1,6 +1,5 @@
 -- What a draft keeps of the fares, as one is put or dropped.
 use Rattle.std.proofs.Common.{◌≡◌, ◌≤◌, ◌<◌, ◌+◌, ◌-◌, ℕ, Bool, true, false, cond, List, [], ◌∷◌, Option, Some, None, IsSome, refl, sym, ap, subst, ◌∙◌, inl, inr, arith}
-use Rattle.std.specs.BTreeMap.{BTreeMap}
 use Rattle.std.specs.declared.sync.Arc.{Arc}
 use Rattle.fare_law.specs.declared.fares.Fare.{Fare}
 use Rattle.fare_law.specs.declared.fares.FareKey.{FareKey}
@@ -11,6 +10,7 @@ use Rattle.fare_book.specs.Drafts.{FaresKept, Stand}
 use Rattle.fare_book.specs.Keeping.{uses_at, uses_without}
 use Rattle.fare_book.specs.Keys.{same_rule}
 use Rattle.fare_book.specs.Tables.{AreKeyed, Changes, Fares, LiveRules, NamesRule, rule_of}
+use Rattle.fare_book.specs.declared.fare_table.FareTable.{FareTable}
 use Rattle.fare_book.specs.declared.keys.Market.{Market}
 use Rattle.fare_book.specs.declared.keys.RuleKey.{RuleKey}
 use Rattle.fare_book.proofs.Counting.{many_same}
@@ -55,7 +55,7 @@ module _ (f g : Fares) (k : FareKey) where
 uses_fit : (f h : Fares) (count : ℕ) (r : RuleKey) (n : ℕ) → count ≤ 20000 → Exactly count (λ key. IsSome (f key)) → ((q : FareKey) → NamesRule h r q → IsSome (f q)) → Exactly n (NamesRule h r) → n + 1 < 4294967296
 uses_fit f h count r n few counted live c = omega (arith, few, counted.most n (many_same (NamesRule h r) (λ key. IsSome (f key)) live n c.many))
 
-module _ {Z : Type 0} (f g : Fares) (rule : LiveRules) (changed : List RuleKey) (sheets : List (Market × Arc Sheet Z)) (old new : List (Market × BTreeMap FareKey Fare)) (count : ℕ) (uses : List (RuleKey × ℕ)) (kept : FaresKept f rule changed sheets old count uses) where
+module _ {Z : Type 0} (f g : Fares) (rule : LiveRules) (changed : List RuleKey) (sheets : List (Market × Arc Sheet Z)) (old new : List (Market × FareTable)) (count : ℕ) (uses : List (RuleKey × ℕ)) (kept : FaresKept f rule changed sheets old count uses) where
   named_live : (r : RuleKey) (q : FareKey) → NamesRule f r q → IsSome (f q)
   named_live r q n = live_some (f q) n.0 n.1
 

@@ -1,6 +1,5 @@
 -- The live fares, as one comes or goes: what names each rule, and the markets.
 use Rattle.std.proofs.Common.{◌≡◌, ◌⊎◌, ◌≤◌, ◌+◌, ◌-◌, ℕ, Bool, true, false, cond, List, [], ◌∷◌, Option, Some, None, refl, sym, ap, subst, ◌∙◌, inl, inr, arith}
-use Rattle.std.specs.BTreeMap.{BTreeMap}
 use Rattle.std.specs.Map.{lookup}
 use Rattle.std.specs.Option.{MatchOption}
 use Rattle.std.specs.declared.sync.Arc.{Arc}
@@ -12,7 +11,8 @@ use Rattle.fare_law.specs.Sheets.{Sheet}
 use Rattle.fare_book.specs.Counts.{Exactly}
 use Rattle.fare_book.specs.Keeping.{sheet_at}
 use Rattle.fare_book.specs.Keys.{same_market, same_rule}
-use Rattle.fare_book.specs.Tables.{AreKeyed, Changes, Fares, LiveRules, MarketHolds, NamesRule, TableOf, Untouched, in_market, rule_of}
+use Rattle.fare_book.specs.Tables.{AreKeyed, Changes, Fares, LiveRules, MarketHolds, NamesRule, TableOf, Untouched, in_market, rule_of, fares_in}
+use Rattle.fare_book.specs.declared.fare_table.FareTable.{FareTable}
 use Rattle.fare_book.specs.declared.keys.Market.{Market}
 use Rattle.fare_book.specs.declared.keys.RuleKey.{RuleKey}
 use Rattle.fare_book.proofs.Counting.{count_less, count_more, count_same}
@@ -125,21 +125,21 @@ module _ {Z : Type 0} (f g : Fares) (rule : LiveRules) (changed : List RuleKey) 
       by true e = let told = in_market_tells m key e in sym (agree key told.0 told.1)
       by false e = refl
 
-  market_stays : (m : Market) (o : Option (BTreeMap FareKey Fare)) → ((q : FareKey) → q.from ≡ m.from → q.to ≡ m.to → g q ≡ f q)
-      → MatchOption o (Untouched f rule changed m (sheet_at sheets m)) (λ t. TableOf f m t.entries) → MatchOption o (Untouched g rule changed m (sheet_at sheets m)) (λ t. TableOf g m t.entries)
+  market_stays : (m : Market) (o : Option FareTable) → ((q : FareKey) → q.from ≡ m.from → q.to ≡ m.to → g q ≡ f q)
+      → MatchOption o (Untouched f rule changed m (sheet_at sheets m)) (λ t. TableOf f m (fares_in t)) → MatchOption o (Untouched g rule changed m (sheet_at sheets m)) (λ t. TableOf g m (fares_in t))
   market_stays m None agree h = sheet_stays m (sheet_at sheets m) agree h
-  market_stays m (Some t) agree h = table_stays m t.entries agree h
+  market_stays m (Some t) agree h = table_stays m (fares_in t) agree h
 
   -- the market of one key has a new table
   pub markets_step : (k : FareKey) (w : Option Fare) (step : (q : FareKey) → g q ≡ cond (same_key q k) w (f q)) (m : Market) → m.from ≡ k.from → m.to ≡ k.to
-      → (old new : List (Market × BTreeMap FareKey Fare)) (t : BTreeMap FareKey Fare) → TableOf g m t.entries → ((n : Market) → lookup (same_market n) new ≡ cond (same_market n m) (Some t) (lookup (same_market n) old))
+      → (old new : List (Market × FareTable)) (t : FareTable) → TableOf g m (fares_in t) → ((n : Market) → lookup (same_market n) new ≡ cond (same_market n m) (Some t) (lookup (same_market n) old))
       → ((n : Market) → same_market n m ≡ false → MarketHolds f rule changed sheets old n) → (n : Market) → MarketHolds g rule changed sheets new n
   markets_step k w step m from to old new t table puts all n = elim (cases_Bool (same_market n m)) [
     | inl s ↦
         let e : n ≡ m = (same_markets_tell n m).0 s in
-        subst (λ x. MatchOption x (Untouched g rule changed n (sheet_at sheets n)) (λ t. TableOf g n t.entries)) (sym (puts n ∙ ap (λ b. cond b (Some t) (lookup (same_market n) old)) s)) (subst (λ x. TableOf g x t.entries) (sym e) table)
+        subst (λ x. MatchOption x (Untouched g rule changed n (sheet_at sheets n)) (λ t. TableOf g n (fares_in t))) (sym (puts n ∙ ap (λ b. cond b (Some t) (lookup (same_market n) old)) s)) (subst (λ x. TableOf g x (fares_in t)) (sym e) table)
     | inr s ↦
-        subst (λ x. MatchOption x (Untouched g rule changed n (sheet_at sheets n)) (λ t. TableOf g n t.entries)) (sym (puts n ∙ ap (λ b. cond b (Some t) (lookup (same_market n) old)) s))
+        subst (λ x. MatchOption x (Untouched g rule changed n (sheet_at sheets n)) (λ t. TableOf g n (fares_in t))) (sym (puts n ∙ ap (λ b. cond b (Some t) (lookup (same_market n) old)) s))
         (market_stays n (lookup (same_market n) old) (λ q a b. agree n s q a b (either same_key same_fares_tell f g k w step q)) (all n s))
   ]
     where
@@ -167,12 +167,12 @@ pub table_has : (f : Fares) (m : Market) (table : List (FareKey × Fare)) (k : F
 table_has f m table k from to h = h k ∙ ap (λ t. cond t (f k) None) (in_market_is m k (sym from) (sym to))
 
 -- a table is taken out, changed and put back
-pub changes_from : {Z : Type 0} (sheets : List (Market × Arc Sheet Z)) (old mid new : List (Market × BTreeMap FareKey Fare)) (key : FareKey) (after was : Option Fare) (market : Market) (t : List (FareKey × Fare)) (changed_t : BTreeMap FareKey Fare)
+pub changes_from : {Z : Type 0} (sheets : List (Market × Arc Sheet Z)) (old mid new : List (Market × FareTable)) (key : FareKey) (after was : Option Fare) (market : Market) (t : List (FareKey × Fare)) (changed_t : FareTable)
     → market ≡ record { from = key.from; to = key.to }
     → ((fare : Fares) (rule : LiveRules) (changed : List RuleKey) → AreKeyed fare → MarketHolds fare rule changed sheets old market → TableOf fare market t)
     → ((m : Market) → same_market m market ≡ false → lookup (same_market m) mid ≡ lookup (same_market m) old)
     → was ≡ lookup (same_key key) t
-    → ((q : FareKey) → lookup (same_key q) changed_t.entries ≡ cond (same_key q key) after (lookup (same_key q) t))
+    → ((q : FareKey) → lookup (same_key q) (fares_in changed_t) ≡ cond (same_key q key) after (lookup (same_key q) t))
     → ((n : Market) → lookup (same_market n) new ≡ cond (same_market n market) (Some changed_t) (lookup (same_market n) mid))
     → Changes sheets old new key after was
 changes_from {Z = Z} sheets old mid new key after was market t changed_t is table others told puts puts_back f g rule changed keyed holds step =
@@ -180,19 +180,19 @@ changes_from {Z = Z} sheets old mid new key after was market t changed_t is tabl
     let to : market.to ≡ key.to = ap (λ (m : Market). m.to) is in
     let had : TableOf f market t = table f rule changed keyed (holds market) in (
       told ∙ table_has f market t key from to had,
-      markets_step f g rule changed sheets key after step market from to mid new changed_t (table_step f g key after step market from to t changed_t.entries puts had) puts_back
-          (λ n apart. subst (λ o. MatchOption o (Untouched f rule changed n (sheet_at sheets n)) (λ t. TableOf f n t.entries)) (sym (others n apart)) (holds n)),
+      markets_step f g rule changed sheets key after step market from to mid new changed_t (table_step f g key after step market from to t (fares_in changed_t) puts had) puts_back
+          (λ n apart. subst (λ o. MatchOption o (Untouched f rule changed n (sheet_at sheets n)) (λ t. TableOf f n (fares_in t))) (sym (others n apart)) (holds n)),
     )
 
 -- a table is changed where it stands
-pub changes_within : {Z : Type 0} (sheets : List (Market × Arc Sheet Z)) (old new : List (Market × BTreeMap FareKey Fare)) (key : FareKey) (after was : Option Fare) (market : Market) (t changed_t : BTreeMap FareKey Fare)
+pub changes_within : {Z : Type 0} (sheets : List (Market × Arc Sheet Z)) (old new : List (Market × FareTable)) (key : FareKey) (after was : Option Fare) (market : Market) (t changed_t : FareTable)
     → market ≡ record { from = key.from; to = key.to }
     → lookup (same_market market) old ≡ Some t
-    → was ≡ lookup (same_key key) t.entries
-    → ((q : FareKey) → lookup (same_key q) changed_t.entries ≡ cond (same_key q key) after (lookup (same_key q) t.entries))
+    → was ≡ lookup (same_key key) (fares_in t)
+    → ((q : FareKey) → lookup (same_key q) (fares_in changed_t) ≡ cond (same_key q key) after (lookup (same_key q) (fares_in t)))
     → ((n : Market) → lookup (same_market n) new ≡ cond (same_market n market) (Some changed_t) (lookup (same_market n) old))
     → Changes sheets old new key after was
 changes_within sheets old new key after was market t changed_t is here told puts puts_back =
-    changes_from sheets old old new key after was market t.entries changed_t is
-    (λ fare rule changed keyed holds. subst (λ o. MatchOption o (Untouched fare rule changed market (sheet_at sheets market)) (λ t. TableOf fare market t.entries)) here holds)
+    changes_from sheets old old new key after was market (fares_in t) changed_t is
+    (λ fare rule changed keyed holds. subst (λ o. MatchOption o (Untouched fare rule changed market (sheet_at sheets market)) (λ t. TableOf fare market (fares_in t))) here holds)
     (λ m apart. refl) told puts puts_back

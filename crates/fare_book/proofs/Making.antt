@@ -86,6 +86,10 @@ all_apart (e ∷ es) s = (apart e.0 (keys_of es) s.0, all_apart es s.1)
     apart k [] a = tt
     apart k (l ∷ ls) a = (λ e. not_less k (ap (fare_order.ghosts.cmp k) e ∙ a.0), apart k ls a.1)
 
+pub sorted_one : (fare : Fare) → IsStrictlySortedBy fare_order.ghosts.cmp (keys_of ((fare.key, fare) ∷ []))
+unfolding IsStrictlySortedBy
+sorted_one fare = (tt, tt)
+
 lookup_member : (es : List (FareKey × Fare)) → AllDifferent (keys_of es) → (e : FareKey × Fare) → IsIn e es → lookup (same_key e.0) es ≡ Some e.1
 lookup_member [] d e i = absurd i
 lookup_member (x ∷ es) d e (inl s) = ap₂ (λ (y : FareKey × Fare) t. cond t (Some y.1) (lookup (same_key e.0) es)) (sym s) ((same_fares_tell e.0 x.0).1 (ap (λ (y : FareKey × Fare). y.0) s))
@@ -108,6 +112,13 @@ module _ (rules : List (RuleKey × Rule)) where
   pub made_push : (rows new : List SheetRow) (entries all : List (FareKey × Fare)) (row : SheetRow) (entry : FareKey × Fare) → new ≡ rows ++ row ∷ [] → all ≡ entries ++ entry ∷ [] → MadeOf row entry → Made rows entries → Made new all
   made_push rows new entries all row entry pushed more made m =
       subst (λ rs. Made rs all) (sym pushed) (subst (Made (rows ++ row ∷ [])) (sym more) (matched_push MadeOf rows entries row entry m made))
+
+  -- the only fare of a table
+  pub made_one : (old rows : List SheetRow) (copy fare : Fare) (rule : Rule) → old ≡ [] → rows ≡ old ++ record { fare = copy; rule = rule } ∷ [] → copy ≡ fare
+      → ((b : Book) → Rules b rules → IsSome (live_rule b fare.key.carrier fare.rule) → live_rule b fare.key.carrier fare.rule ≡ Some rule) → Made rows ((fare.key, fare) ∷ [])
+  made_one old rows copy fare rule none pushed is told =
+      subst (λ rs. Made rs ((fare.key, fare) ∷ [])) (sym (pushed ∙ ap (λ rs. rs ++ record { fare = copy; rule = rule } ∷ []) none))
+      (record { fare_is = is; rule_is = subst (λ (f : Fare). (b : Book) → Rules b rules → IsSome (live_rule b f.key.carrier f.rule) → live_rule b f.key.carrier f.rule ≡ Some rule) (sym is) told }, tt)
 
   module _ (b : Book) (m : Market) (entries : List (FareKey × Fare)) (makes : MakesSheet b m entries rules) (sorted : IsStrictlySortedBy fare_order.ghosts.cmp (keys_of entries)) where
     one : (x y : Fare) → Some x ≡ Some y → x ≡ y

@@ -1,7 +1,6 @@
 -- Sheets that are put in place of what they were, and sheets that have a changed rule.
 use Rattle.std.proofs.Common.{◌≡◌, ◌⊎◌, ◌||◌, Bool, true, false, cond, List, [], ◌∷◌, length, Option, Some, None, IsSome, IsTrue, option_map, is_some, refl, sym, ap, subst, ◌∙◌, inl, inr, arith}
 use Rattle.std.specs.Arc.{arc_value}
-use Rattle.std.specs.BTreeMap.{BTreeMap}
 use Rattle.std.specs.Cmp.{IsEquivalence}
 use Rattle.std.specs.List.{list_any}
 use Rattle.std.specs.Map.{lookup}
@@ -19,7 +18,8 @@ use Rattle.fare_book.specs.contracts.keys.MarketPartialEq.TheImpl as market
 use Rattle.fare_book.specs.Keeping.{NoFare, RulesStand, sheet_at}
 use Rattle.fare_book.specs.Keys.{same_market, same_rule}
 use Rattle.fare_book.specs.Ready.{IsRight, MakesSheet, Ready}
-use Rattle.fare_book.specs.Tables.{Fares, IsOldRow, LiveRules, MarketHolds, OldSheet, TableOf, Untouched, rule_of}
+use Rattle.fare_book.specs.Tables.{Fares, IsOldRow, LiveRules, MarketHolds, OldSheet, TableOf, Untouched, rule_of, fares_in}
+use Rattle.fare_book.specs.declared.fare_table.FareTable.{FareTable}
 use Rattle.fare_book.specs.declared.keys.Market.{Market}
 use Rattle.fare_book.specs.declared.keys.RuleKey.{RuleKey}
 use Rattle.fare_book.proofs.Finding.{flips}
@@ -74,23 +74,23 @@ sheet_right b m (Some s) stand h = record {
 pub none_right : (b : Book) (m : Market) (table : List (FareKey × Fare)) → table ≡ [] → TableOf (live_fare b) m table → NoFare b m.from m.to
 none_right b m table e h key from to = sym (ap (λ t. cond t (live_fare b key) None) (in_market_is m key from to)) ∙ sym (h key) ∙ ap (lookup _) e
 
-module _ {Z : Type 0} (b : Book) (sheets : List (Market × Arc Sheet Z)) (tables : List (Market × BTreeMap FareKey Fare)) (rules : List (RuleKey × Rule)) (ready : Ready b sheets tables rules) where
+module _ {Z : Type 0} (b : Book) (sheets : List (Market × Arc Sheet Z)) (tables : List (Market × FareTable)) (rules : List (RuleKey × Rule)) (ready : Ready b sheets tables rules) where
   -- a market without a table
   pub untouched_right : (m : Market) → lookup (same_market m) tables ≡ None → IsRight b m (sheet_at sheets m)
-  untouched_right m none = sheet_right b m (sheet_at sheets m) ready.ruled.stand (subst (λ o. MatchOption o (Untouched (live_fare b) (live_rule b) [] m (sheet_at sheets m)) (λ t. TableOf (live_fare b) m t.entries)) none (ready.markets m))
+  untouched_right m none = sheet_right b m (sheet_at sheets m) ready.ruled.stand (subst (λ o. MatchOption o (Untouched (live_fare b) (live_rule b) [] m (sheet_at sheets m)) (λ t. TableOf (live_fare b) m (fares_in t))) none (ready.markets m))
 
   -- a market with a table
-  pub table_makes : (m : Market) (t : BTreeMap FareKey Fare) → lookup (same_market m) tables ≡ Some t → MakesSheet b m t.entries rules
+  pub table_makes : (m : Market) (t : FareTable) → lookup (same_market m) tables ≡ Some t → MakesSheet b m (fares_in t) rules
   table_makes m t some = record {
-    table_is = subst (λ o. MatchOption o (Untouched (live_fare b) (live_rule b) [] m (sheet_at sheets m)) (λ t. TableOf (live_fare b) m t.entries)) some (ready.markets m);
+    table_is = subst (λ o. MatchOption o (Untouched (live_fare b) (live_rule b) [] m (sheet_at sheets m)) (λ t. TableOf (live_fare b) m (fares_in t))) some (ready.markets m);
     ruled = ready.ruled;
   }
 
 -- what is placed so far, where these tables are left
-abbrev pub PlacedSo : {Z : Type 0} → Book → List (Market × Arc Sheet Z) → List (Market × BTreeMap FareKey Fare) → Type 0
+abbrev pub PlacedSo : {Z : Type 0} → Book → List (Market × Arc Sheet Z) → List (Market × FareTable) → Type 0
 PlacedSo b sheets left = (m : Market) → lookup (same_market m) left ≡ None → IsRight b m (sheet_at sheets m)
 
-pub placed_more : {Z : Type 0} (b : Book) (old new : List (Market × Arc Sheet Z)) (left rest : List (Market × BTreeMap FareKey Fare)) (m : Market) (t : BTreeMap FareKey Fare) → left ≡ (m, t) ∷ rest
+pub placed_more : {Z : Type 0} (b : Book) (old new : List (Market × Arc Sheet Z)) (left rest : List (Market × FareTable)) (m : Market) (t : FareTable) → left ≡ (m, t) ∷ rest
     → IsRight b m (sheet_at new m) → ((n : Market) → same_market n m ≡ false → sheet_at new n ≡ sheet_at old n) → PlacedSo b old left → PlacedSo b new rest
 placed_more b old new left rest m t is right others so n none = elim (cases_Bool (same_market n m)) [
   | inl s ↦ subst (λ x. IsRight b x (sheet_at new x)) (sym ((same_markets_tell n m).0 s)) right
@@ -127,14 +127,14 @@ fresh_sheet fare rule changed m s none h = record {
 
 module _ {Z : Type 0} (sheets : List (Market × Arc Sheet Z)) (changed : List RuleKey) where
   -- the market has a table, or a sheet without a changed rule
-  abbrev pub Settled : List (Market × BTreeMap FareKey Fare) → Market → Arc Sheet Z → Type 0
+  abbrev pub Settled : List (Market × FareTable) → Market → Arc Sheet Z → Type 0
   Settled tables m s = IsSome (lookup (same_market m) tables) ⊎ (list_any (λ row. list_any (same_rule (rule_of row.fare)) changed) (arc_value s).rows ≡ false)
 
   -- each market that isn't left is settled
-  abbrev pub SettledSo : List (Market × BTreeMap FareKey Fare) → List (Market × Arc Sheet Z) → Type 0
+  abbrev pub SettledSo : List (Market × FareTable) → List (Market × Arc Sheet Z) → Type 0
   SettledSo tables left = (m : Market) (s : Arc Sheet Z) → lookup (same_market m) sheets ≡ Some s → lookup (same_market m) left ≡ None → Settled tables m s
 
-  pub settled_more : (old new : List (Market × BTreeMap FareKey Fare)) (left rest : List (Market × Arc Sheet Z)) (m : Market) (s : Arc Sheet Z) (stale : Bool) → left ≡ (m, s) ∷ rest → lookup (same_market m) sheets ≡ Some s
+  pub settled_more : (old new : List (Market × FareTable)) (left rest : List (Market × Arc Sheet Z)) (m : Market) (s : Arc Sheet Z) (stale : Bool) → left ≡ (m, s) ∷ rest → lookup (same_market m) sheets ≡ Some s
       → stale ≡ list_any (λ row. list_any (same_rule (rule_of row.fare)) changed) (arc_value s).rows → (stale ≡ true → IsSome (lookup (same_market m) new)) → ((n : Market) → IsSome (lookup (same_market n) old) → IsSome (lookup (same_market n) new))
       → SettledSo old left → SettledSo new rest
   settled_more old new left rest m s stale is found told touched stay so n t has none = elim (cases_Bool (same_market n m)) [
@@ -155,7 +155,7 @@ module _ {Z : Type 0} (sheets : List (Market × Arc Sheet Z)) (changed : List Ru
         | inr h ↦ inr (ap (λ (a : Arc Sheet Z). list_any (λ row. list_any (same_rule (rule_of row.fare)) changed) (arc_value a).rows) (one t s (sym has ∙ ap (λ x. lookup (same_market x) sheets) e ∙ found)) ∙ sym told ∙ h)
       ]
 
-  pub settled_all : (fare : Fares) (rule : LiveRules) (tables : List (Market × BTreeMap FareKey Fare)) → ((m : Market) → MarketHolds fare rule changed sheets tables m) → SettledSo tables [] → (m : Market) → MarketHolds fare rule [] sheets tables m
+  pub settled_all : (fare : Fares) (rule : LiveRules) (tables : List (Market × FareTable)) → ((m : Market) → MarketHolds fare rule changed sheets tables m) → SettledSo tables [] → (m : Market) → MarketHolds fare rule [] sheets tables m
   settled_all fare rule tables holds so m = by (lookup (same_market m) tables) refl (holds m)
     where
       sheet : (o : Option (Arc Sheet Z)) → lookup (same_market m) sheets ≡ o → lookup (same_market m) tables ≡ None → Untouched fare rule changed m (option_map arc_value o) → Untouched fare rule [] m (option_map arc_value o)
@@ -169,20 +169,20 @@ module _ {Z : Type 0} (sheets : List (Market × Arc Sheet Z)) (changed : List Ru
           not_some None e s = cc
           not_some (Some x) e s = cc
 
-      by : (o : Option (BTreeMap FareKey Fare)) → lookup (same_market m) tables ≡ o → MatchOption o (Untouched fare rule changed m (sheet_at sheets m)) (λ t. TableOf fare m t.entries) → MatchOption o (Untouched fare rule [] m (sheet_at sheets m)) (λ t. TableOf fare m t.entries)
+      by : (o : Option FareTable) → lookup (same_market m) tables ≡ o → MatchOption o (Untouched fare rule changed m (sheet_at sheets m)) (λ t. TableOf fare m (fares_in t)) → MatchOption o (Untouched fare rule [] m (sheet_at sheets m)) (λ t. TableOf fare m (fares_in t))
       by None e h = sheet (lookup (same_market m) sheets) refl e h
       by (Some t) e h = h
 
 -- ---- a market that is touched
-module _ (old mid new : List (Market × BTreeMap FareKey Fare)) (k : Market) (t : BTreeMap FareKey Fare) (others : (m : Market) → same_market m k ≡ false → lookup (same_market m) mid ≡ lookup (same_market m) old)
+module _ (old mid new : List (Market × FareTable)) (k : Market) (t : FareTable) (others : (m : Market) → same_market m k ≡ false → lookup (same_market m) mid ≡ lookup (same_market m) old)
     (puts : (m : Market) → lookup (same_market m) new ≡ cond (same_market m k) (Some t) (lookup (same_market m) mid)) where
-  pub touched_holds : {Z : Type 0} (fare : Fares) (rule : LiveRules) (changed : List RuleKey) (sheets : List (Market × Arc Sheet Z)) → TableOf fare k t.entries → ((m : Market) → MarketHolds fare rule changed sheets old m) → (m : Market) → MarketHolds fare rule changed sheets new m
+  pub touched_holds : {Z : Type 0} (fare : Fares) (rule : LiveRules) (changed : List RuleKey) (sheets : List (Market × Arc Sheet Z)) → TableOf fare k (fares_in t) → ((m : Market) → MarketHolds fare rule changed sheets old m) → (m : Market) → MarketHolds fare rule changed sheets new m
   touched_holds fare rule changed sheets table holds m = elim (cases_Bool (same_market m k)) [
     | inl s ↦
-        subst (λ o. MatchOption o (Untouched fare rule changed m (sheet_at sheets m)) (λ t. TableOf fare m t.entries)) (sym (puts m ∙ ap (λ b. cond b (Some t) (lookup (same_market m) mid)) s))
-        (subst (λ x. TableOf fare x t.entries) (sym ((same_markets_tell m k).0 s)) table)
+        subst (λ o. MatchOption o (Untouched fare rule changed m (sheet_at sheets m)) (λ t. TableOf fare m (fares_in t))) (sym (puts m ∙ ap (λ b. cond b (Some t) (lookup (same_market m) mid)) s))
+        (subst (λ x. TableOf fare x (fares_in t)) (sym ((same_markets_tell m k).0 s)) table)
     | inr s ↦
-        subst (λ o. MatchOption o (Untouched fare rule changed m (sheet_at sheets m)) (λ t. TableOf fare m t.entries)) (sym (puts m ∙ ap (λ b. cond b (Some t) (lookup (same_market m) mid)) s ∙ others m s)) (holds m)
+        subst (λ o. MatchOption o (Untouched fare rule changed m (sheet_at sheets m)) (λ t. TableOf fare m (fares_in t))) (sym (puts m ∙ ap (λ b. cond b (Some t) (lookup (same_market m) mid)) s ∙ others m s)) (holds m)
   ]
 
   pub touched_stays : (m : Market) → IsSome (lookup (same_market m) old) → IsSome (lookup (same_market m) new)

@@ -1,6 +1,5 @@
 -- What a draft keeps of the rules, as one is put or dropped.
 use Rattle.std.proofs.Common.{◌≡◌, ◌≢◌, ◌⊎◌, ◌≤◌, ◌<◌, ◌+◌, ◌-◌, ◌==◌, ◌&&◌, ℕ, Bool, true, false, cond, List, [], ◌∷◌, Option, Some, None, Decides, IsSome, IsTrue, is_some, refl, sym, ap, subst, ◌∙◌, inl, inr, arith}
-use Rattle.std.specs.BTreeMap.{BTreeMap}
 use Rattle.std.specs.List.{list_any}
 use Rattle.std.specs.Map.{lookup}
 use Rattle.std.specs.Option.{MatchOption}
@@ -20,7 +19,8 @@ use Rattle.fare_book.specs.Counts.{Exactly}
 use Rattle.fare_book.specs.Drafts.{FaresKept, RulesKept, Stand}
 use Rattle.fare_book.specs.Keeping.{Rules, rule_at, sheet_at}
 use Rattle.fare_book.specs.Keys.{same_market, same_rule}
-use Rattle.fare_book.specs.Tables.{Fares, IsOldRow, LiveRules, NamesRule, TableOf, Untouched, rule_of}
+use Rattle.fare_book.specs.Tables.{Fares, IsOldRow, LiveRules, NamesRule, TableOf, Untouched, rule_of, fares_in}
+use Rattle.fare_book.specs.declared.fare_table.FareTable.{FareTable}
 use Rattle.fare_book.specs.declared.keys.Market.{Market}
 use Rattle.fare_book.specs.declared.keys.RuleKey.{RuleKey}
 use Rattle.fare_book.proofs.Counting.{count_same}
@@ -174,12 +174,12 @@ module _ (f g : LiveRules) (k : Carrier) (m : ℕ) (w : Option Rule) (proper : m
       all = h.all;
     }
 
-    market_stays : {Z : Type 0} (sheets : List (Market × Arc Sheet Z)) (n : Market) (o : Option (BTreeMap FareKey Fare)) → MatchOption o (Untouched fare f before n (sheet_at sheets n)) (λ t. TableOf fare n t.entries)
-        → MatchOption o (Untouched fare g after n (sheet_at sheets n)) (λ t. TableOf fare n t.entries)
+    market_stays : {Z : Type 0} (sheets : List (Market × Arc Sheet Z)) (n : Market) (o : Option FareTable) → MatchOption o (Untouched fare f before n (sheet_at sheets n)) (λ t. TableOf fare n (fares_in t))
+        → MatchOption o (Untouched fare g after n (sheet_at sheets n)) (λ t. TableOf fare n (fares_in t))
     market_stays sheets n None h = sheet_stays n (sheet_at sheets n) h
     market_stays sheets n (Some t) h = h
 
-    pub fares_stay_kept : {Z : Type 0} (sheets : List (Market × Arc Sheet Z)) (tables : List (Market × BTreeMap FareKey Fare)) (count : ℕ) (uses : List (RuleKey × ℕ)) → FaresKept fare f before sheets tables count uses → FaresKept fare g after sheets tables count uses
+    pub fares_stay_kept : {Z : Type 0} (sheets : List (Market × Arc Sheet Z)) (tables : List (Market × FareTable)) (count : ℕ) (uses : List (RuleKey × ℕ)) → FaresKept fare f before sheets tables count uses → FaresKept fare g after sheets tables count uses
     fares_stay_kept sheets tables count uses h = record {
       markets = λ n. market_stays sheets n (lookup (same_market n) tables) (h.markets n);
       counted = h.counted;

@@ -1,7 +1,6 @@
 -- The rows of a sheet, as a table takes them.
 use Rattle.std.proofs.Common.{◌≡◌, ◌||◌, ◌&&◌, ◌+◌, ◌<◌, ℕ, suc, Bool, true, false, cond, List, [], ◌∷◌, ◌++◌, length, take, get_or, Option, Some, None, Result, Ok, Err, IfOk, OnOk, option_map, refl, sym, ap, ap₂, subst, ◌∙◌, inl, inr, arith}
 use Rattle.std.specs.Arc.{arc_value}
-use Rattle.std.specs.BTreeMap.{BTreeMap}
 use Rattle.std.specs.List.{list_any}
 use Rattle.std.specs.Map.{lookup}
 use Rattle.std.specs.Option.{MatchOption}
@@ -13,9 +12,10 @@ use Rattle.fare_law.specs.declared.sheets.SheetRow.{SheetRow}
 use Rattle.fare_law.specs.Book.{same_key, same_place}
 use Rattle.fare_law.specs.Lists.{Each, IsIn}
 use Rattle.fare_law.specs.Sheets.{Sheet}
-use Rattle.fare_book.specs.Tables.{AreKeyed, Fares, LiveRules, MarketHolds, NoneOf, OldSheet, TableOf, Untouched, in_market}
+use Rattle.fare_book.specs.Tables.{AreKeyed, Fares, LiveRules, MarketHolds, NoneOf, OldSheet, TableOf, Untouched, in_market, fares_in}
 use Rattle.fare_book.specs.Keeping.{sheet_at}
 use Rattle.fare_book.specs.Keys.{same_market}
+use Rattle.fare_book.specs.declared.fare_table.FareTable.{FareTable}
 use Rattle.fare_book.specs.declared.keys.Market.{Market}
 use Rattle.fare_book.specs.declared.keys.RuleKey.{RuleKey}
 use Rattle.fare_book.proofs.Counting.{each_from}
@@ -126,14 +126,14 @@ sheet_table fare rule changed m sheet table keyed old rows key = rows fare (each
     by false a true t = none (fare key) refl a t
     by false a false t = refl
 
-pub old_table : {Z : Type 0} (fare : Fares) (rule : LiveRules) (changed : List RuleKey) (sheets : List (Market × Arc Sheet Z)) (tables : List (Market × BTreeMap FareKey Fare)) (m : Market) (sheet : Arc Sheet Z) (s : Sheet) (table : List (FareKey × Fare))
+pub old_table : {Z : Type 0} (fare : Fares) (rule : LiveRules) (changed : List RuleKey) (sheets : List (Market × Arc Sheet Z)) (tables : List (Market × FareTable)) (m : Market) (sheet : Arc Sheet Z) (s : Sheet) (table : List (FareKey × Fare))
     → lookup (same_market m) tables ≡ None → lookup (same_market m) sheets ≡ Some sheet → s ≡ arc_value sheet → RowsIn s.rows table → AreKeyed fare → MarketHolds fare rule changed sheets tables m → TableOf fare m table
 old_table {Z = Z} fare rule changed sheets tables m sheet s table none some is rows keyed holds =
     sheet_table fare rule changed m s table keyed (subst (OldSheet fare rule changed m) (sym is) old) rows
   where
     old : OldSheet fare rule changed m (arc_value sheet)
     old =
-        let untouched : Untouched fare rule changed m (sheet_at sheets m) = subst (λ o. MatchOption o (Untouched fare rule changed m (sheet_at sheets m)) (λ t. TableOf fare m t.entries)) none holds in
+        let untouched : Untouched fare rule changed m (sheet_at sheets m) = subst (λ o. MatchOption o (Untouched fare rule changed m (sheet_at sheets m)) (λ t. TableOf fare m (fares_in t))) none holds in
         subst (λ o. Untouched fare rule changed m (option_map arc_value o)) some untouched
 
 pub ok_as : {X E : Type 0} (r : Result X E) (P Q : X → Type 0) → ((x : X) → P x → Q x) → IfOk r P → IfOk r Q

@@ -5,7 +5,6 @@ use Rattle.std.specs.List.{AllZip}
 use Rattle.std.specs.Map.{lookup}
 use Rattle.std.specs.Option.{MatchOption}
 use Rattle.std.specs.declared.sync.Arc.{Arc}
-use Rattle.std.specs.BTreeMap.{BTreeMap}
 use Rattle.std.proofs.lemmas.List.{map-append}
 use Rattle.fare_book.proofs.TableRows.{front_is}
 use Rattle.seat_classes.specs.Held.{seats_at}
@@ -27,6 +26,7 @@ use Rattle.fare_book.specs.Ready.{Ready}
 use Rattle.fare_book.specs.Tables.{MarketHolds, NamesRule, Untouched}
 use Rattle.fare_book.specs.Taking.{NoneStops}
 use Rattle.fare_book.specs.declared.draft.Draft.{Draft}
+use Rattle.fare_book.specs.declared.fare_table.FareTable.{FareTable}
 use Rattle.fare_book.specs.declared.keys.Market.{Market}
 use Rattle.fare_book.specs.declared.keys.RuleKey.{RuleKey}
 use Rattle.fare_book.proofs.Following.{filed_actions, rule_free, same_fares, same_rules, same_seats}
@@ -115,7 +115,7 @@ book_drafts b sheets copied_sheets rules copied_rules uses copied_uses fare_coun
 )
 
 -- ---- from a draft to the next book
-pub draft_ready : (b : Book) (d : Draft) (tables : List (Market × BTreeMap FareKey Fare)) → Drafts b d → ((m : Market) → MarketHolds (live_fare b) (live_rule b) [] d.sheets.entries tables m) → Ready b d.sheets.entries tables d.rules.entries
+pub draft_ready : (b : Book) (d : Draft) (tables : List (Market × FareTable)) → Drafts b d → ((m : Market) → MarketHolds (live_fare b) (live_rule b) [] d.sheets.entries tables m) → Ready b d.sheets.entries tables d.rules.entries
 draft_ready b d tables k holds = record {
   markets = holds;
   ruled = record { rules_are = k.rules_kept.rules_are; stand = k.stand; few = λ n many. omega (arith, k.fares_kept.few, k.fares_kept.counted.most n many) };

@@ -1,7 +1,6 @@
 -- What is kept of a filing while its actions are taken one after another.
 use Rattle.std.specs.Prelude.{◌≡◌, ◌≢◌, ◌≤◌, ℕ, List, [], ◌∷◌, ◌++◌, Option, Some, None, IsSome, Result, Ok, Err}
 use Rattle.std.specs.Arc.{arc_value}
-use Rattle.std.specs.BTreeMap.{BTreeMap}
 use Rattle.std.specs.declared.sync.Arc.{Arc}
 use Rattle.fare_law.specs.declared.fares.Fare.{Fare}
 use Rattle.fare_law.specs.declared.fares.FareKey.{FareKey}
@@ -21,6 +20,7 @@ use Rattle.fare_book.specs.Tables.{AreKeyed, Fares, LiveRules, LiveSeats, Market
 use Rattle.fare_book.specs.declared.draft.Draft.{Draft}
 use Rattle.fare_book.specs.declared.draft.Stop.{Stop}
 use Rattle.fare_book.specs.declared.draft.Stop.TheVariants.{Fault, Mem}
+use Rattle.fare_book.specs.declared.fare_table.FareTable.{FareTable}
 use Rattle.fare_book.specs.declared.keys.Market.{Market}
 use Rattle.fare_book.specs.declared.keys.RuleKey.{RuleKey}
 use Rattle.seat_classes.specs.Held.{seats_at}
@@ -48,7 +48,7 @@ abbrev pub Stand : Fares → LiveRules → Type 0
 Stand fare rule = (key : FareKey) (f : Fare) → fare key ≡ Some f → IsSome (rule f.key.carrier f.rule)
 
 -- the live fares: by market, how many, and how many name each rule
-pub record FaresKept {Z : Type 0} (fare : Fares) (rule : LiveRules) (changed : List RuleKey) (sheets : List (Market × Arc Sheet Z)) (tables : List (Market × BTreeMap FareKey Fare)) (count : ℕ) (uses : List (RuleKey × ℕ)) : Type 0 where
+pub record FaresKept {Z : Type 0} (fare : Fares) (rule : LiveRules) (changed : List RuleKey) (sheets : List (Market × Arc Sheet Z)) (tables : List (Market × FareTable)) (count : ℕ) (uses : List (RuleKey × ℕ)) : Type 0 where
   pub markets : (m : Market) → MarketHolds fare rule changed sheets tables m
   pub counted : Exactly count (λ key. IsSome (fare key))
   pub few : count ≤ 20000

@@ -1,6 +1,5 @@
 -- What is ready to become the sheets of a book.
 use Rattle.std.specs.Prelude.{List, [], Option, MatchOption}
-use Rattle.std.specs.BTreeMap.{BTreeMap}
 use Rattle.std.specs.declared.sync.Arc.{Arc}
 use Rattle.fare_law.specs.declared.fares.Fare.{Fare}
 use Rattle.fare_law.specs.declared.fares.FareKey.{FareKey}
@@ -10,6 +9,7 @@ use Rattle.fare_law.specs.Sheets.{Sheet, SheetOf}
 use Rattle.fare_book.specs.Counts.{AtMost}
 use Rattle.fare_book.specs.Keeping.{IsLive, NoFare, Rules, RulesStand}
 use Rattle.fare_book.specs.Tables.{MarketHolds, TableOf}
+use Rattle.fare_book.specs.declared.fare_table.FareTable.{FareTable}
 use Rattle.fare_book.specs.declared.keys.Market.{Market}
 use Rattle.fare_book.specs.declared.keys.RuleKey.{RuleKey}
 
@@ -29,6 +29,6 @@ pub record MakesSheet (b : Book) (m : Market) (table : List (FareKey × Fare)) (
   pub ruled : Ruled b rules
 
 -- each market has its table or its sheet
-pub record Ready {Z : Type 0} (b : Book) (sheets : List (Market × Arc Sheet Z)) (tables : List (Market × BTreeMap FareKey Fare)) (rules : List (RuleKey × Rule)) : Type 0 where
+pub record Ready {Z : Type 0} (b : Book) (sheets : List (Market × Arc Sheet Z)) (tables : List (Market × FareTable)) (rules : List (RuleKey × Rule)) : Type 0 where
   pub markets : (m : Market) → MarketHolds (live_fare b) (live_rule b) [] sheets tables m
   pub ruled : Ruled b rules

@@ -1,6 +1,5 @@
 -- The live fares of a market while actions are taken: its table, or its sheet where no action touches it.
-use Rattle.std.specs.Prelude.{◌≡◌, ◌≢◌, ◌⊎◌, ℕ, Bool, ◌&&◌, cond, List, [], Option, Some, None, MatchOption, IsTrue}
-use Rattle.std.specs.BTreeMap.{BTreeMap}
+use Rattle.std.specs.Prelude.{◌≡◌, ◌≢◌, ◌⊎◌, ℕ, Bool, ◌&&◌, cond, List, [], ◌∷◌, Option, Some, None, MatchOption, IsTrue}
 use Rattle.std.specs.List.{list_any}
 use Rattle.std.specs.Map.{lookup}
 use Rattle.std.specs.declared.sync.Arc.{Arc}
@@ -15,6 +14,8 @@ use Rattle.fare_law.specs.Lists.{EachPair, IsIn}
 use Rattle.fare_law.specs.Sheets.{RowBefore, Sheet}
 use Rattle.fare_book.specs.Keeping.{sheet_at}
 use Rattle.fare_book.specs.Keys.{same_market, same_rule}
+use Rattle.fare_book.specs.declared.fare_table.FareTable.{FareTable}
+use Rattle.fare_book.specs.declared.fare_table.FareTable.TheVariants.{One, Many}
 use Rattle.fare_book.specs.declared.keys.Market.{Market}
 use Rattle.fare_book.specs.declared.keys.RuleKey.{RuleKey}
 
@@ -39,6 +40,11 @@ LiveSeats = SeatKey → Option (List ℕ)
 -- each fare is found by its own key
 abbrev pub AreKeyed : Fares → Type 0
 AreKeyed fare = (key : FareKey) (f : Fare) → fare key ≡ Some f → key ≡ f.key
+
+-- the fares of a table, each with its key
+abbrev pub fares_in : FareTable → List (FareKey × Fare)
+fares_in (One fare) = (fare.key, fare) ∷ []
+fares_in (Many fares) = fares.entries
 
 -- the table has the live fares of the market
 abbrev pub TableOf : Fares → Market → List (FareKey × Fare) → Type 0
@@ -70,15 +76,15 @@ Untouched fare rule changed m sheet = MatchOption sheet (NoneOf fare m) (OldShee
 
 module _ {Z : Type 0} where
   -- a market that is touched has its table
-  abbrev pub MarketHolds : Fares → LiveRules → List RuleKey → List (Market × Arc Sheet Z) → List (Market × BTreeMap FareKey Fare) → Market → Type 0
-  MarketHolds fare rule changed sheets tables m = MatchOption (lookup (same_market m) tables) (Untouched fare rule changed m (sheet_at sheets m)) (λ table. TableOf fare m table.entries)
+  abbrev pub MarketHolds : Fares → LiveRules → List RuleKey → List (Market × Arc Sheet Z) → List (Market × FareTable) → Market → Type 0
+  MarketHolds fare rule changed sheets tables m = MatchOption (lookup (same_market m) tables) (Untouched fare rule changed m (sheet_at sheets m)) (λ table. TableOf fare m (fares_in table))
 
 -- the live fare of this key names the rule
 abbrev pub NamesRule : Fares → RuleKey → FareKey → Type 0
 NamesRule fare r key = (f : Fare) × (fare key ≡ Some f) × (key.carrier ≡ r.carrier) × (f.rule ≡ r.number)
 
 -- the tables come to have this at the key, and what was there is told
-abbrev pub Changes : {Z : Type 0} → List (Market × Arc Sheet Z) → (old new : List (Market × BTreeMap FareKey Fare)) → FareKey → (after was : Option Fare) → Type 0
+abbrev pub Changes : {Z : Type 0} → List (Market × Arc Sheet Z) → (old new : List (Market × FareTable)) → FareKey → (after was : Option Fare) → Type 0
 Changes sheets old new key after was =
     (f g : Fares) (rule : LiveRules) (changed : List RuleKey) → AreKeyed f → ((m : Market) → MarketHolds f rule changed sheets old m) → ((q : FareKey) → g q ≡ cond (same_key q key) after (f q))
     → (was ≡ f key) × ((m : Market) → MarketHolds g rule changed sheets new m)

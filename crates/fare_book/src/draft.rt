@@ -2,11 +2,12 @@
 ghost use Rattle.std.specs.Prelude.{◌≡◌};
 ghost use Rattle.fare_book.specs.declared.draft.Stop.TheVariants.{Mem as OutOfMemory};
 
+use crate::fare_table::FareTable;
 use crate::keys::{Market, RuleKey};
-use fare_law::{BookWhy, Fare, FareKey, MarketSheet, Rule, Shared};
+use fare_law::{BookWhy, MarketSheet, Rule, Shared};
 use seat_classes::Seats;
 use std::alloc::{AllocError, AllocFailed};
-use std::collections::{BTreeMap, HashMap, HashSet};
+use std::collections::{HashMap, HashSet};
 use std::sync::Arc;
 
 /// What is live after the actions so far. A market that they touch has a table of its fares, and each
@@ -14,7 +15,7 @@ use std::sync::Arc;
 #[derive(Drop)]
 pub struct Draft {
     pub sheets: HashMap<Market, Arc<MarketSheet>>,
-    pub tables: HashMap<Market, BTreeMap<FareKey, Fare>>,
+    pub tables: HashMap<Market, FareTable>,
     pub rules: HashMap<RuleKey, Shared<Rule>>,
     /// The rules that are put or dropped.
     pub changed: HashSet<RuleKey>,

@@ -7,6 +7,7 @@
 mod book;
 mod draft;
 mod fare_actions;
+mod fare_table;
 mod faults;
 mod keys;
 mod laws;

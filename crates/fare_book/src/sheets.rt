@@ -1,5 +1,5 @@
 //! The sheets that a filing leaves.
-ghost use Rattle.std.specs.Prelude.{◌≡◌, ◌≢◌, false, true, List, [], IfOk, OnOk, Some, IsSome};
+ghost use Rattle.std.specs.Prelude.{◌≡◌, ◌≢◌, ◌∷◌, false, true, List, [], IfOk, OnOk, Some, IsSome};
 ghost use Rattle.std.specs.List.{list_any};
 ghost use Rattle.std.specs.Map.{lookup};
 ghost use Rattle.fare_law.specs.Book.{Book as Version, free_rule, live_rule};
@@ -7,11 +7,12 @@ ghost use Rattle.fare_law.specs.Sheets.{SheetOf};
 ghost use Rattle.fare_book.specs.Keeping.{Rules, Sheets, sheet_at};
 ghost use Rattle.fare_book.specs.Keys.{same_market, same_rule};
 ghost use Rattle.fare_book.specs.Ready.{IsRight, MakesSheet, Ready};
-ghost use Rattle.fare_book.specs.Tables.{AreKeyed, Fares, LiveRules, MarketHolds, rule_of};
+ghost use Rattle.fare_book.specs.Tables.{AreKeyed, Fares, LiveRules, MarketHolds, fares_in, rule_of};
 ghost use Rattle.fare_book.specs.declared.keys.Market.{Market as MarketName};
 ghost use Rattle.fare_book.specs.declared.keys.RuleKey.{RuleKey as RuleName};
 
 use crate::fare_actions::rule_of;
+use crate::fare_table::FareTable;
 use crate::keys::{Market, RuleKey};
 use crate::tables::take_table;
 use fare_law::{Fare, FareKey, List, MarketSheet, Mem, Rule, Shared, SheetRow};
@@ -22,7 +23,7 @@ use std::sync::Arc;
 /// Makes tables of the markets whose sheets have a rule that was changed.
 pub fn touch_stale(
     alloc: Global,
-    tables: &mut HashMap<Market, BTreeMap<FareKey, Fare>>,
+    tables: &mut HashMap<Market, FareTable>,
     sheets: &HashMap<Market, Arc<MarketSheet>>,
     changed: &HashSet<RuleKey>,
 ) -> Result<(), Mem>
@@ -40,7 +41,7 @@ pub fn touch_stale(
 /// Makes a table of a market where that is asked.
 fn touch(
     alloc: Global,
-    tables: &mut HashMap<Market, BTreeMap<FareKey, Fare>>,
+    tables: &mut HashMap<Market, FareTable>,
     sheets: &HashMap<Market, Arc<MarketSheet>>,
     market: Market,
     asked: bool,
@@ -79,7 +80,7 @@ fn is_changed(row: &SheetRow, changed: &HashSet<RuleKey>) -> bool
 pub fn place_tables(
     alloc: Global,
     sheets: &mut HashMap<Market, Arc<MarketSheet>>,
-    tables: &HashMap<Market, BTreeMap<FareKey, Fare>>,
+    tables: &HashMap<Market, FareTable>,
     rules: &HashMap<RuleKey, Shared<Rule>>,
 ) -> Result<(), Mem>
     requires { (b : Version) × Ready b sheets.old.entries tables.now.entries rules.now.entries }
@@ -96,37 +97,80 @@ fn place_table(
     alloc: Global,
     sheets: &mut HashMap<Market, Arc<MarketSheet>>,
     market: Market,
-    table: &BTreeMap<FareKey, Fare>,
+    table: &FareTable,
     rules: &HashMap<RuleKey, Shared<Rule>>,
 ) -> Result<(), Mem>
-    requires { (b : Version) × MakesSheet b market table.now.entries rules.now.entries }
-    ensures right { OnOk result ((b : Version) → MakesSheet b market table.now.entries rules.now.entries → IsRight b market (sheet_at sheets.new.entries market)) }
+    requires { (b : Version) × MakesSheet b market (fares_in table.now) rules.now.entries }
+    ensures right { OnOk result ((b : Version) → MakesSheet b market (fares_in table.now) rules.now.entries → IsRight b market (sheet_at sheets.new.entries market)) }
     ensures others { OnOk result ((m : MarketName) → same_market m market ≡ false → sheet_at sheets.new.entries m ≡ sheet_at sheets.old.entries m) }
 {
-    if table.is_empty() {
-        sheets.remove(&market);
-        return Ok(());
+    match sheet_from(alloc, market, table, rules)? {
+        Some(sheet) => {
+            let sheet = Arc::new(alloc, sheet)?;
+            sheets.insert(market, sheet)?;
+        }
+        None => {
+            sheets.remove(&market);
+        }
     }
-    let sheet = sheet_of(alloc, market, table, rules)?;
-    let sheet = Arc::new(alloc, sheet)?;
-    sheets.insert(market, sheet)?;
     Ok(())
 }
 
-/// The sheet of a table that has fares.
+/// The sheet of a table. None where it has no fare.
+fn sheet_from(
+    alloc: Global,
+    market: Market,
+    table: &FareTable,
+    rules: &HashMap<RuleKey, Shared<Rule>>,
+) -> Result<Option<MarketSheet>, Mem>
+    requires { (b : Version) × MakesSheet b market (fares_in table.now) rules.now.entries }
+    ensures { IfOk result (λ s. (b : Version) → MakesSheet b market (fares_in table.now) rules.now.entries → IsRight b market s) }
+{
+    match table {
+        FareTable::One(fare) => Ok(Some(sheet_of_one(alloc, market, fare, rules)?)),
+        FareTable::Many(fares) => {
+            if fares.is_empty() {
+                return Ok(None);
+            }
+            Ok(Some(sheet_of(alloc, market, fares, rules)?))
+        }
+    }
+}
+
+/// The sheet of one fare.
+fn sheet_of_one(
+    alloc: Global,
+    market: Market,
+    fare: &Fare,
+    rules: &HashMap<RuleKey, Shared<Rule>>,
+) -> Result<MarketSheet, Mem>
+    requires { (b : Version) × MakesSheet b market ((fare.now.key, fare.now) ∷ []) rules.now.entries }
+    ensures { IfOk result (λ s. (b : Version) → MakesSheet b market ((fare.now.key, fare.now) ∷ []) rules.now.entries → SheetOf b market.from market.to s) }
+{
+    let free = Shared::new(alloc, free_rule())?;
+    let rule = rule_for(rules, &free, fare).share()?;
+    let mut rows = List::new(alloc);
+    rows.push(SheetRow {
+        fare: fare.copied(),
+        rule,
+    })?;
+    MarketSheet::of(alloc, market.from, market.to, rows)
+}
+
+/// The sheet of fares, of which there are some.
 fn sheet_of(
     alloc: Global,
     market: Market,
-    table: &BTreeMap<FareKey, Fare>,
+    fares: &BTreeMap<FareKey, Fare>,
     rules: &HashMap<RuleKey, Shared<Rule>>,
 ) -> Result<MarketSheet, Mem>
-    requires some { table.now.entries ≢ [] }
-    requires made { (b : Version) × MakesSheet b market table.now.entries rules.now.entries }
-    ensures { IfOk result (λ s. (b : Version) → MakesSheet b market table.now.entries rules.now.entries → SheetOf b market.from market.to s) }
+    requires some { fares.now.entries ≢ [] }
+    requires made { (b : Version) × MakesSheet b market fares.now.entries rules.now.entries }
+    ensures { IfOk result (λ s. (b : Version) → MakesSheet b market fares.now.entries rules.now.entries → SheetOf b market.from market.to s) }
 {
     let free = Shared::new(alloc, free_rule())?;
     let mut rows = List::new(alloc);
-    for (_, fare) in table {
+    for (_, fare) in fares {
         let rule = rule_for(rules, &free, fare).share()?;
         rows.push(SheetRow {
             fare: fare.copied(),

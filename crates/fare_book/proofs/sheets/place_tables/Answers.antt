@@ -1,11 +1,9 @@
 use Rattle.std.proofs.Common.{Bor, rules, sym, ap, ◌∙◌}
-use Rattle.std.specs.BTreeMap.{BTreeMap}
 use Rattle.std.specs.Map.{lookup}
 use Rattle.std.specs.Map.Iter.{deref_pair}
 use Rattle.std.proofs.lemmas.Map.Iter.{hash_map_turn, rest_all, rest_more}
-use Rattle.fare_law.specs.declared.fares.Fare.{Fare}
-use Rattle.fare_law.specs.declared.fares.FareKey.{FareKey}
 use Rattle.fare_book.specs.Keys.{same_market}
+use Rattle.fare_book.specs.declared.fare_table.FareTable.{FareTable}
 use Rattle.fare_book.specs.declared.keys.Market.{Market}
 use Rattle.fare_book.proofs.Finding.{market_found}
 use Rattle.fare_book.proofs.Placing.{market_equivalence, placed_more, table_makes, untouched_right}
@@ -18,13 +16,13 @@ loop-market-init c = λ b ready m none.
 
 pub place_table-requires : goal.place_table-requires
 place_table-requires c =
-    let item : Bor Market × Bor (BTreeMap FareKey Fare) = (c.in-Some.market, c.in-Some.table) in
+    let item : Bor Market × Bor FareTable = (c.in-Some.market, c.in-Some.table) in
     let turn = hash_map_turn deref_pair c.loop-market.yielded c.into_iter-market-iterator.result c.loop-market.market-iterator c.next.new.self c.next.result item c.loop-market.yielded_by c.in-Some.is c.next.ensures.steps market_equivalence c.args.tables.now (search rules) (search rules) in
     (c.requires.0, table_makes c.requires.0 c.args.sheets.now.entries c.args.tables.now.entries c.args.rules.now.entries c.requires.1 c.in-Some.market.now c.in-Some.table.now (sym (market_found c.args.tables.now.entries c.in-Some.market.now) ∙ turn.1))
 
 pub loop-market-preserved : goal.loop-market-preserved
 loop-market-preserved c = λ b ready.
-    let item : Bor Market × Bor (BTreeMap FareKey Fare) = (c.in-Some.market, c.in-Some.table) in
+    let item : Bor Market × Bor FareTable = (c.in-Some.market, c.in-Some.table) in
     let turn = hash_map_turn deref_pair c.loop-market.yielded c.into_iter-market-iterator.result c.loop-market.market-iterator c.next.new.self c.next.result item c.loop-market.yielded_by c.in-Some.is c.next.ensures.steps market_equivalence c.args.tables.now (search rules) (search rules) in
     let makes = table_makes b c.args.sheets.now.entries c.args.tables.now.entries c.args.rules.now.entries ready c.in-Some.market.now c.in-Some.table.now (sym (market_found c.args.tables.now.entries c.in-Some.market.now) ∙ turn.1) in
     placed_more b c.loop-market.sheets.entries c.place_table.new.sheets.entries c.loop-market.market-iterator c.next.new.self c.in-Some.market.now c.in-Some.table.now

@@ -29,14 +29,14 @@ loop-fare-preserved c =
 
 pub of-requires : goal.of-requires
 of-requires c =
-    let entries = c.args.table.now.entries in
+    let entries = c.args.fares.now.entries in
     let all : map deref_pair c.loop-fare.yielded ≡ entries = search (rules, iter_end) in
     let sorted : IsStrictlySortedBy fare_order.ghosts.cmp (keys_of entries) = c.into_iter-fare-iterator.ensures.into_iter_gives.5 in
     is_sheet c.args.rules.now.entries c.requires.made.0 c.args.market entries c.requires.made.1 sorted c.loop-fare.rows (subst (Made c.args.rules.now.entries c.loop-fare.rows) all c.loop-fare.invariant)
 
 pub returns : goal.returns
 returns c =
-    let entries = c.args.table.now.entries in
+    let entries = c.args.fares.now.entries in
     let market = c.args.market in
     let all : map deref_pair c.loop-fare.yielded ≡ entries = search (rules, iter_end) in
     let sorted : IsStrictlySortedBy fare_order.ghosts.cmp (keys_of entries) = c.into_iter-fare-iterator.ensures.into_iter_gives.5 in

@@ -1,5 +1,5 @@
 use Rattle.std.proofs.Common.{None, Some, is_some, sym, ap, subst, ◌∙◌}
-use Rattle.fare_book.specs.Tables.{Changes}
+use Rattle.fare_book.specs.Tables.{Changes, fares_in}
 use Rattle.fare_book.proofs.Finding.{market_changes, market_found}
 use Rattle.fare_book.proofs.FareSteps.{changes_from, changes_within}
 use Rattle.fare_book.proofs.tables.remove_fare.Goals as goal
@@ -19,6 +19,6 @@ returns c =
     let mid = c.take_table.new.tables.entries in
     let table = c.drop_fare_from-old.new.table in
     subst (λ t. Changes c.args.sheets.now.entries t.entries c.insert.new.self.entries c.args.key.now None c.drop_fare_from-old.result) c.get_mut.follows.holds-at-none
-    (changes_from c.args.sheets.now.entries old mid c.insert.new.self.entries c.args.key.now None c.drop_fare_from-old.result c.market_of-market.result c.in_ok-table.table.entries table
+    (changes_from c.args.sheets.now.entries old mid c.insert.new.self.entries c.args.key.now None c.drop_fare_from-old.result c.market_of-market.result (fares_in c.in_ok-table.table) table
     c.market_of-market.ensures c.in_ok-table.ensures.table c.in_ok-table.ensures.others c.drop_fare_from-old.ensures.old c.drop_fare_from-old.ensures.drops
     (market_changes mid c.insert.new.self.entries c.market_of-market.result (Some table) c.in_ok-insert.ensures.updates.0))

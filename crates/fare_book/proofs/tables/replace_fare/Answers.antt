@@ -1,5 +1,5 @@
 use Rattle.std.proofs.Common.{Some, is_some, sym, ap, subst, ◌∙◌}
-use Rattle.fare_book.specs.Tables.{Changes}
+use Rattle.fare_book.specs.Tables.{Changes, fares_in}
 use Rattle.fare_book.proofs.Finding.{market_changes, market_found}
 use Rattle.fare_book.proofs.FareSteps.{changes_from, changes_within}
 use Rattle.fare_book.proofs.TableRows.{ok_both}
@@ -22,6 +22,6 @@ returns c =
     let mid = c.take_table.new.tables.entries in
     let table = c.put_fare_in-2.new.table in
     subst (λ t. Changes c.args.sheets.now.entries t.entries c.insert.new.self.entries c.args.fare.now.key (Some c.args.fare.now) c.in_ok-old.old) c.get_mut.follows.holds-at-none
-    (changes_from c.args.sheets.now.entries old mid c.insert.new.self.entries c.args.fare.now.key (Some c.args.fare.now) c.in_ok-old.old c.market_of-market.result c.in_ok-table.table.entries table
+    (changes_from c.args.sheets.now.entries old mid c.insert.new.self.entries c.args.fare.now.key (Some c.args.fare.now) c.in_ok-old.old c.market_of-market.result (fares_in c.in_ok-table.table) table
     c.market_of-market.ensures c.in_ok-table.ensures.table c.in_ok-table.ensures.others c.in_ok-old.ensures.old c.in_ok-old.ensures.puts
     (market_changes mid c.insert.new.self.entries c.market_of-market.result (Some table) c.in_ok-insert.ensures.updates.0))
