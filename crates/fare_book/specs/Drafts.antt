@@ -84,6 +84,12 @@ Acts action old new (Ok _) = (b next : Book) → Drafts b old → Follows b acti
 Acts action old new (Err (Fault why)) = (b : Book) → Drafts b old → FaultOf b action why
 Acts action old new (Err Mem) = Unit {0}
 
+-- what comes of an action on seats, where these are live
+abbrev pub ActsOnSeats : Action → (old new : List (SeatKey × List ℕ)) → Result (Unit {0}) Stop → Type 0
+ActsOnSeats action old new (Ok _) = (b next : Book) → SeatsKept (live_seats b) old → Follows b action next → SeatsKept (live_seats next) new × Faultless b action
+ActsOnSeats action old new (Err (Fault why)) = (b : Book) → SeatsKept (live_seats b) old → FaultOf b action why
+ActsOnSeats action old new (Err Mem) = Unit {0}
+
 -- a fare that is put has no fault but want of room
 abbrev pub OnlyLimit : Book → Fare → Type 0
 OnlyLimit b fare = (why : BookWhy) → Why b (PutFare fare) why → why ≡ Limit

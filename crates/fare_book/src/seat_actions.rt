@@ -1,6 +1,6 @@
 //! Seats that are put and dropped.
 ghost use Rattle.fare_law.specs.declared.filings.Action.TheVariants.{PutSeats, DropSeats};
-ghost use Rattle.fare_book.specs.Drafts.{Acts, drafted_seats};
+ghost use Rattle.fare_book.specs.Drafts.{Acts, ActsOnSeats, drafted_seats};
 ghost use Rattle.std.specs.Prelude.{◌≡◌, None, IfOk};
 
 use crate::draft::{Draft, Stop};
@@ -17,12 +17,23 @@ pub fn put_seats(
 ) -> Result<(), Stop>
     ensures { Acts (PutSeats key.now seats.now) draft.old draft.new result }
 {
-    let mut held = take_seats(draft, alloc)?;
-    match held.put(alloc, key, seats) {
-        Ok(()) => {
+    match &mut draft.own_seats {
+        Some(held) => put_in(alloc, held, key, seats),
+        None => {
+            let mut held = draft.seats.copy(alloc)?;
+            let put = put_in(alloc, &mut held, key, seats);
             draft.own_seats = Some(held);
-            Ok(())
+            put
         }
+    }
+}
+
+/// Gives a key these seats among those that are held.
+fn put_in(alloc: Global, held: &mut Seats, key: &SeatKey, seats: &[u8; 32]) -> Result<(), Stop>
+    ensures { ActsOnSeats (PutSeats key.now seats.now) held.old held.new result }
+{
+    match held.put(alloc, key, seats) {
+        Ok(()) => Ok(()),
         Err(SeatPut::Full) => Err(Stop::Fault(BookWhy::Limit)),
         Err(SeatPut::Mem) => Err(Stop::Mem),
     }
