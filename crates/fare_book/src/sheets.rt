@@ -149,7 +149,8 @@ fn sheet_of_one(
 {
     let free = Shared::new(alloc, free_rule())?;
     let rule = rule_for(rules, &free, fare).share()?;
-    let mut rows = List::new(alloc);
+    // room for this row alone, where a list that grows has room for four
+    let mut rows = List::from_vec(Vec::with_capacity(alloc, 1)?);
     rows.push(SheetRow {
         fare: fare.copied(),
         rule,

@@ -8,7 +8,7 @@ pub of-requires : goal.of-requires
 of-requires c =
     let rules = c.args.rules.now.entries in
     let fare = c.args.fare.now in
-    let made = made_one rules c.new-rows.result c.push.new.self c.copied.result fare c.in_ok-rule.rule c.new-rows.ensures c.in_ok-push.ensures.items c.copied.ensures
+    let made = made_one rules c.from_vec-rows.result c.push.new.self c.copied.result fare c.in_ok-rule.rule (c.from_vec-rows.ensures ∙ c.in_ok-with_capacity.ensures.items) c.in_ok-push.ensures.items c.copied.ensures
     (λ b r s. c.rule_for.ensures b r s ∙ ap Some (sym c.in_ok-rule.ensures)) in
     is_sheet rules c.requires.0 c.args.market ((fare.key, fare) ∷ []) c.requires.1 (sorted_one fare) c.push.new.self made
 
@@ -17,7 +17,7 @@ returns c =
     let rules = c.args.rules.now.entries in
     let fare = c.args.fare.now in
     let market = c.args.market in
-    let made = made_one rules c.new-rows.result c.push.new.self c.copied.result fare c.in_ok-rule.rule c.new-rows.ensures c.in_ok-push.ensures.items c.copied.ensures
+    let made = made_one rules c.from_vec-rows.result c.push.new.self c.copied.result fare c.in_ok-rule.rule (c.from_vec-rows.ensures ∙ c.in_ok-with_capacity.ensures.items) c.in_ok-push.ensures.items c.copied.ensures
     (λ b r s. c.rule_for.ensures b r s ∙ ap Some (sym c.in_ok-rule.ensures)) in
     ok_as c.of.result (λ s. s ≡ record { from = market.from; to = market.to; rows = c.push.new.self }) _
     (λ s e b makes. subst (SheetOf b market.from market.to) (sym e) (sheet_made rules b market ((fare.key, fare) ∷ []) makes (sorted_one fare) c.push.new.self made (λ e. cc))) c.of.ensures
