@@ -1,6 +1,5 @@
 -- The runs from the root are the moves of the lawful tickets, with their price and code. Given on to the crates above.
-use Rattle.std.proofs.Common.{◌≡◌, ◌≢◌, ℕ, suc, ◌+◌, Bool, true, false, cond, nat_le, List, [], ◌∷◌, ◌++◌, length, map, flat_map, find, reverse, sum_by, slice_get, Option, Some, None, sym, refl, ap, ap₂, ◌∙◌, subst, inl, inr, arith, option_and_then}
-use Rattle.std.proofs.lemmas.Bool.{cases_Bool, and_parts}
+use Rattle.std.proofs.Common.{◌≡◌, ◌≢◌, ℕ, suc, ◌+◌, Bool, true, false, cond, nat_le, List, [], ◌∷◌, ◌++◌, length, map, flat_map, sum_by, slice_get, Option, Some, None, sym, refl, ap, ap₂, ◌∙◌, subst, arith}
 use Rattle.std.proofs.lemmas.List.Sums.{sum_by-cons}
 use Rattle.fare_law.specs.declared.tickets.Component.{Component}
 use Rattle.fare_law.specs.declared.fares.FareKey.{FareKey}
@@ -8,7 +7,7 @@ use Rattle.fare_law.specs.declared.flights.Flight.{Flight}
 use Rattle.fare_law.specs.declared.tickets.Piece.{Piece}
 use Rattle.fare_law.specs.declared.requests.Request.{Request}
 use Rattle.fare_law.specs.declared.tickets.Ticket.{Ticket}
-use Rattle.fare_law.specs.Book.{Book, actions, same_key, names_fare, last_that, fare_put, live_fare}
+use Rattle.fare_law.specs.Book.{Book}
 use Rattle.fare_law.specs.Lawful.{comes_in, PartsLawful, Lawful}
 use Rattle.fare_law.specs.Parts.{Part, IsPart, Numbers, StandsFor, ComponentLawful, price_of}
 use Rattle.fare_law.specs.Lists.{Each, Matched}
@@ -21,9 +20,7 @@ use Rattle.fare_law.specs.declared.moves.Role.TheVariants.{Alone, Opens, GoesOn,
 use Rattle.open_unit.specs.OpenUnits.{unit_steps}
 use Rattle.flight_paths.specs.Positions.{Flies, before_slice}
 use Rattle.residual_keys.specs.Residuals.{State, begins, no_part, Run, RunFromRoot}
-use Rattle.residual_keys.proofs.Marks.{same_carrier_is}
 use Rattle.fare_law.specs.Moves.{role_of, move_of, moves_after, moves_of}
-use Rattle.fare_law.specs.Codes.{role_code, run_code}
 use Rattle.fare_law.specs.Flights.{Ascending}
 use Rattle.residual_keys.proofs.Runs.{Item, mark, ZeroSlot, ItemOf, mark_of, total, Sides, run_sides, sides_run}
 use Rattle.residual_keys.proofs.TicketParts.{PartRun, is_new, news}

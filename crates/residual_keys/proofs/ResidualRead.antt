@@ -1,7 +1,7 @@
 -- A text that is read is that of a residual.
 use Rattle.std.proofs.Common.{◌≡◌, ◌≤◌, ◌↔◌, ℕ, ℤ, List, [], ◌∷◌, ◌++◌, length, slice_get, Option, Some, None, refl, arith, ap, sym, ◌∙◌, subst, inl, inr, option_and_then}
 use Rattle.std.specs.Fmt.{decimal, signed_decimal}
-use Rattle.std.specs.Prelude.{IfSome, IsSome}
+use Rattle.std.specs.Prelude.{Bool, true, false, IfSome, IsSome, MatchBool}
 use Rattle.std.proofs.lemmas.Option.{same_Some}
 use Rattle.fare_law.specs.Lists.{Each}
 use Rattle.fare_law.specs.declared.names.Place.{Place}
@@ -294,35 +294,54 @@ made_again x h = go x.units h.few h.units
     go (u ∷ v ∷ []) few each = (refl, record { turn = λ e. absurd (cc); first = each.0; second = each.1.0; part = h.part })
     go (u ∷ v ∷ w ∷ us) few each = absurd (omega (arith, few))
 
-pub read_none : Words → (text : List ℕ) → None ≡ parts_in text → (x : State) → (None ≡ Some x) ↔ Spells text x
-read_none k text none x = (
-  λ e. absurd (cc),
-  λ s.
-      let again : parts_in text ≡ Some (parts_of x) = ap parts_in s.written ∙ parts_again k x s.is in
-      absurd (cc),
-)
+no_text : Words → (text : List ℕ) → parts_in text ≡ None → (x : State) → Spells text x → ⊥
+no_text k text none x s =
+    let again : parts_in text ≡ Some (parts_of x) = ap parts_in s.written ∙ parts_again k x s.is in
+    absurd (cc)
 
-pub read_exact : Words → (text : List ℕ) (p : Parts) (o : Option State) → Some p ≡ parts_in text → (IsSome o ↔ AreKept p.first p.second p.part) → IfSome o (λ r. r ≡ made p)
+-- a text of parts spells a residual exactly where they make one, and that one
+parts_told : Words → (text : List ℕ) (p : Parts) → parts_in text ≡ Some p → (x : State) → Spells text x → AreKept p.first p.second p.part × (made p ≡ x)
+parts_told k text p was x s =
+    let again : parts_in text ≡ Some (parts_of x) = ap parts_in s.written ∙ parts_again k x s.is in
+    let same : parts_of x ≡ p = same_Some (parts_of x) p (sym again ∙ was) in
+    let whole = made_again x s.is.kept in
+    (subst (λ (q : Parts). AreKept q.first q.second q.part) same whole.1, sym (ap made same) ∙ whole.0)
+
+-- what was read of a text, and whether it was
+abbrev pub AreRead : Bool → List ℕ → Parts → Type 0
+AreRead b text p = MatchBool b (parts_in text ≡ Some p) (parts_in text ≡ None)
+
+pub read_none : Words → (text : List ℕ) (b : Bool) (p : Parts) → AreRead b text p → b ≡ false → (x : State) → Spells text x → ⊥
+read_none k text true p read b x s = absurd (cc)
+read_none k text false p read b x s = no_text k text read x s
+
+pub read_out : Words → (text : List ℕ) (b : Bool) (p : Parts) → AreRead b text p → b ≡ true → (AreKept p.first p.second p.part → ⊥) → (x : State) → Spells text x → ⊥
+read_out k text true p read b out x s = out (parts_told k text p read x s).0
+read_out k text false p read b out x s = absurd (cc)
+
+pub read_kept : Words → (text : List ℕ) (b : Bool) (p : Parts) → AreRead b text p → b ≡ true → AreKept p.first p.second p.part → Spells text (made p)
+read_kept k text true p read b kept = spells k text p read kept
+read_kept k text false p read b kept = absurd (cc)
+
+pub read_exact : Words → (text : List ℕ) (b : Bool) (p : Parts) (o : Option State) → AreRead b text p → b ≡ true → (IsSome o ↔ AreKept p.first p.second p.part) → IfSome o (λ r. r ≡ made p)
     → (x : State) → (o ≡ Some x) ↔ Spells text x
-read_exact k text p o was decides is x = (forward o decides is, back o decides is)
+read_exact k text false p o read b decides is x = absurd (cc)
+read_exact k text true p o read b decides is x = (forward o decides is, λ s. back o decides is s)
   where
     forward : (o : Option State) → (IsSome o ↔ AreKept p.first p.second p.part) → IfSome o (λ r. r ≡ made p) → o ≡ Some x → Spells text x
     forward None decides is e = absurd (cc)
     forward (Some r) decides is e =
         let same : made p ≡ x = sym is ∙ same_Some r x e in
-        subst (Spells text) same (spells k text p (sym was) (decides.0 refl))
+        subst (Spells text) same (spells k text p read (decides.0 refl))
+
+    found : (o : Option State) → IfSome o (λ r. r ≡ made p) → IsSome o → made p ≡ x → o ≡ Some x
+    found None is some e = absurd (cc)
+    found (Some r) is some e = ap Some (is ∙ e)
 
     back : (o : Option State) → (IsSome o ↔ AreKept p.first p.second p.part) → IfSome o (λ r. r ≡ made p) → Spells text x → o ≡ Some x
     back o decides is s =
-        let again : parts_in text ≡ Some (parts_of x) = ap parts_in s.written ∙ parts_again k x s.is in
-        let same : parts_of x ≡ p = same_Some (parts_of x) p (sym again ∙ sym was) in
-        let whole = made_again x s.is.kept in
-        let kept : AreKept p.first p.second p.part = subst (λ (q : Parts). AreKept q.first q.second q.part) same whole.1 in
-        found o is (decides.1 kept) (sym (ap made same) ∙ whole.0)
-      where
-        found : (o : Option State) → IfSome o (λ r. r ≡ made p) → IsSome o → made p ≡ x → o ≡ Some x
-        found None is some e = absurd (cc)
-        found (Some r) is some e = ap Some (is ∙ e)
+        let told = parts_told k text p read x s in
+        found o is (decides.1 told.0) told.1
 
 -- texts of two residuals differ
 pub one_text : Words → (x y : State) → IsWritten x → IsWritten y → residual_text x ≡ residual_text y → x ≡ y

@@ -38,11 +38,7 @@ impl Residual {
         ensures made { IsSome result ↔ AreKept unit1 unit2 part }
         ensures parts { IfSome result (λ r. r ≡ record { at = at; units = open_units unit1 unit2; part = part }) }
     {
-        let kept = in_turn(&unit1, &unit2)
-            && option_kept(&unit1)
-            && option_kept(&unit2)
-            && part_kept(&part);
-        if !kept {
+        if !are_kept(&unit1, &unit2, &part) {
             return None;
         }
         Some(Residual {
@@ -59,6 +55,13 @@ impl Residual {
     {
         let _part = &self.part;
     }
+}
+
+/// Whether open units of two places and a ticket part make a residual.
+pub fn are_kept(first: &Option<OpenUnit>, second: &Option<OpenUnit>, part: &TicketPart) -> bool
+    ensures { IsTrue result ↔ AreKept first.now second.now part.now }
+{
+    in_turn(first, second) && option_kept(first) && option_kept(second) && part_kept(part)
 }
 
 /// Whether the second place is taken only where the first one is.

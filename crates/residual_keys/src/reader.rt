@@ -1,6 +1,6 @@
 //! Residuals read one after another. In order, they mostly have the position of the one before and open units that
 //! came before, so these are kept with their texts.
-ghost use Rattle.std.specs.Prelude.{◌≡◌, ◌↔◌, ◌++◌, ◌∷◌, ℕ, List, [], Some};
+ghost use Rattle.std.specs.Prelude.{◌≡◌, ◌++◌, ◌∷◌, ℕ, List, [], MatchOption, Some};
 ghost use Rattle.std.specs.List.{join_with_byte};
 ghost use Rattle.residual_keys.specs.ResidualReading as Reading;
 ghost use Rattle.residual_keys.specs.ResidualText as Text;
@@ -8,7 +8,8 @@ ghost use Rattle.residual_keys.specs.ResidualText.{Spells};
 ghost use Rattle.residual_keys.specs.Residuals.{State};
 
 use crate::Residual;
-use crate::reading::{PartReader, parts_of, position_of, unit_of};
+use crate::kept::are_kept;
+use crate::reading::{PartReader, Parts, parts_of, position_of, unit_of};
 use crate::spots::{SPOTS, text_spot};
 use crate::written::WrittenPosition;
 use fare_law::Mem;
@@ -32,14 +33,24 @@ struct ReadUnit {
     ghost spells: { Reading.unit_in text.items ≡ Some unit },
 }
 
-/// Reads residuals, and keeps what they consist of.
+/// What residuals that were read consist of.
 #[derive(Drop)]
-pub struct ResidualReader {
+struct KeptParts {
     alloc: Global,
     /// The last position.
     position: Option<ReadPosition>,
     /// At each spot the last open unit that had it.
     units: Vec<Option<ReadUnit>>,
+}
+
+/// Reads residuals, and keeps what they consist of.
+#[derive(Drop)]
+pub struct ResidualReader {
+    kept: KeptParts,
+    /// Where the parts of the next one are read into.
+    parts: Parts,
+    /// The last one, in one place, so that no copy of it is handed on.
+    last: Residual,
 }
 
 impl ResidualReader {
@@ -49,23 +60,38 @@ impl ResidualReader {
         for _ in 0..SPOTS {
             units.push(None)?;
         }
+        let parts = Parts::blank();
+        let last = Residual::new(parts.at, parts.first, parts.second, parts.part);
         Ok(ResidualReader {
-            alloc,
-            position: None,
-            units,
+            kept: KeptParts {
+                alloc,
+                position: None,
+                units,
+            },
+            parts,
+            last,
         })
     }
 
     /// The residual whose text the bytes are, as by `read_residual`.
-    pub fn read(&mut self, bytes: &[u8]) -> Option<Residual>
-        ensures { (x : State) → (result ≡ Some x) ↔ Spells bytes.now x }
+    pub fn read(&mut self, bytes: &[u8]) -> Option<&Residual>
+        ensures { MatchOption result ((x : State) → Spells bytes.now x → ⊥) (λ r. Spells bytes.now r.now) }
     {
         cuts_tell();
         numbers_tell();
-        let parts = parts_of(self, bytes)?;
-        Residual::checked(parts.at, parts.first, parts.second, parts.part)
+        if !parts_of(&mut self.kept, bytes, &mut self.parts) {
+            return None;
+        }
+        let parts = &self.parts;
+        if !are_kept(&parts.first, &parts.second, &parts.part) {
+            return None;
+        }
+        self.last = Residual::new(parts.at, parts.first, parts.second, parts.part);
+        Some(&self.last)
     }
+}
 
+impl KeptParts {
     // Keeps a position that was read, where there is memory.
     fn keep_position(&mut self, at: &Position)
         requires { (rest : List ℕ) → Reading.position_in ((join_with_byte 32 (Text.position_words at.now) ++ 32 ∷ []) ++ rest) ≡ Some (at.now, rest) }
@@ -88,29 +114,33 @@ impl ResidualReader {
     }
 }
 
-impl PartReader for ResidualReader {
-    fn position_of<'a>(&mut self, text: &'a [u8]) -> Option<(Position, &'a [u8])> {
+impl PartReader for KeptParts {
+    fn position_of<'a>(&mut self, text: &'a [u8], at: &mut Position) -> Option<&'a [u8]> {
         if let Some(read) = &self.position {
             if let Some(rest) = text.strip_prefix(read.written.text.as_slice()) {
-                return Some((read.written.at, rest));
+                *at = read.written.at;
+                return Some(rest);
             }
         }
         cuts_tell();
         numbers_tell();
-        let (at, rest) = position_of(text)?;
-        self.keep_position(&at);
-        Some((at, rest))
+        let (found, rest) = position_of(text)?;
+        self.keep_position(&found);
+        *at = found;
+        Some(rest)
     }
 
-    fn unit_of(&mut self, text: &[u8]) -> Option<OpenUnit> {
+    fn unit_of(&mut self, text: &[u8], unit: &mut Option<OpenUnit>) {
         let spot = text_spot(text);
         if let Some(Some(read)) = self.units.get(spot) {
             if read.text.as_slice() == text {
-                return Some(read.unit);
+                *unit = Some(read.unit);
+                return;
             }
         }
-        let unit = unit_of(text)?;
-        self.keep_unit(spot, text, &unit);
-        Some(unit)
+        *unit = unit_of(text);
+        if let Some(found) = unit {
+            self.keep_unit(spot, text, found);
+        }
     }
 }

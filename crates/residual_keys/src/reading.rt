@@ -1,14 +1,16 @@
 //! Reading a residual's text.
-ghost use Rattle.std.specs.Prelude.{◌≡◌, ◌↔◌, MatchOption, None, Some};
+ghost use Rattle.std.specs.Prelude.{◌≡◌, ◌↔◌, MatchBool, MatchOption, None, Some};
+ghost use Rattle.residual_keys.specs.Kept.{AreKept};
 ghost use Rattle.residual_keys.specs.ResidualReading as Reading;
 ghost use Rattle.residual_keys.specs.ResidualText.{IsWritten, Spells, residual_text};
 ghost use Rattle.residual_keys.specs.Residuals.{State};
 
 use crate::words::{byte_of, carriers_of, day_of, place_number_of, rules_of, set_day_of, via_of};
 use crate::{Residual, TicketPart};
+use fare_law::Place;
 use flight_paths::Position;
 use name_text::place_of;
-use open_unit::OpenUnit;
+use open_unit::{CarrierMark, OpenUnit};
 use word_text::{cut, cuts_tell, numbers_tell};
 
 /// The parts of a residual, before it is known whether they make one.
@@ -20,6 +22,31 @@ pub struct Parts {
     pub part: TicketPart,
 }
 
+impl Parts {
+    /// Where parts are read into.
+    pub fn blank() -> Parts
+        ensures { AreKept result.first result.second result.part }
+    {
+        Parts {
+            at: Position {
+                slice: 0,
+                leg: 0,
+                place: Place::default(),
+                via: None,
+                lo: 0,
+                hi: 0,
+            },
+            first: None,
+            second: None,
+            part: TicketPart {
+                units: 0,
+                ends: 0,
+                carrier: CarrierMark::NotYet,
+            },
+        }
+    }
+}
+
 /// The residual whose text the bytes are. None exactly where they are the text of no residual whose
 /// names are well formed and whose numbers fit their fields.
 pub fn read_residual(bytes: &[u8]) -> Option<Residual>
@@ -27,7 +54,10 @@ pub fn read_residual(bytes: &[u8]) -> Option<Residual>
 {
     cuts_tell();
     numbers_tell();
-    let parts = parts_of(&mut Anew, bytes)?;
+    let mut parts = Parts::blank();
+    if !parts_of(&mut Anew, bytes, &mut parts) {
+        return None;
+    }
     Residual::checked(parts.at, parts.first, parts.second, parts.part)
 }
 
@@ -40,16 +70,16 @@ pub fn one_residual_text()
     numbers_tell();
 }
 
-/// What reads positions and open units, which come again in texts one after another.
+/// What reads positions and open units, which come again in texts one after another, into their places.
 pub trait PartReader {
     /// A position, and what follows it after a space.
-    fn position_of<'a>(&mut self, text: &'a [u8]) -> Option<(Position, &'a [u8])>
+    fn position_of<'a>(&mut self, text: &'a [u8], at: &mut Position) -> Option<&'a [u8]>
         ensures position { MatchOption result (Reading.position_in text.now ≡ None)
-            (λ x. Reading.position_in text.now ≡ Some (x.0, x.1.now)) };
+            (λ rest. Reading.position_in text.now ≡ Some (at.new, rest.now)) };
 
-    /// An open unit.
-    fn unit_of(&mut self, text: &[u8]) -> Option<OpenUnit>
-        ensures unit { result ≡ Reading.unit_in text.now };
+    /// An open unit, or none where the text spells none.
+    fn unit_of(&mut self, text: &[u8], unit: &mut Option<OpenUnit>)
+        ensures unit { unit.new ≡ Reading.unit_in text.now };
 }
 
 /// Reads each from its words.
@@ -57,30 +87,36 @@ pub trait PartReader {
 pub struct Anew;
 
 impl PartReader for Anew {
-    fn position_of<'a>(&mut self, text: &'a [u8]) -> Option<(Position, &'a [u8])> {
-        position_of(text)
+    fn position_of<'a>(&mut self, text: &'a [u8], at: &mut Position) -> Option<&'a [u8]> {
+        let (found, rest) = position_of(text)?;
+        *at = found;
+        Some(rest)
     }
 
-    fn unit_of(&mut self, text: &[u8]) -> Option<OpenUnit> {
-        unit_of(text)
+    fn unit_of(&mut self, text: &[u8], unit: &mut Option<OpenUnit>) {
+        *unit = unit_of(text);
     }
 }
 
-/// The parts of a residual, whether they make one or not.
+/// Reads the parts of a residual, whether they make one or not. False where the text spells none.
 #[tactic(auto, unfolding(crate::specs::ResidualReading::parts_in))]
-pub fn parts_of<R: PartReader>(reader: &mut R, text: &[u8]) -> Option<Parts>
-    ensures { result ≡ Reading.parts_in text.now }
+pub fn parts_of<R: PartReader>(reader: &mut R, text: &[u8], parts: &mut Parts) -> bool
+    ensures { MatchBool result (Reading.parts_in text.now ≡ Some parts.new) (Reading.parts_in text.now ≡ None) }
 {
-    let (at, text) = reader.position_of(text)?;
-    let (units, part) = cut(text, b' ')?;
-    let (first, second) = units_of(reader, units)?;
-    let part = part_of(part)?;
-    Some(Parts {
-        at,
-        first,
-        second,
-        part,
-    })
+    let Some(rest) = reader.position_of(text, &mut parts.at) else {
+        return false;
+    };
+    let Some((units, part)) = cut(rest, b' ') else {
+        return false;
+    };
+    if !units_of(reader, units, &mut parts.first, &mut parts.second) {
+        return false;
+    }
+    let Some(part) = part_of(part) else {
+        return false;
+    };
+    parts.part = part;
+    true
 }
 
 // A position, and what follows it after a space.
@@ -106,24 +142,29 @@ pub fn position_of(text: &[u8]) -> Option<(Position, &[u8])>
     Some((at, text))
 }
 
-// No open unit, one, or two.
+// Reads no open unit, one, or two.
 #[tactic(auto, unfolding(crate::specs::ResidualReading::units_in))]
 fn units_of<R: PartReader>(
     reader: &mut R,
     text: &[u8],
-) -> Option<(Option<OpenUnit>, Option<OpenUnit>)>
-    ensures { MatchOption result (Reading.units_in text.now ≡ None)
-        (λ x. Reading.units_in text.now ≡ Some (x.0, x.1)) }
+    first: &mut Option<OpenUnit>,
+    second: &mut Option<OpenUnit>,
+) -> bool
+    ensures { MatchBool result (Reading.units_in text.now ≡ Some (first.new, second.new))
+        (Reading.units_in text.now ≡ None) }
 {
+    *second = None;
     if text == b"-".as_slice() {
-        return Some((None, None));
+        *first = None;
+        return true;
     }
-    let Some((first, second)) = cut(text, b'/') else {
-        return Some((Some(reader.unit_of(text)?), None));
+    let Some((one, other)) = cut(text, b'/') else {
+        reader.unit_of(text, first);
+        return first.is_some();
     };
-    let first = reader.unit_of(first)?;
-    let second = reader.unit_of(second)?;
-    Some((Some(first), Some(second)))
+    reader.unit_of(one, first);
+    reader.unit_of(other, second);
+    first.is_some() && second.is_some()
 }
 
 #[tactic(auto, unfolding(crate::specs::ResidualReading::unit_in))]

@@ -1,6 +1,5 @@
 use Rattle.std.proofs.Common.{rules}
 use Rattle.std.proofs.lemmas.List.Sorted.{answers_always}
-use Rattle.fare_law.specs.Codes.{move_code}
 use Rattle.fare_law.specs.Lists.{Less}
 use Rattle.residual_keys.proofs.InOrder.{code_of, codes_differ, compare_codes}
 use Rattle.residual_keys.proofs.SortedWords.{NoneLower, sorted_order}

@@ -4,7 +4,7 @@ use Rattle.std.proofs.lemmas.Slice.Eq.{strip_prefix_is}
 use Rattle.residual_keys.specs.ResidualReading.{position_in}
 use Rattle.residual_keys.proofs.PositionAhead.{position_ahead}
 use Rattle.residual_keys.proofs.WordFacts.{Words}
-use Rattle.residual_keys.proofs.reader.ResidualReaderPartReader.position_of.Goals as goal
+use Rattle.residual_keys.proofs.reader.KeptPartsPartReader.position_of.Goals as goal
 
 pub returns-in-Some-strip_prefix : goal.returns-in-Some-strip_prefix
 returns-in-Some-strip_prefix c =
@@ -14,4 +14,4 @@ returns-in-Some-strip_prefix c =
 pub keep_position-requires : goal.keep_position-requires
 keep_position-requires c =
     let known : Words = record { cut = c.cuts_tell.ensures.first; number = c.numbers_tell.ensures.number; digits = c.numbers_tell.ensures.digits } in
-    position_ahead known c.args.text.now (c.in_ok-at.at, c.in_ok-at.rest.now) c.in_ok-at.ensures
+    position_ahead known c.args.text.now (c.in_ok-found.found, c.in_ok-found.rest.now) c.in_ok-found.ensures
