@@ -67,44 +67,33 @@ row_words cuts k line rest p r was cut s =
     let same : p ≡ (residual_text r.residual, bound_word r.bound) = same_Some p (residual_text r.residual, bound_word r.bound) (sym cut ∙ row_parts cuts k line rest r was s) in
     (ap (λ (q : List ℕ × List ℕ). q.0) same, ap (λ (q : List ℕ × List ℕ). q.1) same)
 
-abbrev RowIs : List ℕ → Option CertRow → Type 0
-RowIs line o = (r : CertRow) → (o ≡ Some r) ↔ SpellsRow line r
+abbrev NoRow : List ℕ → Type 0
+NoRow line = (r : CertRow) → SpellsRow line r → ⊥
 
-pub row_none : (line : List ℕ) → ((r : CertRow) → SpellsRow line r → ⊥) → RowIs line None
-row_none line none r = (λ e. absurd (cc), λ s. absurd (none r s))
+pub row_no_label : (line : List ℕ) → after_label (codes "row ") line ≡ None → NoRow line
+row_no_label line e r s = let k = row_rest line r s in absurd (cc)
 
-pub row_no_label : (line : List ℕ) → after_label (codes "row ") line ≡ None → RowIs line None
-row_no_label line e = row_none line (λ r s. let k = row_rest line r s in absurd (cc))
-
-pub row_no_cut : LastCutTells → Numbers → (line rest : List ℕ) → after_label (codes "row ") line ≡ Some rest → cut_last_at 32 rest ≡ None → RowIs line None
-row_no_cut cuts k line rest was e = row_none line (λ r s. let h = row_parts cuts k line rest r was s in absurd (cc))
+pub row_no_cut : LastCutTells → Numbers → (line rest : List ℕ) → after_label (codes "row ") line ≡ Some rest → cut_last_at 32 rest ≡ None → NoRow line
+row_no_cut cuts k line rest was e r s = let h = row_parts cuts k line rest r was s in absurd (cc)
 
 pub row_no_residual : LastCutTells → Numbers → (line rest : List ℕ) (p : List ℕ × List ℕ) → after_label (codes "row ") line ≡ Some rest → cut_last_at 32 rest ≡ Some p
-    → ((x : State) → (None ≡ Some x) ↔ Spells p.0 x) → RowIs line None
-row_no_residual cuts k line rest p was cut tells =
-    row_none line (λ r s. let h = row_words cuts k line rest p r was cut s in
-    let e : ◌≡◌ {A = Option State} None (Some r.residual) = (tells r.residual).1 (record { is = s.is.residual; written = h.0 }) in absurd (cc))
+    → ((x : State) → Spells p.0 x → ⊥) → NoRow line
+row_no_residual cuts k line rest p was cut none r s =
+    let h = row_words cuts k line rest p r was cut s in
+    none r.residual (record { is = s.is.residual; written = h.0 })
 
 pub row_no_bound : LastCutTells → Numbers → (line rest : List ℕ) (p : List ℕ × List ℕ) → after_label (codes "row ") line ≡ Some rest → cut_last_at 32 rest ≡ Some p
-    → bound_in p.1 ≡ None → RowIs line None
-row_no_bound cuts k line rest p was cut none =
-    row_none line (λ r s. let h = row_words cuts k line rest p r was cut s in
-    let e : bound_in p.1 ≡ Some r.bound = ap bound_in h.1 ∙ bound_again k r.bound s.is.bound in absurd (cc))
+    → bound_in p.1 ≡ None → NoRow line
+row_no_bound cuts k line rest p was cut none r s =
+    let h = row_words cuts k line rest p r was cut s in
+    let e : bound_in p.1 ≡ Some r.bound = ap bound_in h.1 ∙ bound_again k r.bound s.is.bound in
+    absurd (cc)
 
-pub row_exact : LastCutTells → Numbers → (line rest : List ℕ) (p : List ℕ × List ℕ) (x : State) (b : Option ℕ) → after_label (codes "row ") line ≡ Some rest → cut_last_at 32 rest ≡ Some p
-    → ((y : State) → (Some x ≡ Some y) ↔ Spells p.0 y) → bound_in p.1 ≡ Some b → RowIs line (Some (record { residual = x; bound = b }))
-row_exact cuts k line rest p x b was cut tells is r = (
-  λ e.
-      let same : record { residual = x; bound = b } ≡ r = same_Some (record { residual = x; bound = b }) r e in
-      let s = (tells x).0 refl in
-      let n = bound_read k p.1 b is in
-      subst (SpellsRow line) same (record {
-        is = record { residual = s.is; bound = n.0 };
-        written = label_read (codes "row ") line rest was ∙ ap (λ t. codes "row " ++ t) ((cuts.read 32 rest p cut).0 ∙ ap₂ (λ a c. a ++ 32 ∷ c) s.written n.1);
-      }),
-  λ s.
-      let h = row_words cuts k line rest p r was cut s in
-      let one : x ≡ r.residual = same_Some x r.residual ((tells r.residual).1 (record { is = s.is.residual; written = h.0 })) in
-      let other : b ≡ r.bound = same_Some b r.bound (sym is ∙ ap bound_in h.1 ∙ bound_again k r.bound s.is.bound) in
-      ap₂ (λ (y : State) c. Some (record { residual = y; bound = c })) one other,
-)
+pub row_spelled : LastCutTells → Numbers → (line rest : List ℕ) (p : List ℕ × List ℕ) (x : State) (b : Option ℕ) → after_label (codes "row ") line ≡ Some rest → cut_last_at 32 rest ≡ Some p
+    → Spells p.0 x → bound_in p.1 ≡ Some b → SpellsRow line (record { residual = x; bound = b })
+row_spelled cuts k line rest p x b was cut s is =
+    let n = bound_read k p.1 b is in
+    record {
+      is = record { residual = s.is; bound = n.0 };
+      written = label_read (codes "row ") line rest was ∙ ap (λ t. codes "row " ++ t) ((cuts.read 32 rest p cut).0 ∙ ap₂ (λ a c. a ++ 32 ∷ c) s.written n.1);
+    }

@@ -55,12 +55,13 @@ pub fn rows<'a>(
     let mut rows = List::new(alloc);
     let mut at = first;
     while rows.len() < count as usize {
-        // not by `?`, which takes the row and the rest by value in a form that has no proof
-        let (row, next) = match at.row(residuals) {
+        // not by `?`, which takes what was read by value in a form that has no proof
+        let (residual, bound, next) = match at.row(residuals) {
             Ok(found) => found,
             Err(fault) => return Err(fault),
         };
-        rows.push(row)?;
+        let residual = *residual;
+        rows.push(CertRow { residual, bound })?;
         at = next;
     }
     Ok((rows, at))

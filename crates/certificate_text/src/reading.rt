@@ -9,9 +9,9 @@ use crate::CertFault;
 use crate::request::request_line;
 use crate::spelled::{answer_line, number_line, row_line};
 use crate::unread::Lines;
-use certificate::{CertAnswer, CertRow};
+use certificate::CertAnswer;
 use fare_law::Request;
-use residual_keys::ResidualReader;
+use residual_keys::{Residual, ResidualReader};
 use std::alloc::Global;
 use word_text::{cut, cuts_tell};
 
@@ -183,12 +183,15 @@ impl<'a> Lines<'a> {
         Ok((number, next))
     }
 
-    /// A row, and what is left after its line.
-    pub fn row(self, residuals: &mut ResidualReader) -> Result<(CertRow, Lines<'a>), CertFault>
+    /// The residual and the bound of a row, and what is left after its line.
+    pub fn row<'r>(
+        self,
+        residuals: &'r mut ResidualReader,
+    ) -> Result<(&'r Residual, Option<u64>, Lines<'a>), CertFault>
         requires { HasRoom (unread self) }
         ensures ok { IfOk result (λ x. (more : ℕ) → Passed (Due.Row more) (unread self.entry)
-            (Spelled.row_line x.0 ∷ []) (rows_due more) (unread x.1)) }
-        ensures fits { IfOk result (λ x. IsRow x.0) }
+            (Spelled.row_line (record { residual = x.0.now; bound = x.1 }) ∷ []) (rows_due more) (unread x.2)) }
+        ensures fits { IfOk result (λ x. IsRow (record { residual = x.0.now; bound = x.1 })) }
         ensures fault { IfErr result (λ f. (more : ℕ)
             → FaultFrom (Due.Row more) (unread self.entry) f) }
     {
@@ -198,13 +201,13 @@ impl<'a> Lines<'a> {
             }
             return Err(self.syntax());
         };
-        let Some(found) = row_line(residuals, line) else {
+        let Some((residual, bound)) = row_line(residuals, line) else {
             if line == b"end".as_slice() {
                 return Err(self.count());
             }
             return Err(self.syntax());
         };
-        Ok((found, next))
+        Ok((residual, bound, next))
     }
 
     /// After the line `end`, which nothing follows.

@@ -1,13 +1,13 @@
 //! Lines of a certificate's text, read.
-ghost use Rattle.std.specs.Prelude.{◌≡◌, ◌↔◌, ℕ, Some};
+ghost use Rattle.std.specs.Prelude.{◌≡◌, ◌↔◌, ℕ, MatchOption, Some};
 ghost use Rattle.certificate.specs.declared.parts.CertAnswer.{CertAnswer as AnswerData};
 ghost use Rattle.certificate.specs.declared.parts.CertRow.{CertRow as RowData};
 ghost use Rattle.certificate_text.specs.LineReading as Reading;
 ghost use Rattle.certificate_text.specs.Lines.{SpellsAnswer, SpellsNumber, SpellsRow};
 
 use crate::words::{after, bound_of, moves_of, next_word, number_after};
-use certificate::{CertAnswer, CertRow};
-use residual_keys::ResidualReader;
+use certificate::CertAnswer;
+use residual_keys::{Residual, ResidualReader};
 use word_text::{cut_last, cuts_tell, number_of, numbers_tell};
 
 /// The number of a line of this name.
@@ -26,17 +26,21 @@ pub fn answer_line(line: &[u8]) -> Option<CertAnswer>
     answer_of(line)
 }
 
-/// The row of a line.
-pub fn row_line(residuals: &mut ResidualReader, line: &[u8]) -> Option<CertRow>
-    ensures { (r : RowData) → (result ≡ Some r) ↔ SpellsRow line.now r }
+/// The residual of a row's line, where its reader has it, and the bound.
+pub fn row_line<'r>(
+    residuals: &'r mut ResidualReader,
+    line: &[u8],
+) -> Option<(&'r Residual, Option<u64>)>
+    ensures { MatchOption result ((r : RowData) → SpellsRow line.now r → ⊥)
+        (λ x. SpellsRow line.now (record { residual = x.0.now; bound = x.1 })) }
 {
     numbers_tell();
     cuts_tell();
     let rest = after(b"row ", line)?;
     let (residual, bound) = cut_last(rest, b' ')?;
-    let residual = residuals.read(residual)?;
     let bound = bound_of(bound)?;
-    Some(CertRow { residual, bound })
+    let residual = residuals.read(residual)?;
+    Some((residual, bound))
 }
 
 #[tactic(auto, unfolding(crate::specs::LineReading::answer_in))]

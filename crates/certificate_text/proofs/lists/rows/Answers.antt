@@ -1,5 +1,6 @@
 use Rattle.std.proofs.Common.{◌<◌, [], ◌∷◌, length, ap, sym, subst, arith, refl, length-append}
 use Rattle.std.specs.Prelude.{codes}
+use Rattle.certificate.specs.declared.parts.CertRow.{CertRow}
 use Rattle.certificate_text.specs.Faults.{Row, RowCount, rows_due}
 use Rattle.certificate_text.specs.Lines.{IsRow, row_line, number_line}
 use Rattle.certificate_text.specs.Unread.{unread}
@@ -19,12 +20,13 @@ returns-in-Err-clause-fault c =
 
 pub loop-at-preserved : goal.loop-at-preserved
 loop-at-preserved c =
+    let row : CertRow = record { residual = c.in-Ok.found.0.now; bound = c.in-Ok.found.1 } in
     let few : length c.loop-at.rows < c.in_ok-count.count = omega (arith, c.len.ensures) in
     let is = c.in_ok-push.ensures.items in
     record {
-      few = omega (arith, few, ap length is, length-append c.loop-at.rows (c.in-Ok.found.0 ∷ []));
-      passed = item_passed rows_due Row row_line due_after (rows_due c.in_ok-count.count) (unread c.in_ok-count.first) (unread c.loop-at.at) (unread c.in-Ok.found.1)
-          c.in_ok-count.count c.loop-at.rows c.push.new.self c.in-Ok.found.0 is few c.loop-at.invariant.passed c.in-Ok.ensures.ok;
-      each = subst (Each IsRow) (sym is) (each_append IsRow c.loop-at.rows (c.in-Ok.found.0 ∷ []) c.loop-at.invariant.each (c.in-Ok.ensures.fits, tt));
-      room = room_all (unread c.loop-at.at) (unread c.in-Ok.found.1) (row_line c.in-Ok.found.0 ∷ []) (c.in-Ok.ensures.ok 0).taken c.loop-at.invariant.room;
+      few = omega (arith, few, ap length is, length-append c.loop-at.rows (row ∷ []));
+      passed = item_passed rows_due Row row_line due_after (rows_due c.in_ok-count.count) (unread c.in_ok-count.first) (unread c.loop-at.at) (unread c.in-Ok.found.2)
+          c.in_ok-count.count c.loop-at.rows c.push.new.self row is few c.loop-at.invariant.passed c.in-Ok.ensures.ok;
+      each = subst (Each IsRow) (sym is) (each_append IsRow c.loop-at.rows (row ∷ []) c.loop-at.invariant.each (c.in-Ok.ensures.fits, tt));
+      room = room_all (unread c.loop-at.at) (unread c.in-Ok.found.2) (row_line row ∷ []) (c.in-Ok.ensures.ok 0).taken c.loop-at.invariant.room;
     }

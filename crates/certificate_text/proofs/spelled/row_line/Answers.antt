@@ -1,6 +1,6 @@
 use Rattle.std.proofs.Common.{sym}
 use Rattle.certificate_text.proofs.LineWords.{Numbers}
-use Rattle.certificate_text.proofs.LineLemmas.{row_no_label, row_no_cut, row_no_residual, row_no_bound, row_exact}
+use Rattle.certificate_text.proofs.LineLemmas.{row_no_label, row_no_cut, row_no_residual, row_no_bound, row_spelled}
 use Rattle.certificate_text.proofs.spelled.row_line.Goals as goal
 
 pub returns-in_err-rest : goal.returns-in_err-rest
@@ -26,5 +26,5 @@ returns-in_err-bound c =
 pub returns : goal.returns
 returns c =
     let k : Numbers = record { number = c.numbers_tell.ensures.number; digits = c.numbers_tell.ensures.digits } in
-    row_exact c.cuts_tell.ensures.last k c.args.line.now c.in_ok-rest.rest.now (c.in_ok-residual.residual.now, c.in_ok-residual.bound.now) c.in_ok-residual-2.residual c.in_ok-bound.bound
+    row_spelled c.cuts_tell.ensures.last k c.args.line.now c.in_ok-rest.rest.now (c.in_ok-residual.residual.now, c.in_ok-residual.bound.now) c.in_ok-residual-2.residual.now c.in_ok-bound.bound
     c.in_ok-rest.ensures c.in_ok-residual.ensures c.in_ok-residual-2.ensures (sym c.in_ok-bound.ensures)

@@ -3,20 +3,19 @@ use Rattle.std.proofs.lemmas.Bool.{true≢false}
 use Rattle.std.specs.Prelude.{codes}
 use Rattle.certificate_text.specs.declared.faults.CertFault.TheVariants.{Syntax}
 use Rattle.certificate_text.specs.Faults.{End, Nothing, Passed}
-use Rattle.certificate_text.specs.Lines.{SpellsRow}
 use Rattle.certificate_text.specs.Unread.{IsOver, place, unread}
-use Rattle.certificate_text.proofs.FaultLemmas.{passed_one, syntax_here, count_here, fault_more, is_spelled, not_spelled, nothing_follows}
+use Rattle.certificate_text.proofs.FaultLemmas.{passed_one, syntax_here, count_here, fault_more, is_matched, not_matched, nothing_follows}
 use Rattle.certificate_text.proofs.unread.Lines.end.Goals as goal
 
 pub returns-then-is_some-clause-fault : goal.returns-then-is_some-clause-fault
 returns-then-is_some-clause-fault c =
-    let m = is_spelled (SpellsRow c.in-Some.line.now) c.row_line.result c.row_line.ensures (sym c.is_some.ensures ∙ c.if-is_some.true) in
-    rw c.count.ensures (count_here End (unread c.args.self) (unread c.in-Some.next) c.in-Some.line.now c.in-Some.ensures m)
+    let m = is_matched _ _ c.row_line.result c.row_line.ensures (sym c.is_some.ensures ∙ c.if-is_some.true) in
+    rw c.count.ensures (count_here End (unread c.args.self) (unread c.in-Some.next) c.in-Some.line.now c.in-Some.ensures (record { residual = m.0.0.now; bound = m.0.1 }, m.1))
 
 pub returns-then-ne-clause-fault : goal.returns-then-ne-clause-fault
 returns-then-ne-clause-fault c =
     let other : c.in-Some.line.now ≡ codes "end" → ⊥ = search rules in
-    rw c.syntax-then-ne.ensures (syntax_here End (unread c.args.self) (unread c.in-Some.next) c.in-Some.line.now c.in-Some.ensures (λ next h. other h.0) (λ h. not_spelled (SpellsRow c.in-Some.line.now) c.row_line.result c.row_line.ensures (sym c.is_some.ensures ∙ c.if-is_some.false) h.0 h.1))
+    rw c.syntax-then-ne.ensures (syntax_here End (unread c.args.self) (unread c.in-Some.next) c.in-Some.line.now c.in-Some.ensures (λ next h. other h.0) (λ h. not_matched _ _ c.row_line.result c.row_line.ensures (sym c.is_some.ensures ∙ c.if-is_some.false) h.0 h.1))
 
 pub returns-then-not-is_over-clause-fault : goal.returns-then-not-is_over-clause-fault
 returns-then-not-is_over-clause-fault c =
