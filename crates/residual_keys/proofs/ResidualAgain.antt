@@ -12,7 +12,9 @@ use Rattle.residual_keys.specs.Kept.{PartKept}
 use Rattle.residual_keys.specs.ResidualReading.{position_in, unit_in, units_in, part_in, parts_in}
 use Rattle.residual_keys.specs.ResidualText.{AreCarriers, IsNamed, IsPosition, IsWritten, via_word, day_word, carriers_word, rules_word, unit_words, unit_text, units_text, part_text, residual_text}
 use Rattle.residual_keys.specs.Residuals.{State}
-use Rattle.residual_keys.proofs.WordFacts.{Words, space, slash, colon, angle, free_decimal, free_place, free_via, free_signed, free_day, free_carriers, free_unit, free_units, first_within}
+use Rattle.residual_keys.proofs.WordFacts.{Words, space, slash, colon, angle, free_decimal, free_place, free_via, free_signed, free_day, free_carriers, free_unit, free_joined, first_within}
+use Rattle.word_text.specs.Laws.{LastCutTells}
+use Rattle.word_text.specs.Words.{IsFreeOf}
 use Rattle.residual_keys.proofs.WordsAgain.{longer, place_again, via_again, day_again, set_day_again, carriers_again, rules_again}
 
 pub position_again : Words → (a : Position) (rest : List ℕ) → IsPosition a
@@ -117,12 +119,18 @@ part_again k t h n =
 abbrev pub parts_of : State → Parts
 parts_of x = record { at = x.at; first = slice_get x.units 0; second = slice_get x.units 1; part = x.part }
 
-pub parts_again : Words → (x : State) → IsWritten x → parts_in (residual_text x) ≡ Some (parts_of x)
+-- a ticket part's text has no space
+free_part : Words → (t : TicketPart) → PartKept t → AreCarriers t.carrier → IsFreeOf 32 (part_text t)
+free_part k t h n =
+    free_joined 32 58 (λ e. omega (arith, e)) (decimal t.units ∷ decimal t.ends ∷ carriers_word t.carrier ∷ [])
+    (free_decimal k 32 space t.units (omega (arith, h.units)), (free_decimal k 32 space t.ends (omega (arith, h.ends)), (free_carriers 32 space t.carrier n, tt)))
+
+pub parts_again : Words → LastCutTells → (x : State) → IsWritten x → parts_in (residual_text x) ≡ Some (parts_of x)
 unfolding parts_in
-parts_again k x h =
+parts_again k last x h =
     rw (
       position_again k x.at (units_text x.units ++ 32 ∷ part_text x.part) h.at,
-      k.cut.again 32 (units_text x.units) (part_text x.part) (free_units k x.units h.kept.units h.units),
+      last.again 32 (units_text x.units) (part_text x.part) (free_part k x.part h.kept.part h.carrier),
       units_again k x.units h.kept.few h.kept.units h.units,
       part_again k x.part h.kept.part h.carrier,
     ) refl

@@ -20,7 +20,8 @@ use Rattle.residual_keys.specs.Residuals.{State}
 use Rattle.residual_keys.proofs.WordFacts.{Words}
 use Rattle.residual_keys.proofs.WordsAgain.{marked, mapped, place_read, via_read, day_read, set_day_read, carriers_read, rules_read}
 use Rattle.residual_keys.proofs.ResidualAgain.{parts_of, parts_again}
-use Rattle.word_text.specs.Words.{IsFreeOf, cut_at, number_in}
+use Rattle.word_text.specs.Laws.{LastCutTells}
+use Rattle.word_text.specs.Words.{IsFreeOf, cut_at, cut_last_at, number_in}
 
 -- one step of a reading that came to its end
 record Step {A B : Type 0} (o : Option A) (f : A → Option B) (b : B) : Type 0 where
@@ -247,17 +248,17 @@ record SpellParts (text : List ℕ) (p : Parts) : Type 0 where
   carrier : AreCarriers p.part.carrier
   written : text ≡ residual_text (made p)
 
-parts_read : Words → (text : List ℕ) (p : Parts) → parts_in text ≡ Some p → SpellParts text p
+parts_read : Words → LastCutTells → (text : List ℕ) (p : Parts) → parts_in text ≡ Some p → SpellParts text p
 unfolding parts_in
-parts_read k text p e =
+parts_read k last text p e =
     let at = step (position_in text) _ p e in
-    let rest = step (cut_at 32 at.value.1) _ p at.next in
+    let rest = step (cut_last_at 32 at.value.1) _ p at.next in
     let units = step (units_in rest.value.0) _ p rest.next in
     let part = step (part_in rest.value.1) _ p units.next in
     let it : Parts = record { at = at.value.0; first = units.value.0; second = units.value.1; part = part.value } in
     let same : it ≡ p = same_Some it p part.next in
     let n1 = position_read k text at.value at.was in
-    let cut = (k.cut.read 32 at.value.1 rest.value rest.was).0 in
+    let cut = (last.read 32 at.value.1 rest.value rest.was).0 in
     let n2 = units_read k rest.value.0 units.value units.was in
     let n3 = part_read k rest.value.1 part.value part.was in
     let tail : at.value.1 ≡ units_text (open_units units.value.0 units.value.1) ++ 32 ∷ part_text part.value = cut ∙ ap (λ t. t ++ 32 ∷ rest.value.1) n2.1 ∙ ap (λ t. units_text (open_units units.value.0 units.value.1) ++ 32 ∷ t) n3.1 in
@@ -278,9 +279,9 @@ named_are None second turn n = tt
 named_are (Some u) None turn n = (n.0, tt)
 named_are (Some u) (Some v) turn n = (n.0, (n.1, tt))
 
-spells : Words → (text : List ℕ) (p : Parts) → parts_in text ≡ Some p → AreKept p.first p.second p.part → Spells text (made p)
-spells k text p e h =
-    let r = parts_read k text p e in
+spells : Words → LastCutTells → (text : List ℕ) (p : Parts) → parts_in text ≡ Some p → AreKept p.first p.second p.part → Spells text (made p)
+spells k last text p e h =
+    let r = parts_read k last text p e in
     record { is = record { kept = kept_is p h; at = r.at; units = named_are p.first p.second h.turn r.units; carrier = r.carrier }; written = r.written }
 
 -- the parts of a residual make it again, and are kept
@@ -294,15 +295,15 @@ made_again x h = go x.units h.few h.units
     go (u ∷ v ∷ []) few each = (refl, record { turn = λ e. absurd (cc); first = each.0; second = each.1.0; part = h.part })
     go (u ∷ v ∷ w ∷ us) few each = absurd (omega (arith, few))
 
-no_text : Words → (text : List ℕ) → parts_in text ≡ None → (x : State) → Spells text x → ⊥
-no_text k text none x s =
-    let again : parts_in text ≡ Some (parts_of x) = ap parts_in s.written ∙ parts_again k x s.is in
+no_text : Words → LastCutTells → (text : List ℕ) → parts_in text ≡ None → (x : State) → Spells text x → ⊥
+no_text k last text none x s =
+    let again : parts_in text ≡ Some (parts_of x) = ap parts_in s.written ∙ parts_again k last x s.is in
     absurd (cc)
 
 -- a text of parts spells a residual exactly where they make one, and that one
-parts_told : Words → (text : List ℕ) (p : Parts) → parts_in text ≡ Some p → (x : State) → Spells text x → AreKept p.first p.second p.part × (made p ≡ x)
-parts_told k text p was x s =
-    let again : parts_in text ≡ Some (parts_of x) = ap parts_in s.written ∙ parts_again k x s.is in
+parts_told : Words → LastCutTells → (text : List ℕ) (p : Parts) → parts_in text ≡ Some p → (x : State) → Spells text x → AreKept p.first p.second p.part × (made p ≡ x)
+parts_told k last text p was x s =
+    let again : parts_in text ≡ Some (parts_of x) = ap parts_in s.written ∙ parts_again k last x s.is in
     let same : parts_of x ≡ p = same_Some (parts_of x) p (sym again ∙ was) in
     let whole = made_again x s.is.kept in
     (subst (λ (q : Parts). AreKept q.first q.second q.part) same whole.1, sym (ap made same) ∙ whole.0)
@@ -311,28 +312,28 @@ parts_told k text p was x s =
 abbrev pub AreRead : Bool → List ℕ → Parts → Type 0
 AreRead b text p = MatchBool b (parts_in text ≡ Some p) (parts_in text ≡ None)
 
-pub read_none : Words → (text : List ℕ) (b : Bool) (p : Parts) → AreRead b text p → b ≡ false → (x : State) → Spells text x → ⊥
-read_none k text true p read b x s = absurd (cc)
-read_none k text false p read b x s = no_text k text read x s
+pub read_none : Words → LastCutTells → (text : List ℕ) (b : Bool) (p : Parts) → AreRead b text p → b ≡ false → (x : State) → Spells text x → ⊥
+read_none k last text true p read b x s = absurd (cc)
+read_none k last text false p read b x s = no_text k last text read x s
 
-pub read_out : Words → (text : List ℕ) (b : Bool) (p : Parts) → AreRead b text p → b ≡ true → (AreKept p.first p.second p.part → ⊥) → (x : State) → Spells text x → ⊥
-read_out k text true p read b out x s = out (parts_told k text p read x s).0
-read_out k text false p read b out x s = absurd (cc)
+pub read_out : Words → LastCutTells → (text : List ℕ) (b : Bool) (p : Parts) → AreRead b text p → b ≡ true → (AreKept p.first p.second p.part → ⊥) → (x : State) → Spells text x → ⊥
+read_out k last text true p read b out x s = out (parts_told k last text p read x s).0
+read_out k last text false p read b out x s = absurd (cc)
 
-pub read_kept : Words → (text : List ℕ) (b : Bool) (p : Parts) → AreRead b text p → b ≡ true → AreKept p.first p.second p.part → Spells text (made p)
-read_kept k text true p read b kept = spells k text p read kept
-read_kept k text false p read b kept = absurd (cc)
+pub read_kept : Words → LastCutTells → (text : List ℕ) (b : Bool) (p : Parts) → AreRead b text p → b ≡ true → AreKept p.first p.second p.part → Spells text (made p)
+read_kept k last text true p read b kept = spells k last text p read kept
+read_kept k last text false p read b kept = absurd (cc)
 
-pub read_exact : Words → (text : List ℕ) (b : Bool) (p : Parts) (o : Option State) → AreRead b text p → b ≡ true → (IsSome o ↔ AreKept p.first p.second p.part) → IfSome o (λ r. r ≡ made p)
+pub read_exact : Words → LastCutTells → (text : List ℕ) (b : Bool) (p : Parts) (o : Option State) → AreRead b text p → b ≡ true → (IsSome o ↔ AreKept p.first p.second p.part) → IfSome o (λ r. r ≡ made p)
     → (x : State) → (o ≡ Some x) ↔ Spells text x
-read_exact k text false p o read b decides is x = absurd (cc)
-read_exact k text true p o read b decides is x = (forward o decides is, λ s. back o decides is s)
+read_exact k last text false p o read b decides is x = absurd (cc)
+read_exact k last text true p o read b decides is x = (forward o decides is, λ s. back o decides is s)
   where
     forward : (o : Option State) → (IsSome o ↔ AreKept p.first p.second p.part) → IfSome o (λ r. r ≡ made p) → o ≡ Some x → Spells text x
     forward None decides is e = absurd (cc)
     forward (Some r) decides is e =
         let same : made p ≡ x = sym is ∙ same_Some r x e in
-        subst (Spells text) same (spells k text p read (decides.0 refl))
+        subst (Spells text) same (spells k last text p read (decides.0 refl))
 
     found : (o : Option State) → IfSome o (λ r. r ≡ made p) → IsSome o → made p ≡ x → o ≡ Some x
     found None is some e = absurd (cc)
@@ -340,11 +341,11 @@ read_exact k text true p o read b decides is x = (forward o decides is, λ s. ba
 
     back : (o : Option State) → (IsSome o ↔ AreKept p.first p.second p.part) → IfSome o (λ r. r ≡ made p) → Spells text x → o ≡ Some x
     back o decides is s =
-        let told = parts_told k text p read x s in
+        let told = parts_told k last text p read x s in
         found o is (decides.1 told.0) told.1
 
 -- texts of two residuals differ
-pub one_text : Words → (x y : State) → IsWritten x → IsWritten y → residual_text x ≡ residual_text y → x ≡ y
-one_text k x y h g e =
-    let same : parts_of x ≡ parts_of y = same_Some (parts_of x) (parts_of y) (sym (parts_again k x h) ∙ ap parts_in e ∙ parts_again k y g) in
+pub one_text : Words → LastCutTells → (x y : State) → IsWritten x → IsWritten y → residual_text x ≡ residual_text y → x ≡ y
+one_text k last x y h g e =
+    let same : parts_of x ≡ parts_of y = same_Some (parts_of x) (parts_of y) (sym (parts_again k last x h) ∙ ap parts_in e ∙ parts_again k last y g) in
     sym (made_again x h.kept).0 ∙ ap made same ∙ (made_again y g.kept).0

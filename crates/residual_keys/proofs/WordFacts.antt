@@ -1,5 +1,5 @@
 -- What is known of words, as the law functions of their crate give it, and the bytes of a residual's words. Given on to the crates above.
-use Rattle.std.proofs.Common.{◌≢◌, ◌<◌, ◌^◌, ℕ, ℤ, pos, negsuc, ◌≤ℤ◌, List, [], ◌∷◌, ◌++◌, map, Option, Some, None, arith, inl, inr}
+use Rattle.std.proofs.Common.{◌≢◌, ◌<◌, ◌^◌, ℕ, ℤ, pos, negsuc, ◌≤ℤ◌, List, [], ◌∷◌, ◌++◌, Option, Some, None, arith, inl, inr}
 use Rattle.std.proofs.lemmas.Int.{ints}
 use Rattle.std.specs.Fmt.{decimal, signed_decimal}
 use Rattle.std.specs.Int.{IsInRange}
@@ -17,7 +17,7 @@ use Rattle.open_unit.specs.declared.marks.RuleMark.TheVariants.{One as OneRule, 
 use Rattle.open_unit.specs.declared.units.OpenUnit.{OpenUnit}
 use Rattle.open_unit.specs.Ranges.{UnitInRanges}
 use Rattle.rule_unit.specs.Ranges.{IsDayWithin, IsStoredDay}
-use Rattle.residual_keys.specs.ResidualText.{AreCarriers, AreRules, IsNamed, via_word, day_word, carriers_word, rules_word, unit_words, unit_text, units_text}
+use Rattle.residual_keys.specs.ResidualText.{AreCarriers, AreRules, IsNamed, via_word, day_word, carriers_word, rules_word, unit_words, unit_text}
 use Rattle.word_text.specs.Laws.{CutTells, NumberTells, DigitsAre}
 use Rattle.word_text.specs.Words.{IsFreeOf}
 
@@ -128,11 +128,3 @@ free_unit k c s one other u h n =
     ) in
     free_joined c 62 one (u.origin.0 ∷ join_with_byte 58 (unit_words u) ∷ [])
     (free_place c s u.origin n.origin, (free_joined c 58 other (unit_words u) words, tt))
-
-pub free_units : Words → (us : List OpenUnit) → Each UnitInRanges us → Each IsNamed us → IsFreeOf 32 (units_text us)
-free_units k [] h n = (space.dash, tt)
-free_units k (u ∷ us) h n = free_joined 32 47 (λ e. omega (arith, e)) (map unit_text (u ∷ us)) (each (u ∷ us) h n)
-  where
-    each : (vs : List OpenUnit) → Each UnitInRanges vs → Each IsNamed vs → Each (IsFreeOf 32) (map unit_text vs)
-    each [] h n = tt
-    each (v ∷ vs) h n = (free_unit k 32 space (λ e. omega (arith, e)) (λ e. omega (arith, e)) v h.0 n.0, each vs h.1 n.1)

@@ -10,7 +10,7 @@ use Rattle.open_unit.specs.declared.marks.RuleMark.TheVariants.{One as OneRule, 
 use Rattle.open_unit.specs.declared.units.OpenUnit.{OpenUnit}
 use Rattle.residual_keys.specs.declared.parts.TicketPart.{TicketPart}
 use Rattle.residual_keys.specs.declared.reading.Parts.{Parts}
-use Rattle.word_text.specs.Words.{cut_at, number_in}
+use Rattle.word_text.specs.Words.{cut_at, cut_last_at, number_in}
 
 -- one thing after another, as long as each is there
 infixl 10 ◌>>=◌
@@ -108,11 +108,11 @@ part_in text = do
   carrier ← carriers_in b.1
   Some (record { units = units; ends = ends; carrier = carrier })
 
--- the parts of a residual, whether they make one or not
+-- the parts of a residual, whether they make one or not: the ticket part is what follows the last space
 unfoldable pub parts_in : List ℕ → Option Parts
 parts_in text = do
   at ← position_in text
-  rest ← cut_at 32 at.1
+  rest ← cut_last_at 32 at.1
   units ← units_in rest.0
   part ← part_in rest.1
   Some (record { at = at.0; first = units.0; second = units.1; part = part })

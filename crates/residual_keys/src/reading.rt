@@ -11,7 +11,7 @@ use fare_law::Place;
 use flight_paths::Position;
 use name_text::place_of;
 use open_unit::{CarrierMark, OpenUnit};
-use word_text::{cut, cuts_tell, numbers_tell};
+use word_text::{cut, cut_last, cuts_tell, numbers_tell};
 
 /// The parts of a residual, before it is known whether they make one.
 #[derive(Clone, Copy, Debug)]
@@ -106,7 +106,7 @@ pub fn parts_of<R: PartReader>(reader: &mut R, text: &[u8], parts: &mut Parts) -
     let Some(rest) = reader.position_of(text, &mut parts.at) else {
         return false;
     };
-    let Some((units, part)) = cut(rest, b' ') else {
+    let Some((units, part)) = cut_last(rest, b' ') else {
         return false;
     };
     if !units_of(reader, units, &mut parts.first, &mut parts.second) {
