@@ -1,8 +1,8 @@
 -- What steps that were asked keep: book and request, and what the keys of a table stand for.
-use Rattle.std.proofs.Common.{◌≡◌, ◌∙◌, ◌<◌, refl, sym, ap, subst, List, length, map, get_or, slice_get, Option, Some, ℕ}
+use Rattle.std.proofs.Common.{◌≡◌, ◌∙◌, ◌<◌, refl, subst, List, length, get_or, Option, ℕ}
 use Rattle.certificate.specs.declared.parts.CertRow.{CertRow}
 use Rattle.certificate_check.specs.Tables.{HasRows, IsLater}
-use Rattle.certificate_check.proofs.RowTables.{key_at}
+use Rattle.certificate_check.proofs.RowTables.{entry_at}
 use Rattle.fare_law.specs.declared.requests.Request.{Request}
 use Rattle.fare_law.specs.Book.{Book}
 use Rattle.graph_walk.specs.Steps.{KeepsStates}
@@ -28,12 +28,12 @@ has_still s t keeps es rows h = record {
   same = same_rows (live s) (live t) (state s) (state t) keeps es h.live ∙ h.same;
 }
 
--- and the key at a row's place for the row's residual
-pub keyed_still : {O : Type 0} (s t : SearchSteps O) → KeepsStates (live s) (live t) (state s) (state t) → (es : List (ResidualKey × Option ℕ)) (rows : List CertRow) → HasRows s es rows → (keys : List ResidualKey) (i : ℕ) (key : ResidualKey) (d : CertRow) → keys ≡ map (λ e. e.0) es
-    → i < length rows → slice_get keys i ≡ Some key → live t key × (state t key ≡ (get_or rows i d).residual)
-keyed_still s t keeps es rows h keys i key d all lt at =
+-- and the entry at a row's place has a key of the row's residual
+pub entry_still : {O : Type 0} (s t : SearchSteps O) → KeepsStates (live s) (live t) (state s) (state t) → (es : List (ResidualKey × Option ℕ)) (rows : List CertRow) → HasRows s es rows → (i : ℕ) (e : ResidualKey × Option ℕ) (d : CertRow)
+    → i < length rows → live t (get_or es i e).0 × (state t (get_or es i e).0 ≡ (get_or rows i d).residual)
+entry_still s t keeps es rows h i e d lt =
     let has = has_still s t keeps es rows h in
-    key_at (live t) (state t) es rows i key d has.live has.same lt (sym (ap (λ ks. slice_get ks i) all) ∙ at)
+    entry_at (live t) (state t) es rows i e d has.live has.same lt
 
 -- what is said of one book and request, of the same
 pub same_said : (P : Book → Request → Type 0) (b c : Book) (q r : Request) → c ≡ b → r ≡ q → P c r → P b q

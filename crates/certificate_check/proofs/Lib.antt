@@ -16,4 +16,5 @@ pub mod Onwards
 pub mod Begins
 pub mod AllowedRows
 pub mod NextRow
+pub mod Looked
 pub mod Judged

@@ -1,6 +1,7 @@
 -- The rows of a certificate by keys: what is found by a key is the row of the residual that it stands for.
-use Rattle.std.proofs.Common.{◌≡◌, ◌≢◌, ◌∙◌, ℕ, zero, suc, ◌<◌, Bool, true, false, cond, List, [], ◌∷◌, ◌++◌, length, map, get_or, slice_get, Option, Some, None, sym, refl, ap, ap₂, subst, inl, inr, arith}
-use Rattle.std.specs.Map.{lookup}
+use Rattle.std.proofs.Common.{◌≡◌, ◌≢◌, ◌∙◌, ℕ, zero, suc, ◌<◌, Bool, true, false, cond, List, [], ◌∷◌, ◌++◌, length, map, get_or, Option, Some, None, sym, refl, ap, ap₂, subst, inl, inr, arith}
+use Rattle.std.specs.List.{AllByRecursion, IsDistinct}
+use Rattle.std.specs.Map.{keys_of, lookup}
 use Rattle.certificate.specs.declared.parts.CertRow.{CertRow}
 use Rattle.certificate_check.specs.Tables.{row_as}
 use Rattle.fare_law.specs.Lists.{AllDifferent, Each, IsIn}
@@ -55,19 +56,7 @@ module _ (live : ResidualKey → Type 0) (state : ResidualKey → State) (same :
           cc
       by false t f (inr j) more = more f j
 
-  -- a row's key is not among those of rows with other residuals
-  pub is_new : (es : List Entry) (rows : List CertRow) (key : ResidualKey) → AreLive live es → rows_of state es ≡ map row_as rows → live key → Each (λ row. row.residual ≢ state key) rows → lookup (same key) es ≡ None
-  is_new [] rows key h r l d = refl
-  is_new (e ∷ es) [] key h r l d = absurd (cc)
-  is_new (e ∷ es) (z ∷ rows) key h r l d = by (same key e.0) refl (is_new es rows key h.1 (let tail : rows_of state es ≡ map row_as rows = cc in tail) l d.1)
-    where
-      head : (state e.0, e.1) ≡ row_as z
-      head = cc
-
-      by : (t : Bool) → same key e.0 ≡ t → lookup (same key) es ≡ None → cond t (Some e.1) (lookup (same key) es) ≡ None
-      by true t more = absurd (d.0 ((row_again z (state e.0) e.1 head).0 ∙ sym ((tells key e.0 l h.0).0 t)))
-      by false t more = more
-
+module _ (live : ResidualKey → Type 0) (state : ResidualKey → State) where
   -- one more row
   pub live_push : (es : List Entry) (e : Entry) → AreLive live es → live e.0 → AreLive live (es ++ e ∷ [])
   live_push [] e h l = (l, tt)
@@ -82,6 +71,16 @@ module _ (live : ResidualKey → Type 0) (state : ResidualKey → State) (same :
       let tail : rows_of state es ≡ map row_as rows = cc in
       ap₂ (λ x xs. x ∷ xs) head (rows_push es e rows row tail s)
 
+  -- the entry at a row's place has a key that stands for the row's residual
+  pub entry_at : (es : List Entry) (rows : List CertRow) (i : ℕ) (e : Entry) (d : CertRow) → AreLive live es → rows_of state es ≡ map row_as rows → i < length rows → live (get_or es i e).0 × (state (get_or es i e).0 ≡ (get_or rows i d).residual)
+  entry_at [] [] i e d h r lt = absurd (omega (arith, lt))
+  entry_at [] (z ∷ rows) i e d h r lt = absurd (cc)
+  entry_at (f ∷ es) [] i e d h r lt = absurd (omega (arith, lt))
+  entry_at (f ∷ es) (z ∷ rows) zero e d h r lt =
+      let head : (state f.0, f.1) ≡ row_as z = cc in
+      (h.0, sym (row_again z (state f.0) f.1 head).0)
+  entry_at (f ∷ es) (z ∷ rows) (suc i) e d h r lt = entry_at es rows i e d h.1 (let tail : rows_of state es ≡ map row_as rows = cc in tail) (omega (arith, lt))
+
 -- of rows whose residuals differ each residual is that of one
 pub each_not : (x : State) (rows : List CertRow) (row : CertRow) → Each (λ y. x ≢ y) (residuals rows) → IsIn row rows → x ≡ row.residual → ⊥
 each_not x [] row h i e = i
@@ -95,20 +94,32 @@ one_row (z ∷ rows) d r s (inl i) (inr j) e = absurd (each_not z.residual rows 
 one_row (z ∷ rows) d r s (inr i) (inl j) e = absurd (each_not z.residual rows r d.0 i (sym (ap (λ w. w.residual) j) ∙ sym e))
 one_row (z ∷ rows) d r s (inr i) (inr j) e = one_row rows d.1 r s i j e
 
--- the keys are as many as the rows
-pub as_many : (state : ResidualKey → State) (es : List Entry) (rows : List CertRow) → rows_of state es ≡ map row_as rows → length (map (λ e. e.0) es) ≡ length rows
+-- the entries are as many as the rows
+pub as_many : (state : ResidualKey → State) (es : List Entry) (rows : List CertRow) → rows_of state es ≡ map row_as rows → length es ≡ length rows
 as_many state [] [] r = refl
 as_many state [] (z ∷ rows) r = absurd (cc)
 as_many state (e ∷ es) [] r = absurd (cc)
 as_many state (e ∷ es) (z ∷ rows) r = ap suc (as_many state es rows (let tail : rows_of state es ≡ map row_as rows = cc in tail))
 
--- the key at a row's place stands for the row's residual
-pub key_at : (live : ResidualKey → Type 0) (state : ResidualKey → State) (es : List Entry) (rows : List CertRow) (i : ℕ) (key : ResidualKey) (d : CertRow) → AreLive live es → rows_of state es ≡ map row_as rows → i < length rows
-    → slice_get (map (λ e. e.0) es) i ≡ Some key → live key × (state key ≡ (get_or rows i d).residual)
-key_at live state [] rows i key d h r lt k = absurd (cc)
-key_at live state (e ∷ es) [] i key d h r lt k = absurd (omega (arith, lt))
-key_at live state (e ∷ es) (z ∷ rows) zero key d h r lt k =
-    let same : e.0 ≡ key = cc in
-    let head : (state e.0, e.1) ≡ row_as z = cc in
-    (subst live same h.0, ap state (sym same) ∙ sym (row_again z (state e.0) e.1 head).0)
-key_at live state (e ∷ es) (z ∷ rows) (suc i) key d h r lt k = key_at live state es rows i key d h.1 (let tail : rows_of state es ≡ map row_as rows = cc in tail) (omega (arith, lt)) k
+module _ (live : ResidualKey → Type 0) (state : ResidualKey → State) (same : ResidualKey → ResidualKey → Bool) (tells : TellsStates live state same) where
+  apart : (key : ResidualKey) → live key → (es : List Entry) (rows : List CertRow) → AreLive live es → rows_of state es ≡ map row_as rows → Each (λ y. state key ≢ y) (residuals rows) → AllByRecursion (λ k. same key k ≡ false) (keys_of es)
+  apart key l [] rows h r d = tt
+  apart key l (e ∷ es) [] h r d = absurd (cc)
+  apart key l (e ∷ es) (z ∷ rows) h r d = (by (same key e.0) refl, apart key l es rows h.1 (let tail : rows_of state es ≡ map row_as rows = cc in tail) d.1)
+    where
+      head : (state e.0, e.1) ≡ row_as z
+      head = cc
+
+      by : (t : Bool) → same key e.0 ≡ t → same key e.0 ≡ false
+      by true s = absurd (d.0 ((tells key e.0 l h.0).0 s ∙ sym (row_again z (state e.0) e.1 head).0))
+      by false s = s
+
+  -- keys of rows whose residuals differ
+  pub keys_differ : (es : List Entry) (rows : List CertRow) → AreLive live es → rows_of state es ≡ map row_as rows → AllDifferent (residuals rows) → IsDistinct same (keys_of es)
+  unfolding IsDistinct
+  keys_differ [] rows h r d = tt
+  keys_differ (e ∷ es) [] h r d = absurd (cc)
+  keys_differ (e ∷ es) (z ∷ rows) h r d =
+      let head : (state e.0, e.1) ≡ row_as z = cc in
+      let tail : rows_of state es ≡ map row_as rows = cc in
+      (apart e.0 h.0 es rows h.1 tail (subst (λ x. Each (λ y. x ≢ y) (residuals rows)) (row_again z (state e.0) e.1 head).0 d.0), keys_differ es rows h.1 tail d.1)

@@ -1,5 +1,5 @@
 -- The rows of a certificate by the keys of steps, and steps that were asked.
-use Rattle.std.specs.Prelude.{◌≡◌, ℕ, List, map, Option}
+use Rattle.std.specs.Prelude.{◌≡◌, ℕ, Bool, true, List, map, Option, Some, slice_get}
 use Rattle.certificate.specs.declared.parts.CertRow.{CertRow}
 use Rattle.graph_walk.specs.Steps.{AreLive, KeepsStates, rows_of}
 use Rattle.residual_keys.specs.Residuals.{State}
@@ -7,6 +7,14 @@ use Rattle.residual_table.specs.declared.key.ResidualKey.{ResidualKey}
 use Rattle.search_steps.specs.declared.steps.SearchSteps.{SearchSteps}
 use Rattle.search_steps.specs.Cases.{IsSameCase}
 use Rattle.search_steps.specs.Keys.{live, state}
+
+-- An entry whose key is this one, by its test, has this bound.
+pub record IsPlaced (test : ResidualKey → ResidualKey → Bool) (key : ResidualKey) (entries : List (ResidualKey × Option ℕ)) (found : Option ℕ) : Type 0 where
+  pub place : ℕ
+  pub entry : ResidualKey × Option ℕ
+  pub there : slice_get entries place ≡ Some entry
+  pub same : test key entry.0 ≡ true
+  pub bound : entry.1 ≡ found
 
 abbrev pub row_as : CertRow → State × Option ℕ
 row_as row = (row.residual, row.bound)

@@ -6,7 +6,6 @@ ghost use Rattle.certificate_check.specs.Tables.{HasRows, IsLater};
 ghost use Rattle.fare_law.specs.Limits.{IsRequest};
 ghost use Rattle.fare_law.specs.Lists.{AllDifferent, Each};
 ghost use Rattle.graph_walk.specs.Steps.{LeadToLive, outcomes_of};
-ghost use Rattle.indexmap.specs.IndexMap.{get};
 ghost use Rattle.search_steps.specs.Keys.{live, state};
 
 use crate::table::Table;
@@ -27,14 +26,14 @@ pub fn bounds_fail(
     requires request { IsRequest steps.old.case.request.now }
     requires differ { AllDifferent (map (λ row. row.residual) table.now.rows.now) }
     requires few { length table.now.rows.now < 2 ^ 32 }
-    requires table { HasRows steps.old table.now.bounds.entries table.now.rows.now }
+    requires table { HasRows steps.old table.now.bounds.entries.items table.now.rows.now }
     ensures fails { IfOk result (λ place. MatchOption place (BoundsHold steps.old.case.book.now steps.old.case.request.now table.now.rows.now)
         (BoundsFail steps.old.case.book.now steps.old.case.request.now table.now.rows.now)) }
     ensures later { IsLater steps.old steps.new }
 {
-    let keys = table.bounds.keys();
+    let entries = table.bounds.entries.as_slice();
     for i in 0..table.rows.len() {
-        if !is_right(alloc, steps, table, &table.rows[i], keys[i])? {
+        if !is_right(alloc, steps, table, &table.rows[i], entries[i].0)? {
             return Ok(Some(i as u32 + 1));
         }
     }
@@ -51,7 +50,7 @@ fn is_right(
 ) -> Result<bool, Mem>
     requires request { IsRequest steps.old.case.request.now }
     requires differ { AllDifferent (map (λ row. row.residual) table.now.rows.now) }
-    requires table { HasRows steps.old table.now.bounds.entries table.now.rows.now }
+    requires table { HasRows steps.old table.now.bounds.entries.items table.now.rows.now }
     requires live { live steps.old key }
     requires state { state steps.old key ≡ row.now.residual }
     ensures right { IfOk result (λ right. IsTrue right ↔ IsAllowed steps.old.case.book.now steps.old.case.request.now table.now.rows.now row.now) }
@@ -69,7 +68,7 @@ fn all_allow(
     outcomes: &[Outcome<ResidualKey>],
 ) -> bool
     requires differ { AllDifferent (map (λ row. row.residual) table.now.rows.now) }
-    requires table { HasRows steps.now table.now.bounds.entries table.now.rows.now }
+    requires table { HasRows steps.now table.now.bounds.entries.items table.now.rows.now }
     requires live { LeadToLive (live steps.now) outcomes.now }
     ensures { IsTrue result ↔ Each (λ o. Allows table.now.rows.now row.now o.next o.price) (outcomes_of (state steps.now) outcomes.now) }
 {
@@ -89,7 +88,7 @@ fn allows(
     outcome: &Outcome<ResidualKey>,
 ) -> bool
     requires differ { AllDifferent (map (λ row. row.residual) table.now.rows.now) }
-    requires table { HasRows steps.now table.now.bounds.entries table.now.rows.now }
+    requires table { HasRows steps.now table.now.bounds.entries.items table.now.rows.now }
     requires live { IfSome outcome.now.next (live steps.now) }
     ensures { IsTrue result ↔ Allows table.now.rows.now row.now (option_map (state steps.now) outcome.now.next) outcome.now.price }
 {
@@ -97,7 +96,7 @@ fn allows(
     let Some(key) = outcome.next else {
         return is_within(row, u128::from(outcome.price));
     };
-    match bound_of(table, key) {
+    match table.bounds.get(key) {
         Some(Some(further)) => is_within(row, total_of(outcome.price, further)),
         Some(None) => true,
         None => false,
@@ -109,13 +108,6 @@ fn total_of(price: u64, further: u64) -> u128
     ensures { result ≡ price + further }
 {
     u128::from(price) + u128::from(further)
-}
-
-/// The bound of the row whose key this is, where there is one.
-fn bound_of(table: &Table, key: ResidualKey) -> Option<Option<u64>>
-    ensures { result ≡ get ⟦<ResidualKey as PartialEq>⟧.eq table.now.bounds key }
-{
-    table.bounds.get(&key).copied()
 }
 
 /// Whether a row has a bound and it is at most this price.

@@ -5,9 +5,11 @@
 
 mod answering;
 mod bounding;
+mod bounds;
 mod checking;
 mod departing;
 mod fronts;
+mod places;
 mod requesting;
 mod rows;
 mod stepping;

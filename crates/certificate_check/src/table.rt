@@ -3,10 +3,10 @@ ghost use Rattle.std.specs.Prelude.{◌≡◌, map, IfOk};
 ghost use Rattle.certificate_check.specs.Tables.{HasRows, IsLater};
 ghost use Rattle.fare_law.specs.Lists.{AllDifferent};
 
+use crate::bounds::RowBounds;
 use certificate::CertRow;
 use fare_component::Plain;
 use fare_law::Mem;
-use indexmap::IndexMap;
 use residual_table::ResidualKey;
 use search_steps::SearchSteps;
 use std::alloc::Global;
@@ -15,7 +15,7 @@ use std::alloc::Global;
 #[derive(Drop)]
 pub struct Table<'c> {
     pub rows: &'c [CertRow],
-    pub bounds: IndexMap<ResidualKey, Option<u64>>,
+    pub bounds: RowBounds,
 }
 
 /// The table of rows whose residuals differ.
@@ -26,28 +26,28 @@ pub fn table_of<'c>(
 ) -> Result<Table<'c>, Mem>
     requires { AllDifferent (map (λ row. row.residual) rows.now) }
     ensures rows { IfOk result (λ table. table.rows.now ≡ rows.now) }
-    ensures bounds { IfOk result (λ table. HasRows steps.new table.bounds.entries rows.now) }
+    ensures bounds { IfOk result (λ table. HasRows steps.new table.bounds.entries.items rows.now) }
     ensures later { IsLater steps.old steps.new }
 {
-    let bounds = bounds_of(alloc, steps, rows)?;
+    let entries = entries_of(alloc, steps, rows)?;
+    steps.keys_tell();
+    let bounds = RowBounds::of(alloc, entries)?;
     Ok(Table { rows, bounds })
 }
 
-/// The bounds of rows whose residuals differ, by their keys.
-fn bounds_of(
+/// The keys of rows, with their bounds.
+fn entries_of(
     alloc: Global,
     steps: &mut SearchSteps<Plain>,
     rows: &[CertRow],
-) -> Result<IndexMap<ResidualKey, Option<u64>>, Mem>
-    requires { AllDifferent (map (λ row. row.residual) rows.now) }
-    ensures bounds { IfOk result (λ bounds. HasRows steps.new bounds.entries rows.now) }
+) -> Result<Vec<(ResidualKey, Option<u64>)>, Mem>
+    ensures bounds { IfOk result (λ entries. HasRows steps.new entries.items rows.now) }
     ensures later { IsLater steps.old steps.new }
 {
-    let mut bounds = IndexMap::with_capacity(alloc, rows.len())?;
+    let mut entries = Vec::with_capacity(alloc, rows.len())?;
     for row in rows {
         let key = steps.key_of(row.residual)?;
-        steps.keys_tell();
-        bounds.insert(key, row.bound)?;
+        entries.push((key, row.bound))?;
     }
-    Ok(bounds)
+    Ok(entries)
 }

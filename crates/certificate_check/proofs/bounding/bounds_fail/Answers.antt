@@ -1,8 +1,9 @@
-use Rattle.std.proofs.Common.{◌≡◌, true, get_or, length, map, take, ap, arith}
+use Rattle.std.proofs.Common.{◌≡◌, true, get_or, length, take, ap, sym, subst, arith}
 use Rattle.certificate.specs.BoundCheck.{BoundRight}
+use Rattle.certificate_check.specs.Tables.{HasRows}
 use Rattle.certificate_check.proofs.AllowedBounds.{right_told}
 use Rattle.certificate_check.proofs.FromFront.{all_next, all_none, wrong_at}
-use Rattle.certificate_check.proofs.LaterSteps.{has_still, keyed_still, later_still, same_steps}
+use Rattle.certificate_check.proofs.LaterSteps.{has_still, entry_still, later_still, same_steps}
 use Rattle.certificate_check.proofs.RowTables.{as_many}
 use Rattle.search_steps.specs.Keys.{state}
 use Rattle.certificate_check.proofs.bounding.bounds_fail.Goals as goal
@@ -38,22 +39,22 @@ loop-i-preserved c =
       right = all_next (BoundRight b q rows) rows c.loop-i.i row c.loop-i-test.true is c.loop-i.invariant.right (told.0 agreed);
     }
 
-pub index-requires : goal.index-requires
-index-requires c =
-    let test = c.loop-i-test.true in
-    let many = as_many (state c.args.steps.now) c.args.table.now.bounds.entries c.args.table.now.rows.now c.requires.table.same in
-    let all : length c.keys-keys.result ≡ length (map (λ e. e.0) c.args.table.now.bounds.entries) = ap length c.keys-keys.ensures.rest in
-    omega (arith, test, many, all)
-
 pub is_right-requires-clause-table : goal.is_right-requires-clause-table
-is_right-requires-clause-table c = has_still c.args.steps.now c.loop-i.steps c.loop-i.invariant.later.keeps c.args.table.now.bounds.entries c.args.table.now.rows.now c.requires.table
+is_right-requires-clause-table c = has_still c.args.steps.now c.loop-i.steps c.loop-i.invariant.later.keeps c.args.table.now.bounds.entries.items c.args.table.now.rows.now c.requires.table
+
+pub bounds-entries-i : goal.bounds-entries-i
+bounds-entries-i c =
+    let many = as_many (state c.args.steps.now) c.args.table.now.bounds.entries.items c.args.table.now.rows.now c.requires.table.same in
+    let all : length c.as_slice-entries.result.now ≡ length c.args.table.now.bounds.entries.items = ap length c.as_slice-entries.ensures.value in
+    let test = c.loop-i-test.true in
+    omega (arith, test, many, all)
 
 pub is_right-requires-clause-live : goal.is_right-requires-clause-live
 is_right-requires-clause-live c =
-    (keyed_still c.args.steps.now c.loop-i.steps c.loop-i.invariant.later.keeps c.args.table.now.bounds.entries c.args.table.now.rows.now c.requires.table c.keys-keys.result c.loop-i.i c.index.result.now c.index-table-i.result c.keys-keys.ensures.rest
-    c.loop-i-test.true c.index.ensures).0
+    let told = entry_still c.args.steps.now c.loop-i.steps c.loop-i.invariant.later.keeps c.as_slice-entries.result.now c.args.table.now.rows.now (subst (λ es. HasRows c.args.steps.now es c.args.table.now.rows.now) (sym c.as_slice-entries.ensures.value) c.requires.table) c.loop-i.i _ c.index-table-i.result c.loop-i-test.true in
+    told.0
 
 pub is_right-requires-clause-state : goal.is_right-requires-clause-state
 is_right-requires-clause-state c =
-    (keyed_still c.args.steps.now c.loop-i.steps c.loop-i.invariant.later.keeps c.args.table.now.bounds.entries c.args.table.now.rows.now c.requires.table c.keys-keys.result c.loop-i.i c.index.result.now c.index-table-i.result c.keys-keys.ensures.rest
-    c.loop-i-test.true c.index.ensures).1
+    let told = entry_still c.args.steps.now c.loop-i.steps c.loop-i.invariant.later.keeps c.as_slice-entries.result.now c.args.table.now.rows.now (subst (λ es. HasRows c.args.steps.now es c.args.table.now.rows.now) (sym c.as_slice-entries.ensures.value) c.requires.table) c.loop-i.i _ c.index-table-i.result c.loop-i-test.true in
+    told.1

@@ -24,8 +24,8 @@ departures_fail-requires-clause-differ c =
 pub departures_fail-requires-clause-table : goal.departures_fail-requires-clause-table
 departures_fail-requires-clause-table c =
     let table = c.in_ok-table.table in
-    let has = subst (HasRows c.table_of.new.steps table.bounds.entries) (sym c.in_ok-table.ensures.rows) c.in_ok-table.ensures.bounds in
-    has_still c.table_of.new.steps c.bounds_fail.new.steps c.in_ok-place.ensures.later.keeps table.bounds.entries table.rows.now has
+    let has = subst (HasRows c.table_of.new.steps table.bounds.entries.items) (sym c.in_ok-table.ensures.rows) c.in_ok-table.ensures.bounds in
+    has_still c.table_of.new.steps c.bounds_fail.new.steps c.in_ok-place.ensures.later.keeps table.bounds.entries.items table.rows.now has
 
 pub departures_fail-requires-clause-few : goal.departures_fail-requires-clause-few
 departures_fail-requires-clause-few c =
