@@ -5,7 +5,7 @@ ghost use Rattle.certificate.specs.declared.parts.CertRow.{CertRow as RowData};
 ghost use Rattle.certificate_text.specs.LineReading as Reading;
 ghost use Rattle.certificate_text.specs.Lines.{SpellsAnswer, SpellsNumber, SpellsRow};
 
-use crate::words::{after, bound_of, moves_of, next_word, number_after};
+use crate::words::{after, after_row, bound_of, moves_of, next_word, number_after};
 use certificate::CertAnswer;
 use residual_keys::{Residual, ResidualReader};
 use word_text::{cut_last, cuts_tell, number_of, numbers_tell};
@@ -36,7 +36,7 @@ pub fn row_line<'r>(
 {
     numbers_tell();
     cuts_tell();
-    let rest = after(b"row ", line)?;
+    let rest = after_row(line)?;
     let (residual, bound) = cut_last(rest, b' ')?;
     let bound = bound_of(bound)?;
     let residual = residuals.read(residual)?;

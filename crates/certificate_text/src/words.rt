@@ -1,5 +1,5 @@
 //! The words of a line, read one after another.
-ghost use Rattle.std.specs.Prelude.{◌≡◌, ◌≤◌, ◌++◌, ◌∷◌, [], IfSome, MatchOption, None, Some};
+ghost use Rattle.std.specs.Prelude.{◌≡◌, ◌≤◌, ◌++◌, ◌∷◌, [], IfSome, MatchOption, None, Some, codes};
 ghost use Rattle.certificate_text.specs.LineReading as Reading;
 ghost use Rattle.word_text.specs.Words.{IsFreeOf};
 
@@ -14,6 +14,18 @@ pub fn after<'a>(label: &[u8], text: &'a [u8]) -> Option<&'a [u8]>
 {
     let rest = text.strip_prefix(label)?;
     Some(rest)
+}
+
+/// What stands after the label of a row.
+#[tactic(auto, unfolding(crate::specs::LineReading::after_label))]
+pub fn after_row(text: &[u8]) -> Option<&[u8]>
+    ensures { MatchOption result (Reading.after_label (codes "row ") text.now ≡ None)
+        (λ rest. Reading.after_label (codes "row ") text.now ≡ Some rest.now) }
+{
+    match text {
+        [b'r', b'o', b'w', b' ', rest @ ..] => Some(rest),
+        _ => None,
+    }
 }
 
 /// The word after a space, and the rest.
