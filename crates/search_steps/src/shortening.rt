@@ -12,15 +12,7 @@ pub fn shortened(alloc: Global, steps: Vec<Step>) -> Result<Vec<Step>, Mem>
 {
     let mut sorted = steps;
     // So that the prices of a mark stand together and ascend.
-    sorted.sort_unstable_by_key(|step| {
-        (
-            step.after,
-            step.unit,
-            step.carrier,
-            end_number(step.ends),
-            step.price,
-        )
-    });
+    sorted.sort_unstable_by_key(|step| place_of(step));
     once_each(alloc, sorted.as_slice())
 }
 
@@ -66,6 +58,16 @@ fn same_end(one: EndOnEnd, other: EndOnEnd) -> bool
         EndOnEnd::SameCarrier => matches!(other, EndOnEnd::SameCarrier),
         EndOnEnd::Never => matches!(other, EndOnEnd::Never),
     }
+}
+
+/// A number to sort a step by: its mark's parts one after another, and then its price.
+fn place_of(step: &Step) -> u128 {
+    let [a, b] = step.carrier.0;
+    let [c, d, e, f] = step.after.to_be_bytes();
+    let [g, h, i, j] = step.unit.to_be_bytes();
+    let ends = end_number(step.ends);
+    let [_, _, _, k, l, m, n, o] = step.price.to_be_bytes();
+    u128::from_be_bytes([c, d, e, f, g, h, i, j, a, b, ends, k, l, m, n, o])
 }
 
 /// A number to sort by.
