@@ -5,7 +5,7 @@ ghost use Rattle.graph_walk.specs.Walks.{AreLeast, AreReached, Costs, IsShort, L
 ghost use Rattle.graph_walk.specs.Steps.{AllAbove, AreLive, ExceedsIf, Good, KeepsStates, TellsStates, Walked, rows_of};
 
 use crate::faults::WalkFault;
-use crate::rows::{bound_of, lesser, put};
+use crate::rows::{bound_of, bound_or_row, lesser, put};
 use crate::source::Steps;
 use indexmap::IndexMap;
 use std::alloc::Global;
@@ -65,13 +65,16 @@ fn least_from<K: Hash + Eq + Copy, C, S: Steps<K, C>>(
     ensures later { S.later steps.old steps.new }
     ensures large { IfErr result (ExceedsIf (λ x. IsIn x (states (rows_of (S.state steps.old) rows.old.entries)) ⊎ Reached (S.leads context.now) (S.state steps.old key) x) budget) }
 {
-    if let Some(bound) = bound_of(rows, key) {
+    if rows.len() >= budget as usize {
+        return match bound_of(rows, key) {
+            Some(known) => Ok(known),
+            None => Err(WalkFault::TooLarge),
+        };
+    }
+    let place = rows.len();
+    if let Some(bound) = bound_or_row(rows, key)? {
         return Ok(bound);
     }
-    if rows.len() >= budget as usize {
-        return Err(WalkFault::TooLarge);
-    }
-    let place = put(rows, rows.len(), key, None)?;
     let outcomes = steps.outcomes(alloc, context, key)?;
     let mut least = None;
     for outcome in outcomes.as_slice() {

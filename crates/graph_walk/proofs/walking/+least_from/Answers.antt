@@ -1,15 +1,16 @@
-use Rattle.std.proofs.Common.{◌≡◌, ◌⊎◌, ◌∙◌, ◌+◌, ◌++◌, ◌∷◌, [], ℕ, suc, length, take, ◌≤◌, Some, None, option_map, sym, ap, subst, arith, rules}
+use Rattle.std.proofs.Common.{◌≡◌, ◌⊎◌, ◌∙◌, ◌+◌, ◌++◌, ◌∷◌, [], ℕ, suc, length, take, ◌≤◌, Some, None, IfNone, IfSome, option_map, sym, ap, subst, arith, rules}
 use Rattle.std.proofs.Math.Seq.{take-suc}
 use Rattle.std.proofs.lemmas.List.{take_all}
 use Rattle.fare_law.specs.Lists.{IsIn}
+use Rattle.indexmap.specs.IndexMap.{insert_entry}
 use Rattle.graph_walk.specs.Walks.{states, Costs, LeastBy, Reached}
 use Rattle.graph_walk.specs.Walks.Reached.{here}
-use Rattle.graph_walk.specs.Steps.{AreLive, KeepsStates, TellsStates, lesser, outcome_of, outcomes_of, rows_of}
+use Rattle.graph_walk.specs.Steps.{AreLive, Good, KeepsStates, TellsStates, lesser, outcome_of, outcomes_of, rows_of}
 use Rattle.graph_walk.proofs.RowFacts.{as_many_rows, found, keeps_on, keeps_self, live_rows, live_set, missing, one_more_row, outcomes_snoc, row_in, rows_length, same_rows, sets, Sets}
 use Rattle.graph_walk.proofs.Going.{Going, begins, above, least_of_run, good_here, walked_here}
 use Rattle.graph_walk.proofs.Ending.{too_many, move_of, live_of, short_after, exceeds_if, from_here, low_rest, least_over, turn_over, turn_on}
 use Rattle.graph_walk.proofs.walking.+least_from.Goals as goal
-use Rattle.graph_walk.proofs.walking.+least_from.Goals.{in-None, in-Some-next+in_ok-rest-in-Some-next}
+use Rattle.graph_walk.proofs.walking.+least_from.Goals.{in-None-next, in-Some-next+in_ok-rest-in-Some-next}
 
 pub returns-in-Some-clause-good : goal.returns-in-Some-clause-good
 returns-in-Some-clause-good g t c =
@@ -23,8 +24,8 @@ returns-in-Some-clause-good g t c =
     let x = state s0 key in
     let es0 = c.args.rows.now.entries in
     let r0 = rows_of (state s0) es0 in
-    let i = found eq (live s0) (state s0) c.requires.tells key c.in-Some.bound es0 c.requires.live c.requires.alive (sym c.in-Some.ensures) in
-    let good = c.requires.above x (row_in x c.in-Some.bound r0 i) (omega arith) in
+    let i = found eq (live s0) (state s0) c.requires.tells key c.in-Some.known es0 c.requires.live c.requires.alive (sym c.in-Some.ensures) in
+    let good = c.requires.above x (row_in x c.in-Some.known r0 i) (omega arith) in
     good
 
 pub returns-in-Some-clause-least : goal.returns-in-Some-clause-least
@@ -39,12 +40,12 @@ returns-in-Some-clause-least g t c =
     let x = state s0 key in
     let es0 = c.args.rows.now.entries in
     let r0 = rows_of (state s0) es0 in
-    let i = found eq (live s0) (state s0) c.requires.tells key c.in-Some.bound es0 c.requires.live c.requires.alive (sym c.in-Some.ensures) in
-    let good = c.requires.above x (row_in x c.in-Some.bound r0 i) (omega arith) in
-    good.least c.in-Some.bound i
+    let i = found eq (live s0) (state s0) c.requires.tells key c.in-Some.known es0 c.requires.live c.requires.alive (sym c.in-Some.ensures) in
+    let good = c.requires.above x (row_in x c.in-Some.known r0 i) (omega arith) in
+    good.least c.in-Some.known i
 
-pub returns-then-len-budget-clause-large : goal.returns-then-len-budget-clause-large
-returns-then-len-budget-clause-large g t c =
+pub returns-in-None-clause-large : goal.returns-in-None-clause-large
+returns-in-None-clause-large g t c =
     let L = g.S.Steps.leads c.args.context.now in
     let live = g.S.Steps.live in
     let state = g.S.Steps.state in
@@ -55,9 +56,43 @@ returns-then-len-budget-clause-large g t c =
     let x = state s0 key in
     let es0 = c.args.rows.now.entries in
     let r0 = rows_of (state s0) es0 in
-    let none = missing eq (live s0) (state s0) c.requires.tells key es0 c.requires.live c.requires.alive (sym c.in_default.ensures) in
+    let none = missing eq (live s0) (state s0) c.requires.tells key es0 c.requires.live c.requires.alive (sym c.in-None.ensures) in
     let long = rows_length (state s0) es0 in
     too_many L x r0 c.args.budget c.requires.once none (omega (arith, c.if-len-budget.true, c.len.ensures.len, c.requires.few))
+
+pub returns-in-Some-2-clause-good : goal.returns-in-Some-2-clause-good
+returns-in-Some-2-clause-good g t c =
+    let L = g.S.Steps.leads c.args.context.now in
+    let live = g.S.Steps.live in
+    let state = g.S.Steps.state in
+    let known = g.S.Steps.known c.args.context.now in
+    let eq = g.K.PartialEq.eq in
+    let s0 = c.args.steps.now in
+    let key = c.args.key in
+    let x = state s0 key in
+    let es0 = c.args.rows.now.entries in
+    let r0 = rows_of (state s0) es0 in
+    let es2 = c.bound_or_row.new.rows.entries in
+    let i = found eq (live s0) (state s0) c.requires.tells key c.in-Some-2.bound es0 c.requires.live c.requires.alive (sym c.in_ok-bound.ensures.bound ∙ c.in-Some-2.is) in
+    let good = c.requires.above x (row_in x c.in-Some-2.bound r0 i) (omega arith) in
+    let stays : es2 ≡ es0 = subst (λ r. IfSome r (λ _. es2 ≡ es0)) c.in-Some-2.is c.in_ok-bound.ensures.stays in
+    subst (λ es. Good L (known s0) (rows_of (state s0) es) x) (sym stays) good
+
+pub returns-in-Some-2-clause-least : goal.returns-in-Some-2-clause-least
+returns-in-Some-2-clause-least g t c =
+    let L = g.S.Steps.leads c.args.context.now in
+    let live = g.S.Steps.live in
+    let state = g.S.Steps.state in
+    let known = g.S.Steps.known c.args.context.now in
+    let eq = g.K.PartialEq.eq in
+    let s0 = c.args.steps.now in
+    let key = c.args.key in
+    let x = state s0 key in
+    let es0 = c.args.rows.now.entries in
+    let r0 = rows_of (state s0) es0 in
+    let i = found eq (live s0) (state s0) c.requires.tells key c.in-Some-2.bound es0 c.requires.live c.requires.alive (sym c.in_ok-bound.ensures.bound ∙ c.in-Some-2.is) in
+    let good = c.requires.above x (row_in x c.in-Some-2.bound r0 i) (omega arith) in
+    good.least c.in-Some-2.bound i
 
 pub loop-outcome-init : goal.loop-outcome-init
 loop-outcome-init g t c =
@@ -72,9 +107,9 @@ loop-outcome-init g t c =
     let es0 = c.args.rows.now.entries in
     let r0 = rows_of (state s0) es0 in
     let s1 = c.outcomes.new.self in
-    let es1 = c.put.new.rows.entries in
-    let none = missing eq (live s0) (state s0) c.requires.tells key es0 c.requires.live c.requires.alive (sym c.in_default.ensures) in
-    let is = c.in_ok-place.ensures.puts in
+    let es1 = c.bound_or_row.new.rows.entries in
+    let none = missing eq (live s0) (state s0) c.requires.tells key es0 c.requires.live c.requires.alive (sym c.in_ok-bound.ensures.bound ∙ c.in_default.is) in
+    let is = subst (λ r. IfNone r (es1 ≡ insert_entry eq es0 key None)) c.in_default.is c.in_ok-bound.ensures.adds in
     let alive = subst (λ rows. AreLive (live s0) rows) (sym is) (live_set eq (live s0) key None es0 c.requires.live c.requires.alive) in
     let keeps = c.in_ok-outcomes.ensures.keeps in
     let same = same_rows (live s0) (live s1) (state s0) (state s1) keeps es1 alive in
@@ -191,7 +226,7 @@ lesser-least-requires g t c =
     let made = outcome_of (state s1) o in
     let any = move_of L (state s1) x os items i o c.in_ok-outcomes.ensures.outcomes c.as_slice-outcome-items.ensures.value c.loop-outcome-test.true c.outcome-item.is in
     elim c.match-outcome.branch [
-      | in-None w ↦ low_rest L g.S.Steps.level x made.next o.price c.match-outcome.rest c.requires.short any (least_over L made.next c.match-outcome.rest (ap (option_map (state s1)) w.in-None.is) w.rest-is)
+      | in-None-next w ↦ low_rest L g.S.Steps.level x made.next o.price c.match-outcome.rest c.requires.short any (least_over L made.next c.match-outcome.rest (ap (option_map (state s1)) w.in-None-next.is) w.rest-is)
       | in-Some-next+in_ok-rest-in-Some-next w ↦
           let next = w.in-Some-next.next in
           let lives = live_of (live s1) os items i o next c.in_ok-outcomes.ensures.live c.as_slice-outcome-items.ensures.value c.loop-outcome-test.true c.outcome-item.is w.in-Some-next.is in
@@ -238,9 +273,9 @@ loop-outcome-preserved g t c =
     let turned = λ (h : Going L (known s0) (known s2) x r0 r2 (done ++ made ∷ []) (lesser least rest o.price)).
     subst (λ b. Going L (known s0) (known s2) x r0 r2 (outcomes_of (state s1) (take (i + 1) os)) b) (sym c.lesser-least.ensures) (subst (λ d. Going L (known s0) (known s2) x r0 r2 d (lesser least rest o.price)) (sym fronts) h) in
     elim c.match-outcome.branch [
-      | in-None w ↦
+      | in-None-next w ↦
           let rows_are : r2 ≡ r = λ j. rows_of (state (w.steps-is j)) (w.rows-is j).entries in record {
-            going = turned (turn_over L known s0 s s2 x r0 r r2 done made least rest w.steps-is rows_are w.rest-is (ap (option_map (state s1)) w.in-None.is) going);
+            going = turned (turn_over L known s0 s s2 x r0 r r2 done made least rest w.steps-is rows_are w.rest-is (ap (option_map (state s1)) w.in-None-next.is) going);
             alive = subst (λ m. AreLive (live s2) m.entries) (sym w.rows-is) (subst (λ z. AreLive (live z) es) (sym w.steps-is) invariant.alive);
             tells = subst (λ z. TellsStates (live z) (state z) eq) (sym w.steps-is) invariant.tells;
             keeps = subst (λ z. KeepsStates (live s0) (live z) (state s0) (state z)) (sym w.steps-is) invariant.keeps;
@@ -292,7 +327,7 @@ returns-clause-walked g t c =
     let least = c.loop-outcome.least in
     let invariant = c.loop-outcome.invariant in
     let going = invariant.going in
-    let es2 = c.put-2.new.rows.entries in
+    let es2 = c.put.new.rows.entries in
     let all = take_all i os c.loop-outcome-test.false in
     let ended = subst (λ d. Going L (known s0) (known s) x r0 r (outcomes_of (state s1) d) least) (all ∙ c.as_slice-outcome-items.ensures.value) going in
     let here_live = invariant.keeps key c.requires.live in
@@ -323,7 +358,7 @@ returns-clause-good g t c =
     let least = c.loop-outcome.least in
     let invariant = c.loop-outcome.invariant in
     let going = invariant.going in
-    let es2 = c.put-2.new.rows.entries in
+    let es2 = c.put.new.rows.entries in
     let all = take_all i os c.loop-outcome-test.false in
     let ended = subst (λ d. Going L (known s0) (known s) x r0 r (outcomes_of (state s1) d) least) (all ∙ c.as_slice-outcome-items.ensures.value) going in
     let here_live = invariant.keeps key c.requires.live in
@@ -354,7 +389,7 @@ returns-clause-least g t c =
     let least = c.loop-outcome.least in
     let invariant = c.loop-outcome.invariant in
     let going = invariant.going in
-    let es2 = c.put-2.new.rows.entries in
+    let es2 = c.put.new.rows.entries in
     let all = take_all i os c.loop-outcome-test.false in
     let ended = subst (λ d. Going L (known s0) (known s) x r0 r (outcomes_of (state s1) d) least) (all ∙ c.as_slice-outcome-items.ensures.value) going in
     let here_live = invariant.keeps key c.requires.live in
@@ -385,7 +420,7 @@ returns-clause-few g t c =
     let least = c.loop-outcome.least in
     let invariant = c.loop-outcome.invariant in
     let going = invariant.going in
-    let es2 = c.put-2.new.rows.entries in
+    let es2 = c.put.new.rows.entries in
     let all = take_all i os c.loop-outcome-test.false in
     let ended = subst (λ d. Going L (known s0) (known s) x r0 r (outcomes_of (state s1) d) least) (all ∙ c.as_slice-outcome-items.ensures.value) going in
     let here_live = invariant.keeps key c.requires.live in
@@ -419,7 +454,7 @@ returns-clause-alive g t c =
     let least = c.loop-outcome.least in
     let invariant = c.loop-outcome.invariant in
     let going = invariant.going in
-    let es2 = c.put-2.new.rows.entries in
+    let es2 = c.put.new.rows.entries in
     let all = take_all i os c.loop-outcome-test.false in
     let ended = subst (λ d. Going L (known s0) (known s) x r0 r (outcomes_of (state s1) d) least) (all ∙ c.as_slice-outcome-items.ensures.value) going in
     let here_live = invariant.keeps key c.requires.live in
