@@ -1,8 +1,7 @@
 -- Rows that were taken in the order of their ranks are the rows, in that order.
-use Rattle.std.proofs.Common.{◌≡◌, ◌∙◌, ℕ, zero, suc, ◌+◌, ◌<◌, Bool, true, false, if◌then◌else◌, List, [], ◌∷◌, ◌++◌, map, length, get_or, slice_get, Option, Some, None, IsPermutation, refl, sym, ap, subst, arith}
+use Rattle.std.proofs.Common.{◌≡◌, ◌∙◌, ℕ, zero, suc, ◌+◌, ◌<◌, Bool, false, if◌then◌else◌, List, [], ◌∷◌, ◌++◌, map, length, get_or, slice_get, Option, Some, None, IsPermutation, refl, sym, ap, subst, arith}
 use Rattle.std.specs.declared.cmp.Ordering.{Ordering}
 use Rattle.std.specs.declared.cmp.Ordering.TheVariants.{Less, Equal, Greater}
-use Rattle.std.specs.Cmp.{IsEquivalence}
 use Rattle.std.specs.List.{IsDistinct}
 use Rattle.std.specs.Map.{keys_of}
 use Rattle.std.specs.Ordering.{is_lt, nat_cmp, ordering_then}
@@ -144,11 +143,16 @@ module _ (ranks : RankLists) (rows : List Row) where
               length_map [] = refl
               length_map (x ∷ xs) = ap suc (length_map xs)
 
-      pub all_inserted : IsDistinct key.ghosts.eq (keys_of rows) → insert_all key.ghosts.eq [] (rows_of_ranked rows xs) ≡ rows_of_ranked rows xs
-      all_inserted d = all_new key.ghosts.eq flips [] (rows_of_ranked rows xs) (IsDistinct-IsPermutation key.ghosts.eq flips (keys_of rows) (keys_of (rows_of_ranked rows xs)) (IsPermutation-map (λ r. r.0) rows (rows_of_ranked rows xs) same_rows) d)
-        where
-          flips : (k l : ResidualKey) → key.ghosts.eq k l ≡ key.ghosts.eq l k
-          flips k l = laws-law.symm k l
+-- rows in another order are still distinct, and added one after another they are those rows
+module _ (rows turned : List Row) (moves : IsPermutation rows turned) (distinct : IsDistinct key.ghosts.eq (keys_of rows)) where
+  flips : (k l : ResidualKey) → key.ghosts.eq k l ≡ key.ghosts.eq l k
+  flips k l = laws-law.symm k l
+
+  pub still_distinct : IsDistinct key.ghosts.eq (keys_of turned)
+  still_distinct = IsDistinct-IsPermutation key.ghosts.eq flips (keys_of rows) (keys_of turned) (IsPermutation-map (λ r. r.0) rows turned moves) distinct
+
+  pub all_inserted : insert_all key.ghosts.eq [] turned ≡ turned
+  all_inserted = all_new key.ghosts.eq flips [] turned still_distinct
 
 -- what stands where no row does
 pub no_row : Row

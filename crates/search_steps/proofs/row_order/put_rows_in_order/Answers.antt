@@ -1,8 +1,14 @@
+use Rattle.std.proofs.Common.{◌∙◌, IsPermutation, [], ap, subst, sym}
+use Rattle.fare_law.specs.Lists.{EachPair}
+use Rattle.indexmap.specs.IndexMap.{insert_all}
+use Rattle.indexmap.proofs.MapLemmas.{reordered}
 use Rattle.residual_keys.specs.ResidualOrder.{StateBefore}
 use Rattle.residual_table.specs.contracts.key.ResidualKeyPartialEq.TheImpl as key
+use Rattle.residual_table.specs.contracts.key.ResidualKeyEq.TheImpl.Laws.{laws-law}
 use Rattle.residual_table.specs.contracts.key.SortKeyOrd.TheImpl as order
 use Rattle.residual_table.specs.Keys.{IsLive, residual_at}
 use Rattle.residual_table.specs.Ranks.{rank_of}
+use Rattle.search_steps.proofs.RankedRows.{all_inserted, still_distinct}
 use Rattle.search_steps.proofs.RowsByNumber.{tells_states}
 use Rattle.search_steps.proofs.RowsInOrder.{rows_ordered, still_each}
 use Rattle.search_steps.proofs.SortedKeys.{order_told}
@@ -12,7 +18,19 @@ pub returns-clause-order : goal.returns-clause-order
 returns-clause-order c =
     let t = c.args.numbers.now in
     let ranks = c.in_ok-ranks.ranks in
-    let rows = c.in_ok-sorted.sorted.entries in
-    rows_ordered (IsLive t) (residual_at t) StateBefore (λ k l. order.ghosts.cmp (rank_of ranks k) (rank_of ranks l)) key.ghosts.eq
-    (order_told t ranks order.ghosts.cmp (λ k l x y h i. c.ranks_order.ensures t ranks k l x y c.in_ok-ranks.ensures h i)) (tells_states t key.ghosts.eq c.keys_tell.ensures) c.residual_order.ensures.order.total rows c.in_ok-sorted.ensures.sorted c.in_ok-sorted.ensures.unique
-    (still_each (λ r. IsLive t r.0) c.args.rows.now.entries rows c.in_ok-sorted.ensures.same.0 c.requires)
+    let old = c.args.rows.now.entries in
+    let turned = c.in_ok-sorted.sorted.items in
+    let found = c.in_ok-sorted.ensures in
+    let is = c.in_ok-refill.ensures ∙ (ap (insert_all key.ghosts.eq []) c.as_slice.ensures.value ∙ all_inserted old turned found.same found.unique) in
+    subst (EachPair (λ r s. StateBefore (residual_at t r.0) (residual_at t s.0))) (sym is)
+    (rows_ordered (IsLive t) (residual_at t) StateBefore (λ k l. order.ghosts.cmp (rank_of ranks k) (rank_of ranks l)) key.ghosts.eq
+    (order_told t ranks order.ghosts.cmp (λ k l x y h i. c.ranks_order.ensures t ranks k l x y c.in_ok-ranks.ensures h i)) (tells_states t key.ghosts.eq c.keys_tell.ensures) c.residual_order.ensures.order.total turned found.sorted (still_distinct old turned found.same found.unique)
+    (still_each (λ r. IsLive t r.0) old turned found.same c.requires))
+
+pub returns-clause-same : goal.returns-clause-same
+returns-clause-same c =
+    let old = c.args.rows.now.entries in
+    let turned = c.in_ok-sorted.sorted.items in
+    let found = c.in_ok-sorted.ensures in
+    let is = c.in_ok-refill.ensures ∙ (ap (insert_all key.ghosts.eq []) c.as_slice.ensures.value ∙ all_inserted old turned found.same found.unique) in
+    (reordered laws-law c.args.rows.now c.refill.new.rows found.unique (subst (IsPermutation old) (sym is) found.same)).0
