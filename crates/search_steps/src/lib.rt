@@ -5,6 +5,7 @@
 mod adding;
 mod bounds;
 mod case;
+mod guesses;
 mod keyed;
 mod keying;
 mod laws;

@@ -2,6 +2,7 @@
 ghost use Rattle.std.specs.Prelude.{◌≡◌, []};
 ghost use Rattle.residual_table.specs.Keys.{no_tables};
 
+use crate::guesses::Guesses;
 use fare_law::{Carrier, EndOnEnd};
 use indexmap::IndexMap;
 use residual_table::ResidualParts;
@@ -52,10 +53,12 @@ pub struct StepLists {
     pub numbers: ResidualParts,
     pub positions: Vec<PositionSteps>,
     /// Where the lists of a position may stand, by its number.
-    pub places: IndexMap<u32, usize>,
+    pub places: Guesses,
     pub units: Vec<UnitSteps>,
     /// Where the list of an open unit may stand.
     pub unit_places: IndexMap<UnitSlot, usize>,
+    /// The same of those that were asked for last, which spares most look-ups.
+    pub recent: Guesses,
 }
 
 impl StepLists {
@@ -68,9 +71,10 @@ impl StepLists {
         StepLists {
             numbers: ResidualParts::new(alloc),
             positions: Vec::new(alloc),
-            places: IndexMap::new(alloc),
+            places: Guesses::new(alloc),
             units: Vec::new(alloc),
             unit_places: IndexMap::new(alloc),
+            recent: Guesses::new(alloc),
         }
     }
 }

@@ -11,7 +11,6 @@ use crate::numbered::{PositionSteps, StepLists, UnitSlot, UnitSteps};
 use crate::stepping::steps_of;
 use crate::tables::Tables;
 use fare_law::Mem;
-use indexmap::IndexMap;
 use open_unit::OpenUnit;
 use outlines::{alone_list, opening_list, unit_list};
 use residual_table::ResidualParts;
@@ -35,12 +34,14 @@ impl StepLists {
         ensures grows { Grows self.old.numbers self.new.numbers }
         ensures found { IfOk result (StepsAt self.new.positions.items position) }
     {
-        if let Some(at) = known_position(self.positions.as_slice(), &self.places, position) {
+        let guess = self.places.get(position as usize);
+        if let Some(at) = position_at(self.positions.as_slice(), guess, position) {
             return Ok(at);
         }
         let steps = self.made_position(alloc, case, tables, position)?;
         let at = self.positions.len();
-        self.places.insert(position, at)?;
+        self.places.widen(position as usize + 1)?;
+        self.places.put(position as usize, at);
         self.positions.push(steps)?;
         Ok(at)
     }
@@ -67,12 +68,21 @@ impl StepLists {
         if key.slot == 0 {
             return Ok(None);
         }
-        if let Some(at) = known_unit(self.units.as_slice(), &self.unit_places, &key) {
+        let spot = self.recent.spot_of(key.place, key.slot);
+        let guess = self.recent.get(spot);
+        if let Some(at) = unit_at(self.units.as_slice(), guess, &key) {
+            return Ok(Some(at));
+        }
+        let known = self.unit_places.get(&key).copied();
+        if let Some(at) = unit_at(self.units.as_slice(), known, &key) {
+            self.recent.put(spot, at);
             return Ok(Some(at));
         }
         let steps = self.made_unit(alloc, case, tables, key)?;
         let at = self.units.len();
         self.unit_places.insert(key, at)?;
+        // Few share a spot where there are four times as many.
+        self.recent.widen(at.saturating_mul(4))?;
         self.units.push(steps)?;
         Ok(Some(at))
     }
@@ -218,15 +228,11 @@ fn steps_of_unit(
     })
 }
 
-/// Where the lists of a position stand, if they are known.
-fn known_position(
-    positions: &[PositionSteps],
-    places: &IndexMap<u32, usize>,
-    position: u32,
-) -> Option<usize>
+/// The place, if the lists of the position stand there.
+fn position_at(positions: &[PositionSteps], at: Option<usize>, position: u32) -> Option<usize>
     ensures { IfSome result (StepsAt positions.now position) }
 {
-    let at = places.get(&position).copied()?;
+    let at = at?;
     let steps = positions.get(at)?;
     if steps.position == position {
         Some(at)
@@ -235,16 +241,12 @@ fn known_position(
     }
 }
 
-/// Where the list of an open unit stands, if it is known.
-fn known_unit(
-    units: &[UnitSteps],
-    places: &IndexMap<UnitSlot, usize>,
-    key: &UnitSlot,
-) -> Option<usize>
+/// The place, if the list of the open unit stands there.
+fn unit_at(units: &[UnitSteps], at: Option<usize>, key: &UnitSlot) -> Option<usize>
     requires { key.now.slot ≢ 0 }
     ensures { IfSome result (UnitStandsAt units.now key.now.place key.now.slot) }
 {
-    let at = places.get(key).copied()?;
+    let at = at?;
     let steps = units.get(at)?;
     if steps.place == key.place && steps.slot == key.slot {
         Some(at)

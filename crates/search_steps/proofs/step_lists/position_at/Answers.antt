@@ -1,6 +1,6 @@
 use Rattle.std.proofs.Common.{length, refl}
 use Rattle.std.proofs.lemmas.Option.{slice_get_read}
-use Rattle.search_steps.proofs.step_lists.known_position.Goals as goal
+use Rattle.search_steps.proofs.step_lists.position_at.Goals as goal
 
 pub returns-then-steps-position : goal.returns-then-steps-position
 returns-then-steps-position c =
