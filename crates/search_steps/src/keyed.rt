@@ -12,7 +12,7 @@ ghost use Rattle.search_steps.specs.Tables.{AreTables};
 
 use crate::Case;
 use crate::adding::{add_alone, add_of_first, add_of_second, add_opening};
-use crate::numbered::{StepLists, UnitSlot, UnitSteps};
+use crate::numbered::{PositionSteps, StepLists, UnitSlot, UnitSteps};
 use crate::tables::Tables;
 use fare_law::Mem;
 use graph_walk::Outcome;
@@ -90,12 +90,38 @@ fn given_by(
     ensures { IfOk result (λ v. AddsFour lists.now key placed.now v.items) }
 {
     let steps = &lists.positions[placed.at];
-    let mut found = Vec::new(alloc);
+    let mut found = Vec::with_capacity(alloc, room_for(lists, key, placed, steps))?;
     add_alone(&mut found, key, steps.alone.as_slice())?;
     add_opening(&mut found, key, steps.opening.as_slice())?;
     add_first(&mut found, lists.units.as_slice(), key, placed.first)?;
     add_second(&mut found, lists.units.as_slice(), key, placed.second)?;
     Ok(found)
+}
+
+/// How many steps the lists have that may leave something.
+fn room_for(lists: &StepLists, key: ResidualKey, placed: &Placed, steps: &PositionSteps) -> usize {
+    let opening = if key.second == 0 {
+        steps.opening.len()
+    } else {
+        0
+    };
+    let units = lists.units.as_slice();
+    let first = count_at(units, placed.first);
+    let second = count_at(units, placed.second);
+    steps
+        .alone
+        .len()
+        .saturating_add(opening)
+        .saturating_add(first)
+        .saturating_add(second)
+}
+
+/// How many steps the list of an open unit has, where there is one.
+fn count_at(units: &[UnitSteps], at: Option<usize>) -> usize {
+    match at.and_then(|at| units.get(at)) {
+        Some(unit) => unit.steps.len(),
+        None => 0,
+    }
 }
 
 /// Adds what the list of the unit that was opened first gives, where there is one.
