@@ -73,18 +73,47 @@ impl StepLists {
         if let Some(at) = unit_at(self.units.as_slice(), guess, &key) {
             return Ok(Some(at));
         }
+        let at = self.find_elsewhere(alloc, case, tables, key, spot)?;
+        Ok(Some(at))
+    }
+
+    /// Where the list of an open unit stands, which isn't where the spot of its key guesses. It is made where it isn't
+    /// known. Apart, so that a good guess costs little.
+    #[inline(never)]
+    fn find_elsewhere(
+        &mut self,
+        alloc: Global,
+        case: &Case,
+        tables: &Tables,
+        key: UnitSlot,
+        spot: usize,
+    ) -> Result<usize, Mem>
+        requires request { IsRequest case.now.request.now }
+        requires slot { HasSlot self.old.numbers.units key.slot }
+        requires is_open { key.slot ≢ 0 }
+        requires place { HasTable tables.now.kept.items key.place }
+        requires tables { AreTables case.now.book.now case.now.request.now tables.now }
+        requires right { AreStepLists case.now.request.now tables.now.kept.items self.old }
+        ensures right { AreStepLists case.now.request.now tables.now.kept.items self.new }
+        ensures grows { Grows self.old.numbers self.new.numbers }
+        ensures positions { self.new.positions.items ≡ self.old.positions.items }
+        ensures stays { KeepsNumbers self.old.units.items self.new.units.items }
+        ensures found { IfOk result (UnitStandsAt self.new.units.items key.place key.slot) }
+    {
         let known = self.unit_places.get(&key).copied();
         if let Some(at) = unit_at(self.units.as_slice(), known, &key) {
             self.recent.put(spot, at);
-            return Ok(Some(at));
+            return Ok(at);
         }
         let steps = self.made_unit(alloc, case, tables, key)?;
         let at = self.units.len();
         self.unit_places.insert(key, at)?;
         // Few share a spot where there are four times as many.
         self.recent.widen(at.saturating_mul(4))?;
+        let spot = self.recent.spot_of(key.place, key.slot);
+        self.recent.put(spot, at);
         self.units.push(steps)?;
-        Ok(Some(at))
+        Ok(at)
     }
 
     /// The lists of a position, which stand nowhere yet.

@@ -1,7 +1,7 @@
 use Rattle.std.proofs.Common.{arith, refl}
 use Rattle.search_steps.proofs.Kept.{keeps_pushed}
 use Rattle.search_steps.proofs.ListsByNumber.{grows_same, keeps_on, unit_more, unit_steps_last}
-use Rattle.search_steps.proofs.numbered.StepLists.find_unit.Goals as goal
+use Rattle.search_steps.proofs.numbered.StepLists.find_elsewhere.Goals as goal
 
 pub returns-clause-right : goal.returns-clause-right
 returns-clause-right c =
@@ -15,4 +15,4 @@ returns-clause-stays c =
 
 pub returns-clause-found : goal.returns-clause-found
 returns-clause-found c =
-    unit_steps_last c.made_unit.new.self.units.items c.push.new.self.items c.in_ok-steps.steps c.args.key.place c.args.key.slot c.len-at.result c.in_ok-push.ensures.items (omega (arith, c.len-at.ensures)) c.in_ok-steps.ensures.place c.in_ok-steps.ensures.slot c.if-key-eq0.false
+    unit_steps_last c.made_unit.new.self.units.items c.push.new.self.items c.in_ok-steps.steps c.args.key.place c.args.key.slot c.len-at.result c.in_ok-push.ensures.items (omega (arith, c.len-at.ensures)) c.in_ok-steps.ensures.place c.in_ok-steps.ensures.slot c.requires.is_open
