@@ -62,12 +62,12 @@ fn same_end(one: EndOnEnd, other: EndOnEnd) -> bool
 
 /// A number to sort a step by: its mark's parts one after another, and then its price.
 fn place_of(step: &Step) -> u128 {
-    let [a, b] = step.carrier.0;
-    let [c, d, e, f] = step.after.to_be_bytes();
-    let [g, h, i, j] = step.unit.to_be_bytes();
-    let ends = end_number(step.ends);
-    let [_, _, _, k, l, m, n, o] = step.price.to_be_bytes();
-    u128::from_be_bytes([c, d, e, f, g, h, i, j, a, b, ends, k, l, m, n, o])
+    let leads = (u64::from(step.after) << 32) | u64::from(step.unit);
+    let carrier = u64::from(u16::from_be_bytes(step.carrier.0));
+    let ends = u64::from(end_number(step.ends));
+    let price = step.price & 0xff_ffff_ffff;
+    let rest = (carrier << 48) | (ends << 40) | price;
+    (u128::from(leads) << 64) | u128::from(rest)
 }
 
 /// A number to sort by.
