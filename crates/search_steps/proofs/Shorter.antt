@@ -62,6 +62,21 @@ shorter_order old mid new p h = record {
   covered = λ s i. h.covered s ((same_elements s old mid p).0 i);
 }
 
+mark_on : (s u v : Step) → HaveOneMark v u → HaveOneMark u s → HaveOneMark v s
+mark_on s u v h k = record { after = h.after ∙ k.after; unit = h.unit ∙ k.unit; carrier = h.carrier ∙ k.carrier; ends = h.ends ∙ k.ends }
+
+-- what is shorter than a shorter list
+pub shorter_twice : (old mid new : List Step) → IsShorter old mid → IsShorter mid new → IsShorter old new
+shorter_twice old mid new g h = record {
+  part = weaken (λ s. IsIn s mid) (λ s. IsIn s old) (λ s i. in_each (λ z. IsIn z old) s mid g.part i) new h.part;
+  covered = λ s i.
+      let u = g.covered s i in
+      let v = h.covered u.0 u.1 in
+      let first = u.3 in
+      let second = v.3 in
+      (v.0, v.1, mark_on s u.0 v.0 v.2 u.2, omega (arith, first, second));
+}
+
 -- what is matched with one of a list
 matched_left : {X Y : Type 0} (R : X → Y → Type 0) (xs : List X) (ys : List Y) (y : Y) → Matched R xs ys → IsIn y ys → (x : X) × IsIn x xs × R x y
 matched_left R [] [] y h i = absurd i

@@ -10,8 +10,8 @@ use std::alloc::Global;
 pub fn shortened(alloc: Global, steps: Vec<Step>) -> Result<Vec<Step>, Mem>
     ensures { IfOk result (λ kept. IsShorter steps.items kept.items) }
 {
-    let mut sorted = steps;
-    // So that the prices of a mark stand together and ascend.
+    // Many of a mark stand together as they come, which leaves few to sort. Then all do, and their prices ascend.
+    let mut sorted = once_each(alloc, steps.as_slice())?;
     sorted.sort_unstable_by_key(|step| place_of(step));
     once_each(alloc, sorted.as_slice())
 }
