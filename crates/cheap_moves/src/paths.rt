@@ -1,5 +1,5 @@
 //! The paths of a position that end where moves within the limit end.
-ghost use Rattle.std.specs.Prelude.{◌≡◌, ◌<◌, ◌+◌, IfOk, length};
+ghost use Rattle.std.specs.Prelude.{◌≡◌, ◌<◌, ◌+◌, IfOk, length, ⊤};
 ghost use Rattle.cheap_moves.specs.Hopes.{marked};
 ghost use Rattle.cheap_moves.specs.Tails.{AreTailsOver};
 ghost use Rattle.flight_paths.specs.Heads.{AreReached};
@@ -7,7 +7,7 @@ ghost use Rattle.flight_paths.specs.Heads.{AreReached};
 use crate::hopes::{Hopes, schedule_of};
 use fare_book::Book;
 use fare_law::{List, Mem, Place, Request};
-use flight_paths::{Path, PathVisitor, Position, tails_to, visit_paths};
+use flight_paths::{Path, PathVisitor, Position, SomeTails, tails_to, visit_paths};
 use std::alloc::Global;
 
 /// Paths that were visited.
@@ -18,6 +18,8 @@ struct Visited {
 
 impl PathVisitor for Visited {
     ghost told = { λ s paths. s.paths.items ≡ paths };
+
+    ghost knows = { λ tails. ⊤ };
 
     fn visit(&mut self, path: &Path) -> Result<(), Mem> {
         self.paths.push(path.copied())?;
@@ -40,17 +42,14 @@ pub fn hoped_paths(
     ensures { IfOk result (AreReached book.now request.now.slices position.now (marked ⟦<Place as PartialEq>⟧.eq hopes.now.ends)) }
 {
     let schedule = schedule_of(book);
-    let some = tails_to(alloc, schedule, tails, hopes)?;
+    let numbers = tails_to(alloc, schedule, tails, hopes)?;
+    let some = SomeTails {
+        all: tails,
+        numbers: numbers.as_slice(),
+    };
     let mut visited = Visited {
         paths: Vec::new(alloc),
     };
-    visit_paths(
-        alloc,
-        schedule,
-        request,
-        position,
-        some.as_slice(),
-        &mut visited,
-    )?;
+    visit_paths(alloc, schedule, request, position, &some, &mut visited)?;
     Ok(List::from_vec(visited.paths))
 }

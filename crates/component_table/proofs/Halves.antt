@@ -1,9 +1,12 @@
 -- A path of a head and a tail, by what is known of the two.
 use Rattle.std.proofs.Common.{◌≡◌, ℕ, List, [], ◌∷◌, ◌++◌, All, Option, IsBitSet, bit_and, refl, sym, ap, subst, ◌∙◌}
 use Rattle.std.proofs.lemmas.List.Elements.{All-append, All-cons, All-nil, All-head, All-tail}
-use Rattle.component_table.specs.declared.facts.Joint.{Joint}
+use Rattle.component_table.specs.declared.kinds.TailClass.{TailClass}
+use Rattle.component_table.specs.declared.kinds.TailKind.{TailKind}
+use Rattle.component_table.specs.declared.rows.HeadKind.{HeadKind}
 use Rattle.component_table.specs.Classes.{IsOfClass}
-use Rattle.component_table.specs.Facts.{IsJoint, class_of}
+use Rattle.component_table.specs.Kinds.{IsKindOf, joined_class}
+use Rattle.component_table.specs.Rows.{IsHeadOf}
 use Rattle.component_table.specs.Tables.{HasLegs}
 use Rattle.fare_groups.proofs.Bits.{both_set}
 use Rattle.fare_law.specs.declared.flights.Flight.{Flight}
@@ -13,6 +16,7 @@ use Rattle.fare_law.specs.Book.{Book}
 use Rattle.fare_law.specs.Lists.{Matched, OnFirst, OnLast}
 use Rattle.fare_law.specs.Offers.{flights_of}
 use Rattle.fare_law.specs.Parts.{Numbers}
+use Rattle.flight_paths.specs.declared.positions.Path.{Path}
 use Rattle.flight_paths.specs.declared.positions.Position.{Position}
 use Rattle.residual_keys.specs.AskedKeys.{IsLeg}
 
@@ -76,19 +80,20 @@ legs_both b q fs gs here there h k = record {
 }
 
 -- the classes that are open in both are open in all its legs
-pub joined_classes : (b : Book) (q : Request) (ns ms : List ℕ) (here there : ℕ) → ((fs : List Flight) → Numbers b ns fs → HasLegs b q fs here) → ((fs : List Flight) → Numbers b ms fs → HasLegs b q fs there) → (fs : List Flight) → Numbers b (ns ++ ms) fs → HasLegs b q fs (bit_and here there)
+joined_classes : (b : Book) (q : Request) (ns ms : List ℕ) (here there : ℕ) → ((fs : List Flight) → Numbers b ns fs → HasLegs b q fs here) → ((fs : List Flight) → Numbers b ms fs → HasLegs b q fs there) → (fs : List Flight) → Numbers b (ns ++ ms) fs → HasLegs b q fs (bit_and here there)
 joined_classes b q ns ms here there h k fs m = let x = halves b ns ms fs m in subst (λ gs. HasLegs b q gs (bit_and here there)) (sym x.parts) (legs_both b q x.front x.back here there (h x.front x.fronts) (k x.back x.backs))
 
--- the class of a path that goes on from a head by a tail
-pub joint_class : (b : Book) (q : Request) (j : Joint) → IsJoint b q j → (after : Option Position) → after ≡ j.after.now → (fs : List Flight) → Numbers b (j.head.now.flights ++ j.tail.now.flights) fs → IsOfClass (class_of j) after fs
-joint_class b q j is after same fs m =
-    let x = halves b j.head.now.flights j.tail.now.flights fs m in
-    record {
-      after_is = same;
-      first = subst (OnFirst (λ f. (f.day ≡ j.head.now.first) × (f.carrier ≡ j.head.now.carrier))) (sym x.parts) (first_left (λ f. (f.day ≡ j.head.now.first) × (f.carrier ≡ j.head.now.carrier)) x.front x.back (is.head x.front x.fronts).first);
-      last = subst (OnLast (λ f. (f.to ≡ j.tail.now.end) × (f.day ≡ j.tail.now.last))) (sym x.parts) (last_right (λ f. (f.to ≡ j.tail.now.end) × (f.day ≡ j.tail.now.last)) x.front x.back (is.tail x.back x.backs).last);
-    }
+module _ (b : Book) (q : Request) (ns : List ℕ) (h : HeadKind) (classes : List TailClass) (tail : Path) (k : TailKind) (head : IsHeadOf b q ns h) (kind : IsKindOf b q classes tail k) where
+  -- the class of a path that goes on from a head by a tail
+  pub joint_class : (after : Option Position) → after ≡ tail.after → (fs : List Flight) → Numbers b (ns ++ tail.flights) fs → IsOfClass (joined_class h.carrier h.first kind.class) after fs
+  joint_class after same fs m =
+      let x = halves b ns tail.flights fs m in
+      record {
+        after_is = same ∙ sym kind.after;
+        first = subst (OnFirst (λ f. (f.day ≡ h.first) × (f.carrier ≡ h.carrier))) (sym x.parts) (first_left (λ f. (f.day ≡ h.first) × (f.carrier ≡ h.carrier)) x.front x.back (head x.front x.fronts).first);
+        last = subst (OnLast (λ f. (f.to ≡ kind.class.end) × (f.day ≡ kind.class.last))) (sym x.parts) (last_right (λ f. (f.to ≡ kind.class.end) × (f.day ≡ kind.class.last)) x.front x.back (kind.ends x.back x.backs));
+      }
 
--- and the classes of seats that are open in all its flights
-pub joint_legs : (b : Book) (q : Request) (j : Joint) → IsJoint b q j → (fs : List Flight) → Numbers b (j.head.now.flights ++ j.tail.now.flights) fs → HasLegs b q fs (bit_and j.head.now.classes j.tail.now.classes)
-joint_legs b q j is = joined_classes b q j.head.now.flights j.tail.now.flights j.head.now.classes j.tail.now.classes (λ fs m. (is.head fs m).legs) (λ fs m. (is.tail fs m).legs)
+  -- and the classes of seats that are open in all its flights
+  pub joint_legs : (fs : List Flight) → Numbers b (ns ++ tail.flights) fs → HasLegs b q fs (bit_and h.classes k.classes)
+  joint_legs = joined_classes b q ns tail.flights h.classes k.classes (λ fs m. (head fs m).legs) kind.legs

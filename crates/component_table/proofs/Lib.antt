@@ -10,5 +10,6 @@ pub mod MaskFacts
 pub mod SomeLegs
 pub mod SettledFacts
 pub mod Halves
-pub mod Joints
-pub mod KnownFacts
+pub mod KindFacts
+pub mod RowFacts
+pub mod NetworkFacts

@@ -77,7 +77,7 @@ pub groups_apart : (b : Book) (path : Path) (fs : List Flight) (classes : ℕ) (
     → (g : FareGroup) → IsIn g gs → HasGroup b path fs classes reverse g table
 groups_apart b path fs classes reverse table gs carrier f some first between none = groups_between b path fs classes reverse table gs carrier f some first between (λ i g got low high. absurd (not_between f.from f.to i none low high))
 
-unserved_none : (o : Option Filed) (f : Filed) (i : ℕ) → o ≡ Some f → IsUnserved o → f.from ≤ i → i < f.to → ⊥
+pub unserved_none : (o : Option Filed) (f : Filed) (i : ℕ) → o ≡ Some f → IsUnserved o → f.from ≤ i → i < f.to → ⊥
 unserved_none o f i e unserved = not_between f.from f.to i (subst IsUnserved e unserved)
 
 -- the flights of a path begin with the end's carrier, and end at its place

@@ -89,7 +89,7 @@ settled_added b q at path s classes old done class legs among = record {
 }
 
 module _ (b : Book) (q : Request) (at : Position) where
-  class_on : (s : SettledClass) (old new : List Entry) → Covers old new → ClassDone b q at s old → ClassDone b q at s new
+  pub class_on : (s : SettledClass) (old new : List Entry) → Covers old new → ClassDone b q at s old → ClassDone b q at s new
   class_on s old new c done path fs is of classes legs among r = path_done_on b q at path fs r old new c (done path fs is of classes legs among r)
 
   pub settled_on : (kept : List SettledClass) (old new : List Entry) → Covers old new → AreSettled b q at kept old → AreSettled b q at kept new

@@ -2,17 +2,11 @@
 use Rattle.std.specs.Prelude.{◌≡◌, ℕ, ◌≤◌, ◌<◌, Bool, List, length, slice_get, Option, Some, IsBitSet}
 use Rattle.component_table.specs.declared.classes.PathClass.{PathClass}
 use Rattle.component_table.specs.declared.ends.End.{End}
-use Rattle.component_table.specs.declared.ends.Reach.{Reach}
-use Rattle.component_table.specs.declared.facts.Facts.{Facts}
 use Rattle.component_table.specs.declared.filed.Filed.{Filed}
 use Rattle.component_table.specs.declared.markets.Market.{Market}
-use Rattle.component_table.specs.declared.masks.Masks.{Masks}
-use Rattle.component_table.specs.declared.settled.Filling.{Filling}
 use Rattle.component_table.specs.declared.settled.SettledClass.{SettledClass}
 use Rattle.component_table.specs.declared.ways.Landed.{Landed}
-use Rattle.component_table.specs.Facts.{AreFacts}
-use Rattle.component_table.specs.Masks.{AreMasks}
-use Rattle.component_table.specs.Reaches.{IsEnd, IsReach, filed_of}
+use Rattle.component_table.specs.Reaches.{IsEnd, filed_of}
 use Rattle.component_table.specs.Tables.{HasLegs}
 use Rattle.fare_groups.specs.declared.group.FareGroup.{FareGroup}
 use Rattle.fare_groups.specs.declared.group.GroupedFare.{GroupedFare}
@@ -75,13 +69,3 @@ pub record IsLanded (b : Book) (q : Request) (at : Position) (ms : List Market) 
 -- The table has such a path's groups both ways.
 abbrev pub BothSettled : List Market → Landed → List Flight → List Entry → Type 0
 BothSettled ms l fs table = (reverse : Bool) → WaySettled ms l.end.now l.path.now.after fs l.classes reverse table
-
--- What puts paths of a position into its table has this book, request and position, the markets between its place and others, masks of flights, what is known of tails and of a head, and classes that are settled.
-pub record IsPutting (b : Book) (q : Request) (at : Position) (book : Book) (request : Request) (position : Position) (r : Reach) (ms : Masks) (known : Facts) (f : Filling) : Type 0 where
-  pub book_is : book ≡ b
-  pub request_is : request ≡ q
-  pub at_is : position ≡ at
-  pub reach : IsReach book position.place r
-  pub masks : AreMasks book request ms
-  pub facts : AreFacts book request known
-  pub settled : AreSettled book request position f.settled.kept.items f.table.entries.items

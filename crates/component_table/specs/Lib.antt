@@ -3,6 +3,8 @@ pub mod Masks
 pub mod Reaches
 pub mod Tails
 pub mod Tables
-pub mod Facts
+pub mod Kinds
 pub mod Networks
 pub mod Classes
+pub mod Rows
+pub mod Putting

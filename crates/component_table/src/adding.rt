@@ -1,14 +1,21 @@
 //! The paths of a position and the groups of fares over them, put into its table.
-ghost use Rattle.std.specs.Prelude.{◌≡◌, ◌≢◌, ◌<◌, ◌≤◌, ◌+◌, [], List as Items, length, slice_get, IfOk, IsTrue, OnOk, Some};
-ghost use Rattle.component_table.specs.Classes.{AreSettled, BothSettled, GroupSettled, GroupsSettled, IsLanded, WaySettled};
+ghost use Rattle.std.specs.Prelude.{◌≡◌, ◌≢◌, ◌⊎◌, ◌<◌, ◌≤◌, ◌+◌, [], List as Items, length, slice_get, IfOk, IsTrue, OnOk, Some};
+ghost use Rattle.component_table.specs.declared.kinds.TailClass.{TailClass as OneClass};
+ghost use Rattle.component_table.specs.declared.settled.SettledClass.{SettledClass as OneSettled};
+ghost use Rattle.component_table.specs.Classes.{AreAmong, AreSettled, BothSettled, ClassDone, GroupSettled, GroupsSettled, IsLanded, WaySettled};
 ghost use Rattle.component_table.specs.Markets.{AreMarkets};
 ghost use Rattle.component_table.specs.Masks.{AreMasks};
 ghost use Rattle.component_table.specs.Reaches.{IsEnd, IsReach, IsUnserved, filed_of};
+ghost use Rattle.component_table.specs.Rows.{HasRows};
 ghost use Rattle.component_table.specs.Tables.{Covers, GroupDone, HasRow, IsFlown, IsOfPath, IsOver, IsPathFrom, IsPathOver, IsRowOf, IsServed, MarketDone, PathAdded, WayDone};
 ghost use Rattle.fare_book.specs.Keeping.{Limited};
 ghost use Rattle.fare_law.specs.declared.flights.Flight.{Flight as DatedFlight};
+ghost use Rattle.fare_law.specs.declared.requests.Request.{Request as Asked};
+ghost use Rattle.fare_law.specs.Book.{Book as Version};
 ghost use Rattle.fare_law.specs.Lists.{IsIn, OnFirst, OnLast};
 ghost use Rattle.fare_law.specs.Parts.{Numbers};
+ghost use Rattle.flight_paths.specs.declared.positions.Position.{Position as At};
+ghost use Rattle.outlines.specs.declared.outline.Entry.{Entry as OneEntry};
 ghost use Rattle.outlines.specs.ByGroups.{OutlineOver};
 
 use crate::classes::{ClassKey, PathClass};
@@ -18,7 +25,8 @@ use crate::gathering::{first_flight, flights_of, last_flight};
 use crate::growing::Growing;
 use crate::markets::Market;
 use crate::masks::Masks;
-use crate::settled::Filling;
+use crate::rows::Rows;
+use crate::settled::{Filling, Settled};
 use crate::ways::{Flown, Landed, Origin, Serving};
 use fare_groups::{FareGroup, GroupKey, extra};
 use fare_law::{Flight, MarketSheet, Mem, SheetRow};
@@ -44,6 +52,7 @@ pub fn add_path(
     requires settled { AreSettled origin.now.book.now origin.now.request.now origin.now.at.now filling.old.settled.kept.items filling.old.table.entries.items }
     ensures reach { IsReach origin.now.book.now origin.now.at.now.place reach.new }
     ensures masks { AreMasks origin.now.book.now origin.now.request.now masks.new }
+    ensures rows { (tails : Items OneClass) → HasRows origin.now.book.now origin.now.request.now origin.now.at.now tails filling.old.table.entries.items filling.old.rows → HasRows origin.now.book.now origin.now.request.now origin.now.at.now tails filling.new.table.entries.items filling.new.rows }
     ensures settled { AreSettled origin.now.book.now origin.now.request.now origin.now.at.now filling.new.settled.kept.items filling.new.table.entries.items }
     ensures done { OnOk result (IsPathFrom origin.now.book.now origin.now.request.now origin.now.at.now path.now → PathAdded origin.now.book.now origin.now.request.now origin.now.at.now path.now filling.old.table.entries.items filling.new.table.entries.items) }
 {
@@ -133,16 +142,40 @@ fn add_landed(
     requires landed { IsLanded origin.now.book.now origin.now.request.now origin.now.at.now markets.now landed.now }
     requires limited { Limited origin.now.book.now }
     requires settled { AreSettled origin.now.book.now origin.now.request.now origin.now.at.now filling.old.settled.kept.items filling.old.table.entries.items }
+    ensures rows { (tails : Items OneClass) → HasRows origin.now.book.now origin.now.request.now origin.now.at.now tails filling.old.table.entries.items filling.old.rows → HasRows origin.now.book.now origin.now.request.now origin.now.at.now tails filling.new.table.entries.items filling.new.rows }
     ensures settled { AreSettled origin.now.book.now origin.now.request.now origin.now.at.now filling.new.settled.kept.items filling.new.table.entries.items }
     ensures done { OnOk result (IsPathFrom origin.now.book.now origin.now.request.now origin.now.at.now landed.now.path.now → PathAdded origin.now.book.now origin.now.request.now origin.now.at.now landed.now.path.now filling.old.table.entries.items filling.new.table.entries.items) }
 {
-    if filling.settled.has(&landed.class, landed.classes) {
+    if is_settled(&filling.rows, &mut filling.settled, landed) {
         return Ok(());
     }
     if add_both(&mut filling.table, origin, markets, landed)? {
-        filling.settled.put(&landed.class, landed.classes)?;
+        settle(&mut filling.rows, &mut filling.settled, landed)?;
     }
     Ok(())
+}
+
+/// Whether the class of a path is settled. Of a path of the head and the tails at hand its row has told already that it
+/// isn't.
+fn is_settled(rows: &Rows, settled: &mut Settled, landed: &Landed) -> bool
+    ensures same { settled.new.kept.items ≡ settled.old.kept.items }
+    ensures has { IsTrue result → (one : OneSettled) × IsIn one settled.old.kept.items × (one.class ≡ landed.now.class) × AreAmong landed.now.classes one.classes }
+{
+    if rows.is_at_hand(&landed.class) {
+        return false;
+    }
+    settled.has(&landed.class, landed.classes)
+}
+
+/// Keeps that the class of a path is settled, in the row of the head and the tails at hand if it is theirs.
+fn settle(rows: &mut Rows, settled: &mut Settled, landed: &Landed) -> Result<(), Mem>
+    ensures settled { (one : OneSettled) → IsIn one settled.new.kept.items → IsIn one settled.old.kept.items ⊎ (one ≡ record { class = landed.now.class; classes = landed.now.classes }) }
+    ensures rows { (b : Version) (q : Asked) (at : At) (tails : Items OneClass) (table : Items OneEntry) → ClassDone b q at (record { class = landed.now.class; classes = landed.now.classes }) table → HasRows b q at tails table rows.old → HasRows b q at tails table rows.new }
+{
+    if rows.settle(&landed.class, landed.classes) {
+        return Ok(());
+    }
+    settled.put(&landed.class, landed.classes)
 }
 
 /// Puts in such a path. Returns whether each of its groups then stands at its least share, so that no path of the

@@ -1,8 +1,7 @@
 //! Classes of paths: those of one class have their outlines in common.
 ghost use Rattle.std.specs.Prelude.{◌≡◌, ◌↔◌, IsTrue};
-ghost use Rattle.component_table.specs.Facts.{class_of};
 
-use crate::facts::Joint;
+use crate::kinds::TailClass;
 use crate::recent::{mixed, spot_of};
 use crate::same::same_after;
 use fare_law::{Carrier, Place};
@@ -40,17 +39,6 @@ impl PathClass {
             && self.last == other.last
     }
 
-    /// Whether it is the class of a head and a tail.
-    pub fn is_of(&self, joint: &Joint) -> bool
-        ensures { IsTrue result → self.now ≡ class_of joint.now }
-    {
-        same_after(&self.after, joint.after)
-            && self.end.is(joint.tail.end)
-            && self.carrier.is(joint.head.carrier)
-            && self.first == joint.head.first
-            && self.last == joint.tail.last
-    }
-
     /// The spot of the class.
     pub fn spot(&self) -> usize {
         let head = head_mark(self.carrier, self.first);
@@ -78,15 +66,36 @@ impl ClassKey {
     }
 }
 
+/// A class of tails, packed into numbers, by which places are looked up.
+#[derive(Clone, Copy, PartialEq, Eq, Hash, Debug)]
+pub struct TailKey {
+    range: u64,
+    places: u64,
+    ends: u64,
+}
+
+impl TailKey {
+    /// The key of a class.
+    pub fn of(class: &TailClass) -> TailKey {
+        let [a, b, c] = class.end.0;
+        let [d, e, f, g] = class.last.to_le_bytes();
+        TailKey {
+            range: range_of(&class.after),
+            places: places_of(&class.after),
+            ends: u64::from_le_bytes([a, b, c, d, e, f, g, 0]),
+        }
+    }
+}
+
 /// What the head of a path gives to the spot of its class.
-pub fn head_mark(carrier: Carrier, first: i32) -> u64 {
+fn head_mark(carrier: Carrier, first: i32) -> u64 {
     let [a, b] = carrier.0;
     let [c, d, e, f] = first.to_le_bytes();
     mixed(u64::from_le_bytes([a, b, c, d, e, f, 0, 0]), 0)
 }
 
 /// What the tail of a path gives to it.
-pub fn tail_mark(after: &Option<Position>, end: Place, last: i32) -> u64 {
+fn tail_mark(after: &Option<Position>, end: Place, last: i32) -> u64 {
     let [a, b, c] = end.0;
     let [d, e, f, g] = last.to_le_bytes();
     let ends = u64::from_le_bytes([a, b, c, d, e, f, g, 0]);

@@ -6,15 +6,16 @@
 mod adding;
 mod classes;
 mod ends;
-mod facts;
 mod filed;
 mod gathering;
 mod growing;
+mod kinds;
 mod markets;
 mod masks;
 mod narrowing;
 mod networks;
 mod recent;
+mod rows;
 mod same;
 mod scenes;
 mod settled;
@@ -25,6 +26,6 @@ mod ways;
 
 pub use markets::{Market, MarketKey, Markets};
 pub use masks::Masks;
-pub use networks::{FareTails, Network};
+pub use networks::{FareTails, Network, PlaceTails};
 pub use same::same_position;
 pub use tables::outlines_of;

@@ -1,8 +1,10 @@
 //! The tails that end where a fare is filed from a place or to it.
-ghost use Rattle.std.specs.Prelude.{◌≡◌, ℕ, false, true, IfOk, IfSome, OnOk, Some, unwrap_or};
+ghost use Rattle.std.specs.Prelude.{◌≡◌, ◌<◌, ℕ, false, true, length, IfOk, IfSome, OnOk, Some, unwrap_or};
 ghost use Rattle.component_table.specs.Networks.{AreTailsOver};
 ghost use Rattle.component_table.specs.Tails.{AreTailsFrom, HasNoFares, KnowsEnds};
 ghost use Rattle.fare_law.specs.declared.requests.Request.{Request as Asked};
+ghost use Rattle.fare_law.specs.Lists.{Each};
+ghost use Rattle.flight_paths.specs.Heads.{chosen};
 ghost use Rattle.indexmap.specs.IndexMap.{get};
 
 use crate::gathering::schedule_of;
@@ -68,15 +70,16 @@ impl Ends for FareEnds {
     }
 }
 
-/// The tails that end where a fare is filed from a place or to it. Each of some ends is asked for once.
+/// The numbers of the tails that end where a fare is filed from a place or to it. Each of some ends is asked for once.
 pub fn fare_tails(
     alloc: Global,
     book: &Book,
     from: Place,
     tails: &[Path],
     ends: &IndexSet<Place>,
-) -> Result<List<Path>, Mem>
-    ensures { IfOk result (λ some. (q : Asked) (slice : ℕ) → AreTailsOver book.now q.slices slice tails.now → AreTailsFrom book.now q from slice some) }
+) -> Result<List<usize>, Mem>
+    ensures within { IfOk result (λ numbers. Each (λ n. n < length tails.now) numbers) }
+    ensures tails { IfOk result (λ numbers. (q : Asked) (slice : ℕ) → AreTailsOver book.now q.slices slice tails.now → AreTailsFrom book.now q from slice (chosen tails.now numbers)) }
 {
     let ends = fare_ends(alloc, book, from, ends)?;
     tails_to(alloc, schedule_of(book), tails, &ends)

@@ -1,21 +1,19 @@
 //! What is found once for a search, and kept for all its positions.
-ghost use Rattle.std.specs.Prelude.{IfOk, IfSome};
-ghost use Rattle.component_table.specs.declared.networks.SliceTails.{SliceTails as OneSliceTails};
-ghost use Rattle.component_table.specs.Facts.{AreTailFacts};
-ghost use Rattle.component_table.specs.Networks.{IsNetwork, TailsStand};
+ghost use Rattle.std.specs.Prelude.{◌<◌, ℕ, IfOk, IfSome};
+ghost use Rattle.component_table.specs.Networks.{ArePlaceTails, IsNetwork, TailsStand};
 ghost use Rattle.component_table.specs.Tails.{FareTailsStand};
+ghost use Rattle.fare_law.specs.declared.names.Place.{Place as PlaceName};
 ghost use Rattle.fare_law.specs.declared.requests.Request.{Request as Asked};
 ghost use Rattle.fare_law.specs.Book.{Book as Version};
-ghost use Rattle.fare_law.specs.Lists.{Each};
 
-use crate::facts::{TailFacts, facts_of, numbers_of};
 use crate::gathering::schedule_of;
+use crate::kinds::{Kinds, kinds_of};
 use crate::markets::Markets;
 use crate::masks::Masks;
 use crate::narrowing::{ends_of, fare_tails};
 use fare_book::Book;
 use fare_law::{List, Mem, Place, Request};
-use flight_paths::{Path, tails};
+use flight_paths::{Path, SomeTails, tails};
 use indexmap::{IndexMap, IndexSet};
 use std::alloc::Global;
 
@@ -25,7 +23,7 @@ pub struct SliceTails {
     pub slice: u8,
     pub paths: List<Path>,
     /// What is known of them.
-    pub facts: Vec<TailFacts>,
+    pub kinds: Kinds,
     /// Where they end.
     pub ends: IndexSet<Place>,
 }
@@ -35,11 +33,17 @@ pub struct SliceTails {
 pub struct FareTails {
     pub place: Place,
     pub slice: u8,
-    pub paths: List<Path>,
-    /// Where the tails of the slice may stand.
+    /// Where the tails of the slice stand.
     pub among: usize,
-    /// Where the facts of each path may stand among those of the slice.
-    pub numbers: Vec<u32>,
+    /// Their numbers among those of the slice.
+    pub numbers: List<usize>,
+}
+
+/// The tails of a slice that a place needs, and what is known of the tails of the slice.
+#[derive(Clone, Copy)]
+pub struct PlaceTails<'a> {
+    pub some: SomeTails<'a>,
+    pub kinds: &'a Kinds,
 }
 
 /// What the tails of a slice that a place needs are looked up by.
@@ -91,12 +95,12 @@ impl Network {
         }
         let at = self.tails.len();
         let paths = tails(alloc, schedule_of(book), request, slice)?;
-        let facts = facts_of(alloc, book, request, &mut self.masks, paths.as_slice())?;
+        let kinds = kinds_of(alloc, book, request, &mut self.masks, paths.as_slice())?;
         let ends = ends_of(alloc, book, paths.as_slice())?;
         self.tails.push(SliceTails {
             slice,
             paths,
-            facts,
+            kinds,
             ends,
         })?;
         Ok(at)
@@ -121,28 +125,35 @@ impl Network {
         }
         let among = self.find_tails(alloc, book, request, slice)?;
         let all = &self.tails[among];
-        let paths = fare_tails(alloc, book, place, all.paths.as_slice(), &all.ends)?;
-        let numbers = numbers_of(alloc, all.facts.as_slice(), paths.as_slice())?;
+        let numbers = fare_tails(alloc, book, place, all.paths.as_slice(), &all.ends)?;
         let at = self.fare_tails.len();
         self.places.insert(TailsKey { place, slice }, at)?;
         self.fare_tails.push(FareTails {
             place,
             slice,
-            paths,
             among,
             numbers,
         })?;
         Ok(at)
     }
-}
 
-/// What is known of the tails of a slice that stand at a place. Nothing, if there are none.
-pub fn facts_at(tails: &[SliceTails], at: usize) -> &[TailFacts]
-    ensures { (b : Version) (q : Asked) → Each (λ (t : OneSliceTails). AreTailFacts b q t.facts.items) tails.now → AreTailFacts b q result.now }
-{
-    match tails.get(at) {
-        Some(tails) => tails.facts.as_slice(),
-        None => &[],
+    /// The tails of a slice that a place needs, which stand there.
+    pub fn tails_at(&self, book: &Book, request: &Request, at: usize) -> PlaceTails<'_>
+        requires network { IsNetwork book.now request.now self.now }
+        requires tails { (place : PlaceName) × (slice : ℕ) × FareTailsStand self.now.fare_tails.items place slice at }
+        ensures { (place : PlaceName) (slice : ℕ) → FareTailsStand self.now.fare_tails.items place slice at → ArePlaceTails book.now request.now place slice result }
+    {
+        let _ = book;
+        let _ = request;
+        let numbered = &self.fare_tails[at];
+        let slice = &self.tails[numbered.among];
+        PlaceTails {
+            some: SomeTails {
+                all: slice.paths.as_slice(),
+                numbers: numbered.numbers.as_slice(),
+            },
+            kinds: &slice.kinds,
+        }
     }
 }
 

@@ -1,10 +1,12 @@
 //! Names what paths are put in for, so that a visitor of them may speak of it.
 use std::marker::Brand;
 
-/// Names a book, a request and a position. A call picks them.
+/// Names a book, a request, a position, and the tails of the next slice. A call picks them.
 pub trait Scene {
     ghost use Rattle.fare_law.specs.declared.requests.Request.{Request};
     ghost use Rattle.fare_law.specs.Book.{Book};
+    ghost use Rattle.std.specs.Prelude.{List};
+    ghost use Rattle.flight_paths.specs.declared.positions.Path.{Path};
     ghost use Rattle.flight_paths.specs.declared.positions.Position.{Position};
 
     ghost book: { Book };
@@ -12,6 +14,8 @@ pub trait Scene {
     ghost request: { Request };
 
     ghost at: { Position };
+
+    ghost tails: { List Path };
 }
 
 impl Scene for Brand {
@@ -22,4 +26,6 @@ impl Scene for Brand {
     ghost request = { record { sale = pos 0; party = 0; best = 0; slices = [] } };
 
     ghost at = { record { slice = 0; leg = 0; place = record { 0 = [] }; via = None; lo = 0; hi = 0 } };
+
+    ghost tails = { [] };
 }

@@ -3,13 +3,12 @@
 ghost use Rattle.std.specs.Prelude.{◌≡◌, ◌⊎◌, [], IfSome, IsTrue};
 ghost use Rattle.component_table.specs.declared.settled.SettledClass.{SettledClass as OneSettled};
 ghost use Rattle.component_table.specs.Classes.{AreAmong, IsSettledAt};
-ghost use Rattle.component_table.specs.Facts.{class_of};
 ghost use Rattle.fare_law.specs.Lists.{IsIn};
 
 use crate::classes::{ClassKey, PathClass};
-use crate::facts::Joint;
 use crate::growing::Growing;
 use crate::recent::Recent;
+use crate::rows::Rows;
 use fare_law::Mem;
 use indexmap::IndexMap;
 use std::alloc::Global;
@@ -32,11 +31,12 @@ pub struct Settled {
     pub recent: Recent,
 }
 
-/// A table as it grows, with the classes of paths that are settled.
+/// A table as it grows, with the classes of paths that are settled, and the rows of heads by classes of tails.
 #[derive(Drop)]
 pub struct Filling {
     pub table: Growing,
     pub settled: Settled,
+    pub rows: Rows,
 }
 
 impl Settled {
@@ -78,20 +78,6 @@ impl Settled {
         }
     }
 
-    /// Whether the class of a head and a tail was asked for of late, and is settled for the classes of seats that are
-    /// open in both.
-    pub fn recalls(&self, joint: &Joint, classes: u32) -> bool
-        ensures { IsTrue result → (one : OneSettled) × IsIn one self.now.kept.items × (one.class ≡ class_of joint.now) × AreAmong classes one.classes }
-    {
-        let Some(at) = self.recent.get(joint.spot()) else {
-            return false;
-        };
-        match self.kept.as_slice().get(at) {
-            Some(one) => one.class.is_of(joint) && are_among(classes, one.classes),
-            None => false,
-        }
-    }
-
     /// Keeps that a class is settled for its paths on which these classes of seats are open.
     pub fn put(&mut self, class: &PathClass, classes: u32) -> Result<(), Mem>
         ensures { (one : OneSettled) → IsIn one self.new.kept.items → IsIn one self.old.kept.items ⊎ (one ≡ record { class = class.now; classes = classes }) }
@@ -122,7 +108,7 @@ fn known(kept: &[SettledClass], found: Option<usize>, class: &PathClass) -> Opti
 }
 
 /// Whether these classes of seats are all among others.
-fn are_among(classes: u32, others: u32) -> bool
+pub fn are_among(classes: u32, others: u32) -> bool
     ensures { IsTrue result → AreAmong classes others }
 {
     classes & others == classes

@@ -1,55 +1,108 @@
 //! Paths that need not be put into a table, told by their heads and tails before they are made.
-ghost use Rattle.std.specs.Prelude.{◌≡◌, ◌++◌, IsTrue, List as Items, bit_and};
-ghost use Rattle.component_table.specs.Classes.{AreSettled};
-ghost use Rattle.component_table.specs.Facts.{IsJoint};
+ghost use Rattle.std.specs.Prelude.{◌≡◌, ◌<◌, ◌≤◌, ℕ, IfSome, IsTrue, List as Items, Some, bit_and, length, slice_get};
+ghost use Rattle.component_table.specs.Classes.{AreAmong, ClassDone};
+ghost use Rattle.component_table.specs.Kinds.{AreKinds};
 ghost use Rattle.component_table.specs.Reaches.{IsReach};
-ghost use Rattle.component_table.specs.Tables.{AddsNothing};
+ghost use Rattle.component_table.specs.Rows.{HasRows, IsHeadOf, IsKnownIn, IsRowAt, TailAddsNothing};
+ghost use Rattle.flight_paths.specs.declared.positions.Path.{Path as PathData};
 ghost use Rattle.outlines.specs.declared.outline.Entry.{Entry as OneEntry};
 
 use crate::adding::{end_at, is_unserved};
+use crate::classes::PathClass;
 use crate::ends::{EndKey, Reach};
-use crate::facts::Joint;
-use crate::settled::Filling;
+use crate::kinds::Kinds;
+use crate::rows::{HeadKind, Rows};
+use crate::settled::are_among;
 use crate::ways::Origin;
 
-/// Whether the path that goes on from a head by a tail adds nothing to the table: where the carrier of its first flight
-/// has no fare to its end or from it, where no class of seats is open in every leg, and where its class is settled. The
-/// ends come first, since there are few of them, so that they stay near.
-pub fn adds_nothing(filling: &mut Filling, reach: &Reach, origin: &Origin, joint: &Joint) -> bool
-    requires reach { IsReach origin.now.book.now origin.now.at.now.place reach.now }
-    requires joint { IsJoint origin.now.book.now origin.now.request.now joint.now }
-    requires settled { AreSettled origin.now.book.now origin.now.request.now origin.now.at.now filling.old.settled.kept.items filling.old.table.entries.items }
-    ensures kept { filling.new.settled.kept.items ≡ filling.old.settled.kept.items }
-    ensures table { filling.new.table.entries.items ≡ filling.old.table.entries.items }
-    ensures nothing { IsTrue result → AddsNothing origin.now.book.now origin.now.request.now origin.now.at.now (joint.now.head.now.flights ++ joint.now.tail.now.flights) joint.now.after.now filling.old.table.entries.items }
-{
-    let classes = joint.head.classes & joint.tail.classes;
-    if is_closed(reach, origin, joint, classes) {
-        return true;
-    }
-    if filling.settled.recalls(joint, classes) {
-        return true;
-    }
-    filling.settled.has(&joint.class(), classes)
+/// A head that was met, and what tells which of the paths that begin with it add nothing.
+#[derive(Clone, Copy)]
+pub struct Met<'a> {
+    pub origin: Origin<'a>,
+    pub reach: &'a Reach,
+    pub kinds: &'a Kinds,
+    pub head: HeadKind,
 }
 
-/// Whether the carrier of the first flight has no fare to the end or from it, or no class of seats is open.
-fn is_closed(reach: &Reach, origin: &Origin, joint: &Joint, classes: u32) -> bool
-    requires reach { IsReach origin.now.book.now origin.now.at.now.place reach.now }
-    requires joint { IsJoint origin.now.book.now origin.now.request.now joint.now }
-    requires classes { classes ≡ bit_and joint.now.head.now.classes joint.now.tail.now.classes }
-    ensures { IsTrue result → (table : Items OneEntry) → AddsNothing origin.now.book.now origin.now.request.now origin.now.at.now (joint.now.head.now.flights ++ joint.now.tail.now.flights) joint.now.after.now table }
+/// How many of the first tails of these numbers make paths with the head that add nothing to the table.
+pub fn skipped(rows: &mut Rows, met: &Met, numbers: &[usize]) -> usize
+    requires reach { IsReach met.now.origin.book.now met.now.origin.at.now.place met.now.reach.now }
+    requires row { IsRowAt rows.old.kept.items met.now.head.carrier met.now.head.first met.now.head.row }
+    ensures rows { (table : Items OneEntry) → HasRows met.now.origin.book.now met.now.origin.request.now met.now.origin.at.now met.now.kinds.now.classes.items table rows.old → HasRows met.now.origin.book.now met.now.origin.request.now met.now.origin.at.now met.now.kinds.now.classes.items table rows.new }
+    ensures within { result ≤ length numbers.now }
+    ensures nothing { (table : Items OneEntry) → HasRows met.now.origin.book.now met.now.origin.request.now met.now.origin.at.now met.now.kinds.now.classes.items table rows.old → (head : Items ℕ) → IsHeadOf met.now.origin.book.now met.now.origin.request.now head met.now.head → (tails : Items PathData) → AreKinds met.now.origin.book.now met.now.origin.request.now tails met.now.kinds.now → (i number : ℕ) → i < result → slice_get numbers.now i ≡ Some number → TailAddsNothing met.now.origin.book.now met.now.origin.request.now met.now.origin.at.now tails table head number }
 {
-    origin.book.limits();
-    let key = EndKey {
-        place: joint.tail.end,
-        carrier: joint.head.carrier,
-    };
-    let Some(at) = reach.recall(key) else {
+    let mut run = 0;
+    for number in numbers {
+        if !adds_nothing(rows, met, *number) {
+            return run;
+        }
+        run += 1;
+    }
+    run
+}
+
+/// Whether the path that goes on from the head by the tail of this number adds nothing to the table: where its row says
+/// so, or what is filed, which is then kept in the row. Where it may add something, the tail's class is at hand.
+fn adds_nothing(rows: &mut Rows, met: &Met, number: usize) -> bool
+    requires reach { IsReach met.now.origin.book.now met.now.origin.at.now.place met.now.reach.now }
+    requires row { IsRowAt rows.old.kept.items met.now.head.carrier met.now.head.first met.now.head.row }
+    ensures rows { (table : Items OneEntry) → HasRows met.now.origin.book.now met.now.origin.request.now met.now.origin.at.now met.now.kinds.now.classes.items table rows.old → HasRows met.now.origin.book.now met.now.origin.request.now met.now.origin.at.now met.now.kinds.now.classes.items table rows.new }
+    ensures row { IsRowAt rows.new.kept.items met.now.head.carrier met.now.head.first met.now.head.row }
+    ensures nothing { IsTrue result → (table : Items OneEntry) → HasRows met.now.origin.book.now met.now.origin.request.now met.now.origin.at.now met.now.kinds.now.classes.items table rows.old → (head : Items ℕ) → IsHeadOf met.now.origin.book.now met.now.origin.request.now head met.now.head → (tails : Items PathData) → AreKinds met.now.origin.book.now met.now.origin.request.now tails met.now.kinds.now → TailAddsNothing met.now.origin.book.now met.now.origin.request.now met.now.origin.at.now tails table head number }
+{
+    let Some(kind) = met.kinds.of.as_slice().get(number) else {
         return false;
     };
-    if is_unserved(end_at(reach.ends.as_slice(), at)) {
+    let classes = met.head.classes & kind.classes;
+    if is_known(rows, met.head.row, kind.class, classes) {
         return true;
     }
-    classes == 0
+    let Some(class) = met.kinds.classes.as_slice().get(kind.class) else {
+        return false;
+    };
+    match filed_for(met, &met.head.joined(class), classes) {
+        Some(mask) => {
+            rows.put(met.head.row, kind.class, mask);
+            are_among(classes, mask)
+        }
+        None => {
+            rows.take(kind.class, class);
+            false
+        }
+    }
+}
+
+/// Whether these classes of seats are among those that are known in a row for a class of tails.
+fn is_known(rows: &Rows, row: usize, class: usize, classes: u32) -> bool
+    ensures { IsTrue result → (mask : ℕ) × IsKnownIn rows.now.kept.items row class mask × AreAmong classes mask }
+{
+    match rows.mask(row, class) {
+        Some(mask) => are_among(classes, mask),
+        None => false,
+    }
+}
+
+/// For which classes of seats the paths of a class are done by what is filed: for all where the carrier of the first flight
+/// has no fare to the end or from it, and for none where none is asked about.
+fn filed_for(met: &Met, class: &PathClass, classes: u32) -> Option<u32>
+    requires reach { IsReach met.now.origin.book.now met.now.origin.at.now.place met.now.reach.now }
+    ensures { IfSome result (λ mask. (table : Items OneEntry) → ClassDone met.now.origin.book.now met.now.origin.request.now met.now.origin.at.now (record { class = class.now; classes = mask }) table) }
+{
+    met.origin.book.limits();
+    let at = met.reach.recall(key_of(class))?;
+    if is_unserved(end_at(met.reach.ends.as_slice(), at)) {
+        return Some(u32::MAX);
+    }
+    if classes == 0 { Some(0) } else { None }
+}
+
+/// What the end of a class is asked for by.
+fn key_of(class: &PathClass) -> EndKey
+    ensures { result ≡ record { place = class.now.end; carrier = class.now.carrier } }
+{
+    EndKey {
+        place: class.end,
+        carrier: class.carrier,
+    }
 }

@@ -1,24 +1,21 @@
 //! The table of a position, path by path.
-ghost use Rattle.std.specs.Prelude.{◌≡◌, ◌<◌, IfOk, length};
-ghost use Rattle.component_table.specs.Facts.{AreFacts};
+ghost use Rattle.std.specs.Prelude.{◌≡◌, ◌<◌, ◌+◌, IfOk, length};
 ghost use Rattle.component_table.specs.Markets.{AreMarkets};
 ghost use Rattle.component_table.specs.Masks.{AreMasks};
-ghost use Rattle.component_table.specs.Networks.{IsNetwork};
+ghost use Rattle.component_table.specs.Networks.{ArePlaceTails, IsNetwork};
 ghost use Rattle.component_table.specs.Tables.{IsTable};
-ghost use Rattle.component_table.specs.Tails.{AreFareTails};
 ghost use Rattle.fare_law.specs.Limits.{IsRequest};
 
-use crate::facts::Facts;
 use crate::gathering::schedule_of;
 use crate::markets::Markets;
 use crate::masks::Masks;
-use crate::networks::{Network, facts_at};
+use crate::networks::{Network, PlaceTails};
 use crate::scenes::Scene;
 use crate::visiting::{Made, Putting};
 use crate::ways::Origin;
 use fare_book::Book;
 use fare_law::{List, Mem, Request};
-use flight_paths::{Path, Position, visit_paths};
+use flight_paths::{Position, visit_paths};
 use outlines::Entry;
 use std::alloc::Global;
 use std::marker::Brand;
@@ -48,20 +45,8 @@ pub fn outlines_of(
     };
     let markets = mem::replace(&mut network.markets, Markets::new(alloc));
     let masks = mem::replace(&mut network.masks, Masks::new(alloc));
-    let tails = &network.fare_tails[at];
-    let facts = Facts {
-        tails: facts_at(network.tails.as_slice(), tails.among),
-        numbers: tails.numbers.as_slice(),
-        head: None,
-    };
-    let made = made::<Brand>(
-        alloc,
-        &origin,
-        tails.paths.as_slice(),
-        facts,
-        markets,
-        masks,
-    )?;
+    let tails = network.tails_at(book, request, at);
+    let made = made::<Brand>(alloc, &origin, &tails, markets, masks)?;
     network.markets = made.markets;
     network.masks = made.masks;
     Ok(List::from_vec(made.entries))
@@ -72,8 +57,7 @@ pub fn outlines_of(
 fn made<S: Scene>(
     alloc: Global,
     origin: &Origin<'_>,
-    tails: &[Path],
-    facts: Facts<'_>,
+    tails: &PlaceTails<'_>,
     markets: Markets,
     masks: Masks,
 ) -> Result<Made, Mem>
@@ -83,19 +67,19 @@ fn made<S: Scene>(
     requires known { origin.now.at.now.slice < length origin.now.request.now.slices }
     requires markets { AreMarkets origin.now.book.now markets.kept.items }
     requires masks { AreMasks origin.now.book.now origin.now.request.now masks }
-    requires tails { AreFareTails origin.now.book.now origin.now.request.now origin.now.at.now tails.now }
-    requires facts { AreFacts origin.now.book.now origin.now.request.now facts }
+    requires all { tails.now.some.all.now ≡ S.tails }
+    requires tails { ArePlaceTails origin.now.book.now origin.now.request.now origin.now.at.now.place (origin.now.at.now.slice + 1) tails.now }
     ensures table { IfOk result (λ made. IsTable origin.now.book.now origin.now.request.now origin.now.at.now made.entries.items) }
     ensures markets { IfOk result (λ made. AreMarkets origin.now.book.now made.markets.kept.items) }
     ensures masks { IfOk result (λ made. AreMasks origin.now.book.now origin.now.request.now made.masks) }
 {
-    let mut putting: Putting<'_, S> = Putting::new(alloc, origin, facts, markets, masks);
+    let mut putting: Putting<'_, S> = Putting::new(alloc, origin, tails.kinds, markets, masks);
     visit_paths(
         alloc,
         schedule_of(origin.book),
         origin.request,
         origin.at,
-        tails,
+        &tails.some,
         &mut putting,
     )?;
     Ok(putting.finish())

@@ -1,19 +1,20 @@
 //! What puts the paths that it visits into a table.
 ghost use Rattle.std.specs.Prelude.{◌≡◌, []};
-ghost use Rattle.component_table.specs.Facts.{AreFacts};
+ghost use Rattle.component_table.specs.Kinds.{AreKinds};
 ghost use Rattle.component_table.specs.Markets.{AreMarkets};
 ghost use Rattle.component_table.specs.Masks.{AreMasks};
 ghost use Rattle.component_table.specs.Tables.{PutsIn};
 
 use crate::adding::add_path;
 use crate::ends::Reach;
-use crate::facts::Facts;
 use crate::growing::Growing;
+use crate::kinds::Kinds;
 use crate::markets::Markets;
 use crate::masks::Masks;
+use crate::rows::Rows;
 use crate::scenes::Scene;
 use crate::settled::{Filling, Settled};
-use crate::skipping::adds_nothing;
+use crate::skipping::{Met, skipped};
 use crate::ways::Origin;
 use fare_law::Mem;
 use flight_paths::{Path, PathVisitor};
@@ -28,7 +29,7 @@ pub struct Putting<'a, S: Scene> {
     origin: Origin<'a>,
     reach: Reach,
     masks: Masks,
-    facts: Facts<'a>,
+    kinds: &'a Kinds,
     filling: Filling,
     of: PhantomData<S>,
 }
@@ -43,18 +44,20 @@ pub struct Made {
 
 impl<'a, S: Scene> Model for Putting<'a, S> {
     ghost use Rattle.std.specs.Prelude.{List};
-    ghost use Rattle.component_table.specs.Classes.{IsPutting};
+    ghost use Rattle.component_table.specs.Putting.{IsPutting};
     ghost use Rattle.outlines.specs.declared.outline.Entry.{Entry as OneEntry};
 
     ghost Value = { List OneEntry };
 
     ghost view = { λ p. p.filling.table.entries.items };
 
-    ghost invariant = { λ p. IsPutting S.book S.request S.at p.origin.book.now p.origin.request.now p.origin.at.now p.reach p.masks p.facts p.filling };
+    ghost invariant = { λ p. IsPutting S.book S.request S.at S.tails p.origin.book.now p.origin.request.now p.origin.at.now p.reach p.masks p.kinds.now p.filling };
 }
 
 impl<'a, S: Scene> PathVisitor for Putting<'a, S> {
     ghost told = { λ v paths. PutsIn (record { book = S.book; request = S.request; at = S.at; entries = v }) paths };
+
+    ghost knows = { λ tails. tails ≡ S.tails };
 
     fn visit(&mut self, path: &Path) -> Result<(), Mem> {
         add_path(
@@ -67,12 +70,20 @@ impl<'a, S: Scene> PathVisitor for Putting<'a, S> {
         )
     }
 
-    fn skips(&mut self, head: &Path, tail: &Path, number: usize) -> bool {
-        self.facts.meet(&self.origin, &mut self.masks, head);
-        match self.facts.joint(tail, number) {
-            Some(joint) => adds_nothing(&mut self.filling, &self.reach, &self.origin, &joint),
-            None => false,
-        }
+    fn skips(&mut self, head: &Path, numbers: &[usize]) -> usize {
+        let width = self.kinds.classes.len();
+        let rows = &mut self.filling.rows;
+        rows.meet(self.alloc, &self.origin, &mut self.masks, width, head);
+        let Some(kind) = rows.at_hand() else {
+            return 0;
+        };
+        let met = Met {
+            origin: self.origin,
+            reach: &self.reach,
+            kinds: self.kinds,
+            head: kind,
+        };
+        skipped(&mut self.filling.rows, &met, numbers)
     }
 }
 
@@ -81,7 +92,7 @@ impl<'a, S: Scene> Putting<'a, S> {
     pub fn new(
         alloc: Global,
         origin: &Origin<'a>,
-        facts: Facts<'a>,
+        kinds: &'a Kinds,
         markets: Markets,
         masks: Masks,
     ) -> Putting<'a, S>
@@ -90,7 +101,7 @@ impl<'a, S: Scene> Putting<'a, S> {
         requires at { origin.now.at.now ≡ S.at }
         requires markets { AreMarkets origin.now.book.now markets.kept.items }
         requires masks { AreMasks origin.now.book.now origin.now.request.now masks }
-        requires facts { AreFacts origin.now.book.now origin.now.request.now facts }
+        requires kinds { AreKinds origin.now.book.now origin.now.request.now S.tails kinds.now }
         ensures { result ≡ [] }
     {
         Putting {
@@ -98,10 +109,11 @@ impl<'a, S: Scene> Putting<'a, S> {
             origin: *origin,
             reach: Reach::new(alloc, origin.book, origin.at.place, markets),
             masks,
-            facts,
+            kinds,
             filling: Filling {
                 table: Growing::new(alloc),
                 settled: Settled::new(alloc),
+                rows: Rows::new(alloc),
             },
             of: PhantomData,
         }

@@ -1,5 +1,5 @@
 //! The paths of a position that end where a fare is filed from its place or to it.
-ghost use Rattle.std.specs.Prelude.{◌≡◌, ◌<◌, IfOk, length};
+ghost use Rattle.std.specs.Prelude.{◌≡◌, ◌<◌, IfOk, length, ⊤};
 ghost use Rattle.component_table.specs.Networks.{IsNetwork};
 ghost use Rattle.fare_law.specs.Limits.{IsRequest};
 ghost use Rattle.search_steps.specs.Settling.{AreServed};
@@ -18,6 +18,8 @@ struct Seen {
 
 impl PathVisitor for Seen {
     ghost told = { λ s paths. s.paths.items ≡ paths };
+
+    ghost knows = { λ tails. ⊤ };
 
     fn visit(&mut self, path: &Path) -> Result<(), Mem> {
         self.paths.push(path.copied())?;
@@ -39,10 +41,17 @@ pub fn served_paths(
     ensures paths { IfOk result (AreServed case.now.book.now case.now.request.now at.now) }
 {
     let place = network.find_fare_tails(alloc, case.book, case.request, at.place, at.slice + 1)?;
-    let tails = network.fare_tails[place].paths.as_slice();
+    let tails = network.tails_at(case.book, case.request, place);
     let mut seen = Seen {
         paths: Vec::new(alloc),
     };
-    visit_paths(alloc, case.schedule(), case.request, at, tails, &mut seen)?;
+    visit_paths(
+        alloc,
+        case.schedule(),
+        case.request,
+        at,
+        &tails.some,
+        &mut seen,
+    )?;
     Ok(List::from_vec(seen.paths))
 }

@@ -7,7 +7,7 @@ use Rattle.flight_paths.specs.Heads.{AreReached, Saw}
 use Rattle.component_table.proofs.tables.made.Goals as goal
 
 pub visit_paths-requires-clause-tails : goal.visit_paths-requires-clause-tails
-visit_paths-requires-clause-tails g c = λ x plan. (c.requires.tails.tails_to x (record { places = plan.places ∙ sym c.schedule_of.ensures.places; flights = plan.flights ∙ sym c.schedule_of.ensures.flights })).are
+visit_paths-requires-clause-tails g c = λ x plan. (c.requires.tails.are.tails_to x (record { places = plan.places ∙ sym c.schedule_of.ensures.places; flights = plan.flights ∙ sym c.schedule_of.ensures.flights })).are
 
 pub returns-clause-table : goal.returns-clause-table
 returns-clause-table g c =
@@ -16,7 +16,7 @@ returns-clause-table g c =
     let q = g.S.Scene.request in
     let at = g.S.Scene.at in
     let new = c.visit_paths.new.visitor in
-    let t = c.requires.tails in
+    let t = c.requires.tails.are in
     let saw = c.in_ok-visit_paths.ensures o.book.now c.schedule_of.ensures t.wanted (t.tails_to o.book.now (record { places = refl; flights = refl })).all in
     let begun = subst (λ es. Saw (PutsIn (record { book = b; request = q; at = at; entries = es })) (PutsIn (record { book = b; request = q; at = at; entries = new })) (AreReached o.book.now o.request.now.slices o.at.now t.wanted)) c.new-putting.ensures saw in
     subst (IsTable o.book.now o.request.now o.at.now) (sym c.finish.ensures.entries) (table_for b q at o.book.now o.request.now o.at.now c.requires.book c.requires.request c.requires.at new t.wanted t.others begun)

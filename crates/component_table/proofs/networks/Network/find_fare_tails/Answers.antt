@@ -1,12 +1,14 @@
-use Rattle.std.proofs.Common.{◌≡◌, [], ◌∷◌, ◌++◌, ap, length, refl, slice_get, subst, sym, vec_len, ◌∙◌, arith}
+use Rattle.std.proofs.Common.{◌≡◌, ◌<◌, List, [], ◌∷◌, ◌++◌, ap, length, refl, slice_get, subst, sym, vec_len, ◌∙◌, arith}
 use Rattle.component_table.specs.declared.networks.FareTails.{FareTails}
 use Rattle.component_table.specs.declared.networks.SliceTails.{SliceTails}
-use Rattle.component_table.specs.Networks.{AreTailsOver}
+use Rattle.component_table.specs.Networks.{AreFareTailsOf, AreTailsOver}
 use Rattle.component_table.specs.Tails.{AreTailsFrom}
 use Rattle.component_table.proofs.PathFacts.{got_is, got_lt, last_got}
 use Rattle.component_table.proofs.ReachFacts.{each_last}
 use Rattle.fare_groups.proofs.Grouped.{each_in}
 use Rattle.fare_law.specs.Lists.{Each}
+use Rattle.flight_paths.specs.declared.positions.Path.{Path}
+use Rattle.flight_paths.specs.Heads.{chosen}
 use Rattle.residual_keys.proofs.Sheeted.{got_in}
 use Rattle.component_table.proofs.networks.Network.find_fare_tails.Goals as goal
 
@@ -24,22 +26,28 @@ returns-clause-network c =
     let n = c.in_ok-among.ensures.network in
     let s = c.in_ok-among.ensures.tails in
     let ts = c.find_tails.new.self.tails.items in
-    let t : FareTails = record { place = c.args.place; slice = c.args.slice; paths = c.in_ok-paths.paths; among = c.in_ok-among.among; numbers = c.in_ok-numbers.numbers } in
+    let t : FareTails = record { place = c.args.place; slice = c.args.slice; among = c.in_ok-among.among; numbers = c.in_ok-numbers.numbers } in
     let same = c.index-all.ensures ∙ got_is ts c.in_ok-among.among c.index-all.result.now s.kept s.stands in
     let are = each_in (λ (x : SliceTails). AreTailsOver b q.slices x.slice x.paths) ts s.kept n.tails (got_in ts c.in_ok-among.among s.kept s.stands) in
-    let over = subst (AreTailsOver b q.slices c.args.slice) (sym (c.as_slice-2.ensures ∙ ap (λ (x : SliceTails). x.paths) same)) (subst (λ i. AreTailsOver b q.slices i s.kept.paths) s.slice_is are) in
+    let paths = c.as_slice-2.ensures ∙ ap (λ (x : SliceTails). x.paths) same in
+    let over = subst (AreTailsOver b q.slices c.args.slice) (sym paths) (subst (λ i. AreTailsOver b q.slices i s.kept.paths) s.slice_is are) in
+    let own : AreFareTailsOf b q ts t = record {
+      among = s.kept;
+      stands = s.stands;
+      within = subst (λ (ps : List Path). Each (λ i. i < length ps) c.in_ok-numbers.numbers) paths c.in_ok-numbers.ensures.within;
+      are = subst (λ ps. AreTailsFrom b q c.args.place c.args.slice (chosen ps c.in_ok-numbers.numbers)) paths (c.in_ok-numbers.ensures.tails q c.args.slice over);
+    } in
     record {
       markets = n.markets;
       tails = n.tails;
       masks = n.masks;
-      facts = n.facts;
-      fare_tails = subst (Each (λ (x : FareTails). AreTailsFrom b q x.place x.slice x.paths)) (sym c.in_ok-push.ensures.items)
-          (each_last (λ (x : FareTails). AreTailsFrom b q x.place x.slice x.paths) c.find_tails.new.self.fare_tails.items t n.fare_tails (c.in_ok-paths.ensures q c.args.slice over));
+      kinds = n.kinds;
+      fare_tails = subst (Each (AreFareTailsOf b q ts)) (sym c.in_ok-push.ensures.items) (each_last (AreFareTailsOf b q ts) c.find_tails.new.self.fare_tails.items t n.fare_tails own);
     }
 
 pub returns-clause-tails : goal.returns-clause-tails
 returns-clause-tails c =
     let old = c.find_tails.new.self.fare_tails.items in
-    let t : FareTails = record { place = c.args.place; slice = c.args.slice; paths = c.in_ok-paths.paths; among = c.in_ok-among.among; numbers = c.in_ok-numbers.numbers } in
+    let t : FareTails = record { place = c.args.place; slice = c.args.slice; among = c.in_ok-among.among; numbers = c.in_ok-numbers.numbers } in
     let n : c.len-at.result ≡ length old = omega (arith, c.len-at.ensures) in
     record { tails = t; stands = ap (λ xs. slice_get xs c.len-at.result) c.in_ok-push.ensures.items ∙ ap (slice_get (old ++ t ∷ [])) n ∙ last_got old t; place_is = refl; slice_is = refl }

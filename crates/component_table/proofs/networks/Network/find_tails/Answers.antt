@@ -1,7 +1,8 @@
 use Rattle.std.proofs.Common.{◌≡◌, [], ◌∷◌, ◌++◌, ap, length, refl, slice_get, subst, sym, ◌∙◌, arith}
 use Rattle.component_table.specs.declared.networks.SliceTails.{SliceTails}
-use Rattle.component_table.specs.Facts.{AreTailFacts}
-use Rattle.component_table.specs.Networks.{AreTailsOver}
+use Rattle.component_table.specs.Kinds.{AreKinds}
+use Rattle.component_table.specs.Networks.{AreFareTailsOf, AreTailsOver}
+use Rattle.component_table.proofs.NetworkFacts.{fare_tails_more}
 use Rattle.component_table.proofs.PathFacts.{last_got}
 use Rattle.component_table.proofs.ReachFacts.{each_last}
 use Rattle.fare_law.specs.Lists.{Each}
@@ -11,13 +12,14 @@ pub returns-clause-network : goal.returns-clause-network
 returns-clause-network c =
     let b = c.args.book.now in
     let q = c.args.request.now in
-    let t : SliceTails = record { slice = c.args.slice; paths = c.in_ok-paths.paths; facts = c.in_ok-facts.facts; ends = c.in_ok-ends.ends } in
+    let t : SliceTails = record { slice = c.args.slice; paths = c.in_ok-paths.paths; kinds = c.in_ok-kinds.kinds; ends = c.in_ok-ends.ends } in
+    let kinds = subst (λ ps. AreKinds b q ps c.in_ok-kinds.kinds) c.as_slice-2.ensures c.in_ok-kinds.ensures.kinds in
     record {
       markets = c.requires.markets;
-      masks = c.in_ok-facts.ensures.masks;
-      facts = subst (Each (λ (x : SliceTails). AreTailFacts b q x.facts.items)) (sym c.in_ok-push.ensures.items)
-          (each_last (λ (x : SliceTails). AreTailFacts b q x.facts.items) c.args.self.now.tails.items t c.requires.facts c.in_ok-facts.ensures.facts);
-      fare_tails = c.requires.fare_tails;
+      masks = c.in_ok-kinds.ensures.masks;
+      kinds = subst (Each (λ (x : SliceTails). AreKinds b q x.paths x.kinds)) (sym c.in_ok-push.ensures.items)
+          (each_last (λ (x : SliceTails). AreKinds b q x.paths x.kinds) c.args.self.now.tails.items t c.requires.kinds kinds);
+      fare_tails = subst (λ ts. Each (AreFareTailsOf b q ts) c.args.self.now.fare_tails.items) (sym c.in_ok-push.ensures.items) (fare_tails_more b q c.args.self.now.tails.items t c.args.self.now.fare_tails.items c.requires.fare_tails);
       tails = subst (Each (λ (x : SliceTails). AreTailsOver b q.slices x.slice x.paths)) (sym c.in_ok-push.ensures.items)
           (each_last (λ (x : SliceTails). AreTailsOver b q.slices x.slice x.paths) c.args.self.now.tails.items t c.requires.tails
           (λ x places flights. c.in_ok-paths.ensures x (record { places = places ∙ c.schedule_of.ensures.places; flights = flights ∙ c.schedule_of.ensures.flights })));
@@ -26,6 +28,6 @@ returns-clause-network c =
 pub returns-clause-tails : goal.returns-clause-tails
 returns-clause-tails c =
     let old = c.args.self.now.tails.items in
-    let t : SliceTails = record { slice = c.args.slice; paths = c.in_ok-paths.paths; facts = c.in_ok-facts.facts; ends = c.in_ok-ends.ends } in
+    let t : SliceTails = record { slice = c.args.slice; paths = c.in_ok-paths.paths; kinds = c.in_ok-kinds.kinds; ends = c.in_ok-ends.ends } in
     let n : c.len-at.result ≡ length old = omega (arith, c.len-at.ensures) in
     record { kept = t; stands = ap (λ xs. slice_get xs c.len-at.result) c.in_ok-push.ensures.items ∙ ap (slice_get (old ++ t ∷ [])) n ∙ last_got old t; slice_is = refl }

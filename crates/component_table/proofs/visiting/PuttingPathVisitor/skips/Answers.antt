@@ -1,26 +1,66 @@
-use Rattle.std.proofs.Common.{[], ◌∷◌, ◌++◌, subst, sym, ◌∙◌}
-use Rattle.component_table.specs.Tables.{PutsIn}
-use Rattle.component_table.proofs.KnownFacts.{facts_met, joint_flights, joint_known}
+use Rattle.std.proofs.Common.{◌≡◌, IfSome, subst, sym}
+use Rattle.component_table.specs.declared.rows.HeadKind.{HeadKind}
+use Rattle.component_table.specs.Kinds.{AreKinds}
+use Rattle.component_table.specs.Rows.{IsHeadOf, IsMet, IsRowAt}
 use Rattle.component_table.proofs.PathFacts.{added_for, put_more}
 use Rattle.component_table.proofs.visiting.PuttingPathVisitor.skips.Goals as goal
 
-pub adds_nothing-requires-clause-joint : goal.adds_nothing-requires-clause-joint
-adds_nothing-requires-clause-joint g c =
-    let o = c.self.inside.origin in
-    let b = o.book.now in
-    let q = o.request.now in
-    joint_known b q c.meet.new.self c.args.tail.now c.in-Some.joint (facts_met b q c.self.inside.facts c.meet.new.self c.args.head.now.flights c.self.invariant.facts c.meet.ensures.tails c.meet.ensures.head) c.in-Some.ensures
+pub invariant_of-self : goal.invariant_of-self
+invariant_of-self g c =
+    let s = c.self.inside in
+    let i = c.self.invariant in
+    record {
+      book_is = i.book_is;
+      request_is = i.request_is;
+      at_is = i.at_is;
+      reach = i.reach;
+      masks = c.meet.ensures.masks;
+      kinds = i.kinds;
+      settled = i.settled;
+      rows = c.meet.ensures.rows s.origin.at.now s.kinds.now.classes.items s.filling.table.entries.items i.rows;
+    }
 
-pub returns-in-Some-clause-skipped : goal.returns-in-Some-clause-skipped
-returns-in-Some-clause-skipped g c = λ t joined flights after before h.
+pub invariant_of-self-2 : goal.invariant_of-self-2
+invariant_of-self-2 g c =
+    let s = c.self.inside in
+    let i = c.self.invariant in
+    let es = s.filling.table.entries.items in
+    record {
+      book_is = i.book_is;
+      request_is = i.request_is;
+      at_is = i.at_is;
+      reach = i.reach;
+      masks = c.meet.ensures.masks;
+      kinds = i.kinds;
+      settled = i.settled;
+      rows = c.skipped.ensures.rows es (c.meet.ensures.rows s.origin.at.now s.kinds.now.classes.items es i.rows);
+    }
+
+pub skipped-requires-clause-row : goal.skipped-requires-clause-row
+skipped-requires-clause-row g c =
+    let s = c.self.inside in
+    let rows = c.meet.new.self in
+    let has = c.meet.ensures.rows s.origin.at.now s.kinds.now.classes.items s.filling.table.entries.items c.self.invariant.rows in
+    let hand = c.in-Some.ensures in
+    let met = subst (λ o. IfSome o (IsMet s.origin.book.now s.origin.request.now rows.kept.items)) hand.1 has.head in
+    subst (λ (k : HeadKind). IsRowAt rows.kept.items k.carrier k.first k.row) hand.2 met.row
+
+pub returns-clause-skipped : goal.returns-clause-skipped
+returns-clause-skipped g c = λ tails known n lt number got tail stands joined flights after before h.
     let b = g.S.Scene.book in
     let q = g.S.Scene.request in
     let at = g.S.Scene.at in
     let s = c.self.inside in
     let i = c.self.invariant in
+    let own = s.origin.book.now in
+    let asked = s.origin.request.now in
     let es = s.filling.table.entries.items in
-    let same = joint_flights s.origin.book.now s.origin.request.now c.meet.new.self c.args.tail.now c.in-Some.joint c.args.head.now.flights c.meet.ensures.head c.in-Some.ensures in
-    subst (λ xs. PutsIn (record { book = b; request = q; at = at; entries = xs }) (before ++ joined ∷ [])) (sym c.adds_nothing.ensures.table)
-    (put_more b q at joined before es es
-    (added_for b q at s.origin.book.now s.origin.request.now s.origin.at.now i.book_is i.request_is i.at_is joined es es (c.adds_nothing.ensures.nothing t joined (flights ∙ sym same) (after ∙ sym c.in-Some.ensures.after)))
-    (subst (λ xs. PutsIn (record { book = b; request = q; at = at; entries = xs }) before) (sym c.self.view_is) h))
+    let rows = c.meet.new.self in
+    let has = c.meet.ensures.rows s.origin.at.now s.kinds.now.classes.items es i.rows in
+    let hand = c.in-Some.ensures in
+    let met = subst (λ o. IfSome o (IsMet own asked rows.kept.items)) hand.1 has.head in
+    let same = subst (λ o. IfSome o (λ x. x.flights ≡ c.args.head.now.flights)) hand.1 c.meet.ensures.head in
+    let head = subst (IsHeadOf own asked c.args.head.now.flights) hand.2 (subst (λ l. IsHeadOf own asked l hand.0.kind) same met.known) in
+    let kinds = subst (λ ts. AreKinds own asked ts s.kinds.now) (sym known) i.kinds in
+    let nothing = c.skipped.ensures.nothing es has c.args.head.now.flights head tails kinds n number lt got tail stands in
+    put_more b q at joined before es es (added_for b q at own asked s.origin.at.now i.book_is i.request_is i.at_is joined es es (nothing joined flights after)) h

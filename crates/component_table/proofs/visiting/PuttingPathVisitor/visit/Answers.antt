@@ -15,3 +15,19 @@ returns g c =
     (added_for b q at s.origin.book.now s.origin.request.now s.origin.at.now i.book_is i.request_is i.at_is c.args.path.now s.filling.table.entries.items c.add_path.new.filling.table.entries.items d)
     (subst (λ es. PutsIn (record { book = b; request = q; at = at; entries = es }) before) (sym c.self.view_is) h))
     c.add_path.ensures.done
+
+pub invariant_of-self : goal.invariant_of-self
+invariant_of-self g c =
+    let s = c.self.inside in
+    let i = c.self.invariant in
+    let new = c.add_path.ensures in
+    record {
+      book_is = i.book_is;
+      request_is = i.request_is;
+      at_is = i.at_is;
+      reach = new.reach;
+      masks = new.masks;
+      kinds = i.kinds;
+      settled = new.settled;
+      rows = new.rows s.kinds.now.classes.items i.rows;
+    }

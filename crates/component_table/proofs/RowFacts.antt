@@ -1,0 +1,155 @@
+-- Paths of a head and a tail that add nothing to a table, by what is known of the two.
+use Rattle.std.proofs.Common.{◌≡◌, ◌⊎◌, ℕ, ℤ, zero, suc, List, [], ◌∷◌, ◌++◌, set, slice_get, Option, Some, None, IfSome, Bool, true, false, bit_and, refl, sym, ap, subst, ◌∙◌, inl, inr}
+use Rattle.component_table.specs.declared.classes.PathClass.{PathClass}
+use Rattle.component_table.specs.declared.ends.End.{End}
+use Rattle.component_table.specs.declared.ends.EndKey.{EndKey}
+use Rattle.component_table.specs.declared.kinds.TailClass.{TailClass}
+use Rattle.component_table.specs.declared.kinds.TailKind.{TailKind}
+use Rattle.component_table.specs.declared.markets.Market.{Market}
+use Rattle.component_table.specs.declared.rows.HeadKind.{HeadKind}
+use Rattle.component_table.specs.declared.rows.MetHead.{MetHead}
+use Rattle.component_table.specs.declared.rows.Row.{Row}
+use Rattle.component_table.specs.declared.rows.Rows.{Rows}
+use Rattle.component_table.specs.Classes.{AreAmong, ClassDone, IsOfClass}
+use Rattle.component_table.specs.Kinds.{IsKindOf, joined_class}
+use Rattle.component_table.specs.Markets.{AreMarkets}
+use Rattle.component_table.specs.Masks.{PutsMask}
+use Rattle.component_table.specs.Reaches.{IsEnd, IsUnserved, filed_of}
+use Rattle.component_table.specs.Rows.{AreRows, HasRows, IsHeadOf, IsKnownIn, IsMet, IsRow, IsRowAt}
+use Rattle.component_table.specs.Tables.{AddsNothing, Covers}
+use Rattle.component_table.proofs.FiledFacts.{some_same}
+use Rattle.component_table.proofs.Halves.{joint_class, joint_legs}
+use Rattle.component_table.proofs.Lower.{set_only}
+use Rattle.component_table.proofs.ReachFacts.{each_last}
+use Rattle.component_table.proofs.Served.{ReachesEnd, served_done, unserved_none}
+use Rattle.component_table.proofs.SettledFacts.{class_on, reaches_end, settled_added}
+use Rattle.component_table.proofs.SomeLegs.{no_class}
+use Rattle.fare_book.specs.Keeping.{Limited}
+use Rattle.fare_groups.proofs.Grouped.{each_in, in_each}
+use Rattle.fare_law.specs.declared.flights.Flight.{Flight}
+use Rattle.fare_law.specs.declared.names.Carrier.{Carrier}
+use Rattle.fare_law.specs.declared.requests.Request.{Request}
+use Rattle.fare_law.specs.Book.{Book}
+use Rattle.fare_law.specs.Parts.{Numbers}
+use Rattle.flight_paths.specs.declared.positions.Path.{Path}
+use Rattle.flight_paths.specs.declared.positions.Position.{Position}
+use Rattle.outlines.specs.declared.outline.Entry.{Entry}
+use Rattle.residual_keys.proofs.Sheeted.{got_in}
+
+module _ (b : Book) (q : Request) (at : Position) where
+  -- where the class of the two is done for what is open in both
+  pub tail_nothing : (ns : List ℕ) (h : HeadKind) (classes : List TailClass) (tail : Path) (k : TailKind) (c : TailClass) (mask : ℕ) (table : List Entry) → IsHeadOf b q ns h → IsKindOf b q classes tail k → slice_get classes k.class ≡ Some c
+      → ClassDone b q at (record { class = joined_class h.carrier h.first c; classes = mask }) table → AreAmong (bit_and h.classes k.classes) mask → AddsNothing b q at (ns ++ tail.flights) tail.after table
+  tail_nothing ns h classes tail k c mask table head kind got done among path flights after p =
+      let same = some_same (slice_get classes k.class) kind.class c kind.stands got in
+      let own = subst (λ (x : TailClass). ClassDone b q at (record { class = joined_class h.carrier h.first x; classes = mask }) table) (sym same) done in
+      settled_added b q at path (record { class = joined_class h.carrier h.first kind.class; classes = mask }) (bit_and h.classes k.classes) table own
+      (λ fs m. joint_class b q ns h classes tail k head kind path.after after fs (subst (λ l. Numbers b l fs) flights m))
+      (λ fs m. joint_legs b q ns h classes tail k head kind fs (subst (λ l. Numbers b l fs) flights m)) among
+
+  -- what is done for the head's carrier and day is done for its row's
+  pub done_in_row : (rows : List Row) (h : HeadKind) (c : TailClass) (mask : ℕ) (table : List Entry) → IsRowAt rows h.carrier h.first h.row → (one : Row) → slice_get rows h.row ≡ Some one
+      → ClassDone b q at (record { class = joined_class h.carrier h.first c; classes = mask }) table → ClassDone b q at (record { class = joined_class one.carrier one.first c; classes = mask }) table
+  done_in_row rows h c mask table row one stands done =
+      let same = some_same (slice_get rows h.row) row.row one row.stands stands in
+      subst (λ (r : Row). ClassDone b q at (record { class = joined_class r.carrier r.first c; classes = mask }) table) same
+      (subst (λ x. ClassDone b q at (record { class = joined_class x row.row.first c; classes = mask }) table) (sym row.carrier_is)
+      (subst (λ d. ClassDone b q at (record { class = joined_class h.carrier d c; classes = mask }) table) (sym row.first_is) done))
+
+  -- where the head's row knows enough classes of seats for the tail's class
+  pub known_nothing : (ns : List ℕ) (h : HeadKind) (classes : List TailClass) (tail : Path) (k : TailKind) (rows : List Row) (mask : ℕ) (table : List Entry) → IsHeadOf b q ns h → IsKindOf b q classes tail k → AreRows b q at classes table rows → IsRowAt rows h.carrier h.first h.row
+      → IsKnownIn rows h.row k.class mask → AreAmong (bit_and h.classes k.classes) mask → AddsNothing b q at (ns ++ tail.flights) tail.after table
+  known_nothing ns h classes tail k rows mask table head kind are row known among =
+      let same = some_same (slice_get rows h.row) known.one row.row known.stands row.stands in
+      let done = each_in (IsRow b q at classes table) rows known.one are (got_in rows h.row known.one known.stands) k.class mask kind.class known.known kind.stands in
+      let own = subst (λ d. ClassDone b q at (record { class = joined_class h.carrier d kind.class; classes = mask }) table) row.first_is
+      (subst (λ x. ClassDone b q at (record { class = joined_class x row.row.first kind.class; classes = mask }) table) row.carrier_is
+      (subst (λ (r : Row). ClassDone b q at (record { class = joined_class r.carrier r.first kind.class; classes = mask }) table) same done)) in
+      tail_nothing ns h classes tail k kind.class mask table head kind kind.stands own among
+
+  module _ (class : PathClass) (ms : List Market) (e : End) (are : AreMarkets b ms) (limited : Limited b) (key : e.key ≡ record { place = class.end; carrier = class.carrier }) (end : IsEnd b at.place ms e) where
+    reaches : (after : Option Position) (fs : List Flight) → IsOfClass class after fs → ReachesEnd e fs
+    reaches after fs of = reaches_end class e after fs (sym (ap (λ (x : EndKey). x.place) key)) (sym (ap (λ (x : EndKey). x.carrier) key)) of
+
+    -- where the carrier has no fare to its end or from it
+    pub unserved_class : (mask : ℕ) (table : List Entry) → IsUnserved e.there → IsUnserved e.back → ClassDone b q at (record { class = class; classes = mask }) table
+    unserved_class mask table there back path fs is of classes legs among r =
+        served_done b q at path ms e are limited end classes fs table is legs (reaches path.after fs of) r (λ f found m stands i g got low high. absurd (unserved_none (filed_of e r) f i found (both r) low high))
+      where
+        both : (r : Bool) → IsUnserved (filed_of e r)
+        both true = back
+        both false = there
+
+    -- where no class of seats is open
+    pub closed_class : (table : List Entry) → ClassDone b q at (record { class = class; classes = 0 }) table
+    closed_class table path fs is of classes legs among r =
+        served_done b q at path ms e are limited end classes fs table is legs (reaches path.after fs of) r (λ f found m stands i g got low high rule live permits least cheap. absurd (no_class 0 cheap.fare.class refl (among cheap.fare.class cheap.open_class)))
+
+  -- a row stays right as the table grows
+  pub rows_on : (classes : List TailClass) (old new : List Entry) (rows : List Row) → Covers old new → AreRows b q at classes old rows → AreRows b q at classes new rows
+  rows_on classes old new rows covers h = in_each (IsRow b q at classes new) rows (λ row i n mask c got known. class_on b q at (record { class = joined_class row.carrier row.first c; classes = mask }) old new covers (each_in (IsRow b q at classes old) rows row h i n mask c got known))
+
+-- the rows stay right as the table grows
+pub has_rows_on : (b : Book) (q : Request) (at : Position) (classes : List TailClass) (old new : List Entry) (r : Rows) → Covers old new → HasRows b q at classes old r → HasRows b q at classes new r
+has_rows_on b q at classes old new r covers h = record { each = rows_on b q at classes old new r.kept.items covers h.each; head = h.head; tail = h.tail }
+
+-- what stands in a list of which one is set to another
+set_stands : {X : Type 0} (xs : List X) (i n : ℕ) (old new x : X) → slice_get xs i ≡ Some old → slice_get xs n ≡ Some x → (y : X) × (slice_get (set xs i new) n ≡ Some y) × ((y ≡ x) ⊎ ((y ≡ new) × (x ≡ old)))
+set_stands [] i n old new x e g = absurd (cc)
+set_stands (z ∷ zs) zero zero old new x e g = (new, refl, inr (refl, some_same (Some z) x old g e))
+set_stands (z ∷ zs) zero (suc n) old new x e g = (x, g, inl refl)
+set_stands (z ∷ zs) (suc i) zero old new x e g = (x, g, inl refl)
+set_stands (z ∷ zs) (suc i) (suc n) old new x e g = set_stands zs i n old new x e g
+
+module _ (rows : List Row) (i : ℕ) (old new : Row) (stands : slice_get rows i ≡ Some old) (carrier_same : new.carrier ≡ old.carrier) (first_same : new.first ≡ old.first) where
+  -- each row keeps its carrier and day
+  pub row_at_set : (carrier : Carrier) (first : ℤ) (n : ℕ) → IsRowAt rows carrier first n → IsRowAt (set rows i new) carrier first n
+  row_at_set carrier first n h =
+      let y = set_stands rows i n old new h.row stands h.stands in
+      elim y.2 [
+        | inl e ↦ record { row = y.0; stands = y.1; carrier_is = ap (λ (r : Row). r.carrier) e ∙ h.carrier_is; first_is = ap (λ (r : Row). r.first) e ∙ h.first_is }
+        | inr e ↦ record {
+          row = y.0;
+          stands = y.1;
+          carrier_is = ap (λ (r : Row). r.carrier) e.0 ∙ carrier_same ∙ ap (λ (r : Row). r.carrier) (sym e.1) ∙ h.carrier_is;
+          first_is = ap (λ (r : Row). r.first) e.0 ∙ first_same ∙ ap (λ (r : Row). r.first) (sym e.1) ∙ h.first_is;
+        }
+      ]
+
+  pub met_set : (b : Book) (q : Request) (o : Option MetHead) → IfSome o (IsMet b q rows) → IfSome o (IsMet b q (set rows i new))
+  met_set b q None h = tt
+  met_set b q (Some x) h = record { known = h.known; row = row_at_set x.kind.carrier x.kind.first x.kind.row h.row }
+
+  -- a row in which one more is known
+  pub rows_put : (b : Book) (q : Request) (at : Position) (classes : List TailClass) (table : List Entry) (class mask : ℕ) (c : TailClass) → PutsMask class mask old.masks.items new.masks.items → slice_get classes class ≡ Some c
+      → ClassDone b q at (record { class = joined_class old.carrier old.first c; classes = mask }) table → AreRows b q at classes table rows → AreRows b q at classes table (set rows i new)
+  rows_put b q at classes table class mask c puts known done h =
+      in_each (IsRow b q at classes table) (set rows i new) (λ row within. elim (set_only rows i new row within) [
+        | inl k ↦ each_in (IsRow b q at classes table) rows row h k
+        | inr e ↦ subst (IsRow b q at classes table) (sym e) own
+      ])
+    where
+      DoneFor : Carrier → ℤ → TailClass → ℕ → Type 0
+      DoneFor carrier first k m = ClassDone b q at (record { class = joined_class carrier first k; classes = m }) table
+
+      was : IsRow b q at classes table old
+      was = each_in (IsRow b q at classes table) rows old h (got_in rows i old stands)
+
+      now_for : (k : TailClass) (m : ℕ) → DoneFor old.carrier old.first k m → DoneFor new.carrier new.first k m
+      now_for k m d = subst (λ x. DoneFor x new.first k m) (sym carrier_same) (subst (λ d. DoneFor old.carrier d k m) (sym first_same) d)
+
+      own : IsRow b q at classes table new
+      own n m k got at_n = elim (puts n m got) [
+        | inl e ↦ now_for k m (was n m k e at_n)
+        | inr e ↦
+            let same = some_same (slice_get classes class) c k known (ap (slice_get classes) (sym e.0) ∙ at_n) in
+            now_for k m (subst (λ x. DoneFor old.carrier old.first x m) same (subst (λ x. DoneFor old.carrier old.first c x) (sym e.1) done))
+      ]
+
+-- one row more, in which nothing is known
+pub rows_more : (b : Book) (q : Request) (at : Position) (classes : List TailClass) (table : List Entry) (rows : List Row) (row : Row) → ((n mask : ℕ) → slice_get row.masks.items n ≡ Some (Some mask) → ⊥) → AreRows b q at classes table rows → AreRows b q at classes table (rows ++ row ∷ [])
+rows_more b q at classes table rows row none h = each_last (IsRow b q at classes table) rows row h (λ n mask c got known. absurd (none n mask got))
+
+pub if_some : {A : Type 0} (o : Option A) (P Q : A → Type 0) → ((a : A) → P a → Q a) → IfSome o P → IfSome o Q
+if_some None P Q f p = tt
+if_some (Some x) P Q f p = f x p

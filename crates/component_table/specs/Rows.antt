@@ -1,0 +1,63 @@
+-- What is known of the paths that begin with a carrier on a day and go on by tails, class by class.
+use Rattle.std.specs.Prelude.{◌≡◌, ℕ, ℤ, List, ◌++◌, Some, IfSome, slice_get}
+use Rattle.component_table.specs.declared.kinds.TailClass.{TailClass}
+use Rattle.component_table.specs.declared.rows.HeadKind.{HeadKind}
+use Rattle.component_table.specs.declared.rows.MetHead.{MetHead}
+use Rattle.component_table.specs.declared.rows.Row.{Row}
+use Rattle.component_table.specs.declared.rows.Rows.{Rows}
+use Rattle.component_table.specs.Classes.{ClassDone}
+use Rattle.component_table.specs.Kinds.{joined_class}
+use Rattle.component_table.specs.Tables.{AddsNothing, HasLegs}
+use Rattle.fare_law.specs.declared.flights.Flight.{Flight}
+use Rattle.fare_law.specs.declared.names.Carrier.{Carrier}
+use Rattle.fare_law.specs.declared.requests.Request.{Request}
+use Rattle.fare_law.specs.Book.{Book}
+use Rattle.fare_law.specs.Lists.{Each, OnFirst}
+use Rattle.fare_law.specs.Parts.{Numbers}
+use Rattle.flight_paths.specs.declared.positions.Path.{Path}
+use Rattle.flight_paths.specs.declared.positions.Position.{Position}
+use Rattle.outlines.specs.declared.outline.Entry.{Entry}
+
+-- The first of these flights is the carrier's and departs on the day, and the classes are those that are open in all of them.
+pub record BeginsAs (b : Book) (q : Request) (k : HeadKind) (fs : List Flight) : Type 0 where
+  pub first : OnFirst (λ f. (f.day ≡ k.first) × (f.carrier ≡ k.carrier)) fs
+  pub legs : HasLegs b q fs k.classes
+
+-- what is known of a head holds of its flights
+abbrev pub IsHeadOf : Book → Request → List ℕ → HeadKind → Type 0
+IsHeadOf b q numbers k = (fs : List Flight) → Numbers b numbers fs → BeginsAs b q k fs
+
+-- Where classes of seats stand in a row by the class of a tail, each path of the two on which none but these are open is done.
+abbrev pub IsRow : Book → Request → Position → List TailClass → List Entry → Row → Type 0
+IsRow b q at classes table row = (n mask : ℕ) (c : TailClass) → slice_get row.masks.items n ≡ Some (Some mask) → slice_get classes n ≡ Some c → ClassDone b q at (record { class = joined_class row.carrier row.first c; classes = mask }) table
+
+abbrev pub AreRows : Book → Request → Position → List TailClass → List Entry → List Row → Type 0
+AreRows b q at classes table rows = Each (IsRow b q at classes table) rows
+
+-- the row of the carrier and the day has this number
+pub record IsRowAt (rows : List Row) (carrier : Carrier) (first : ℤ) (at : ℕ) : Type 0 where
+  pub row : Row
+  pub stands : slice_get rows at ≡ Some row
+  pub carrier_is : row.carrier ≡ carrier
+  pub first_is : row.first ≡ first
+
+-- what is known of the head that was met last, and its row, hold
+pub record IsMet (b : Book) (q : Request) (rows : List Row) (h : MetHead) : Type 0 where
+  pub known : IsHeadOf b q h.flights h.kind
+  pub row : IsRowAt rows h.kind.carrier h.kind.first h.kind.row
+
+-- Each row is right as the table stands, and so is what is known of the head at hand; the class of tails at hand has its number.
+pub record HasRows (b : Book) (q : Request) (at : Position) (classes : List TailClass) (table : List Entry) (r : Rows) : Type 0 where
+  pub each : AreRows b q at classes table r.kept.items
+  pub head : IfSome r.head (IsMet b q r.kept.items)
+  pub tail : IfSome r.tail (λ t. slice_get classes t.number ≡ Some t.class)
+
+-- the classes of seats stand in the row of this number for a class of tails
+pub record IsKnownIn (rows : List Row) (row class mask : ℕ) : Type 0 where
+  pub one : Row
+  pub stands : slice_get rows row ≡ Some one
+  pub known : slice_get one.masks.items class ≡ Some (Some mask)
+
+-- a path that goes on from a head of these numbers by the tail of this number adds nothing to the table
+abbrev pub TailAddsNothing : Book → Request → Position → List Path → List Entry → List ℕ → ℕ → Type 0
+TailAddsNothing b q at tails table head number = (tail : Path) → slice_get tails number ≡ Some tail → AddsNothing b q at (head ++ tail.flights) tail.after table

@@ -1,0 +1,325 @@
+//! For the heads of a position that begin with a carrier on a day: by the class of a tail, for which classes of seats the
+//! paths are known to add nothing more.
+ghost use Rattle.std.specs.Prelude.{◌≡◌, ℕ, ℤ, IfOk, IfSome, List as Items, Some, slice_get, IsTrue};
+ghost use Rattle.component_table.specs.declared.kinds.TailClass.{TailClass as OneClass};
+ghost use Rattle.component_table.specs.declared.rows.MetClass.{MetClass as OneMetClass};
+ghost use Rattle.component_table.specs.declared.rows.MetHead.{MetHead as OneHead};
+ghost use Rattle.component_table.specs.declared.rows.Row.{Row as OneRow};
+ghost use Rattle.component_table.specs.Classes.{ClassDone};
+ghost use Rattle.component_table.specs.Masks.{AreMasks, PutsMask};
+ghost use Rattle.component_table.specs.Kinds.{joined_class};
+ghost use Rattle.component_table.specs.Rows.{AreRows, HasRows, IsKnownIn, IsMet, IsRowAt};
+ghost use Rattle.fare_law.specs.declared.names.Carrier.{Carrier as CarrierName};
+ghost use Rattle.fare_law.specs.declared.requests.Request.{Request as Asked};
+ghost use Rattle.fare_law.specs.Book.{Book as Version};
+ghost use Rattle.flight_paths.specs.declared.positions.Position.{Position as At};
+ghost use Rattle.outlines.specs.declared.outline.Entry.{Entry as OneEntry};
+
+use crate::classes::PathClass;
+use crate::gathering::first_flight;
+use crate::kinds::TailClass;
+use crate::masks::Masks;
+use crate::same::same_numbers;
+use crate::ways::Origin;
+use fare_law::{ArrayVec, Carrier, Flight, Mem};
+use flight_paths::Path;
+use indexmap::IndexMap;
+use std::alloc::Global;
+
+/// What is known of a head: the carrier and the day of its first flight, the classes of seats that are open for the party
+/// in each of its flights, and the number of the row of the carrier and the day.
+#[derive(Clone, Copy, PartialEq, Eq, Debug)]
+pub struct HeadKind {
+    pub carrier: Carrier,
+    pub first: i32,
+    pub classes: u32,
+    pub row: usize,
+}
+
+/// A head that was met last, by its flights.
+#[derive(Drop)]
+pub struct MetHead {
+    pub flights: ArrayVec<u32, 4>,
+    pub kind: HeadKind,
+}
+
+/// For the paths that begin with a carrier on a day: by the number of a tail's class, the classes of seats with which the
+/// table needs no more paths of the class. None says nothing.
+#[derive(Drop)]
+pub struct Row {
+    pub carrier: Carrier,
+    pub first: i32,
+    pub masks: Vec<Option<u32>>,
+}
+
+/// A class of tails, with its number.
+#[derive(Clone, Copy, PartialEq, Eq, Debug)]
+pub struct MetClass {
+    pub number: usize,
+    pub class: TailClass,
+}
+
+/// The rows of a position, and the head and the class of tails at hand.
+#[derive(Drop)]
+pub struct Rows {
+    pub kept: Vec<Row>,
+    /// Where a row may stand, by the letters of its carrier and its day.
+    pub places: IndexMap<u64, usize>,
+    pub head: Option<MetHead>,
+    pub tail: Option<MetClass>,
+}
+
+impl HeadKind {
+    /// The class of the paths that go on from the head by a tail of a class.
+    pub fn joined(&self, class: &TailClass) -> PathClass
+        ensures { result ≡ joined_class self.now.carrier self.now.first class.now }
+    {
+        PathClass {
+            after: class.after,
+            end: class.end,
+            carrier: self.carrier,
+            first: self.first,
+            last: class.last,
+        }
+    }
+}
+
+impl Row {
+    /// Whether it is that of the first flight's carrier and day.
+    fn is_of(&self, first: &Flight) -> bool
+        ensures { IsTrue result → (self.now.carrier ≡ first.now.carrier) × (self.now.first ≡ first.now.day) }
+    {
+        self.carrier.is(first.carrier) && self.first == first.day
+    }
+}
+
+impl Rows {
+    /// No row, no head and no tail.
+    pub fn new(alloc: Global) -> Rows
+        ensures { (b : Version) (q : Asked) (at : At) (classes : Items OneClass) (table : Items OneEntry) → HasRows b q at classes table result }
+    {
+        Rows {
+            kept: Vec::new(alloc),
+            places: IndexMap::new(alloc),
+            head: None,
+            tail: None,
+        }
+    }
+
+    /// Takes a head at hand, and no tail, if it isn't there already, with a row for so many classes of tails. Where
+    /// memory runs out there is none.
+    pub fn meet(
+        &mut self,
+        alloc: Global,
+        origin: &Origin,
+        masks: &mut Masks,
+        width: usize,
+        head: &Path,
+    )
+        requires { AreMasks origin.now.book.now origin.now.request.now masks.old }
+        ensures masks { AreMasks origin.now.book.now origin.now.request.now masks.new }
+        ensures rows { (at : At) (classes : Items OneClass) (table : Items OneEntry) → HasRows origin.now.book.now origin.now.request.now at classes table self.old → HasRows origin.now.book.now origin.now.request.now at classes table self.new }
+        ensures head { IfSome self.new.head (λ h. h.flights ≡ head.now.flights) }
+    {
+        if is_at_hand(&self.head, head.flights.as_slice()) {
+            return;
+        }
+        let met = self.met(alloc, origin, masks, width, head);
+        self.head = met;
+        self.tail = None;
+    }
+
+    /// What is known of a head, with its row.
+    fn met(
+        &mut self,
+        alloc: Global,
+        origin: &Origin,
+        masks: &mut Masks,
+        width: usize,
+        head: &Path,
+    ) -> Option<MetHead>
+        requires { AreMasks origin.now.book.now origin.now.request.now masks.old }
+        ensures masks { AreMasks origin.now.book.now origin.now.request.now masks.new }
+        ensures rows { (at : At) (classes : Items OneClass) (table : Items OneEntry) → AreRows origin.now.book.now origin.now.request.now at classes table self.old.kept.items → AreRows origin.now.book.now origin.now.request.now at classes table self.new.kept.items }
+        ensures flights { IfSome result (λ h. h.flights ≡ head.now.flights) }
+        ensures head { IfSome result (IsMet origin.now.book.now origin.now.request.now self.new.kept.items) }
+    {
+        let numbers = head.flights.as_slice();
+        let first = first_flight(origin.book, numbers)?;
+        let Ok(classes) = masks.classes_of(origin.book, origin.request, numbers) else {
+            return None;
+        };
+        let Ok(row) = self.row_of(alloc, first, width) else {
+            return None;
+        };
+        Some(with_first(head, first, classes, row))
+    }
+
+    /// The number of the row of a first flight's carrier and day, which is added if it isn't there.
+    fn row_of(&mut self, alloc: Global, first: &Flight, width: usize) -> Result<usize, Mem>
+        ensures rows { (b : Version) (q : Asked) (at : At) (classes : Items OneClass) (table : Items OneEntry) → AreRows b q at classes table self.old.kept.items → AreRows b q at classes table self.new.kept.items }
+        ensures row { IfOk result (IsRowAt self.new.kept.items first.now.carrier first.now.day) }
+    {
+        let key = letters(first);
+        let found = self.places.get(&key).copied();
+        if let Some(at) = known(self.kept.as_slice(), found, first) {
+            return Ok(at);
+        }
+        let masks = no_masks(alloc, width)?;
+        let at = self.kept.len();
+        self.places.insert(key, at)?;
+        self.kept.push(row_with(first, masks))?;
+        Ok(at)
+    }
+
+    /// The head at hand.
+    pub fn at_hand(&self) -> Option<HeadKind>
+        ensures { IfSome result (λ k. (h : OneHead) × (self.now.head ≡ Some h) × (h.kind ≡ k)) }
+    {
+        match &self.head {
+            Some(head) => Some(head.kind),
+            None => None,
+        }
+    }
+
+    /// Takes a class of tails at hand.
+    pub fn take(&mut self, number: usize, class: &TailClass)
+        ensures rows { (b : Version) (q : Asked) (at : At) (classes : Items OneClass) (table : Items OneEntry) → slice_get classes number ≡ Some class.now → HasRows b q at classes table self.old → HasRows b q at classes table self.new }
+        ensures same { self.new.kept ≡ self.old.kept }
+    {
+        self.tail = Some(MetClass {
+            number,
+            class: *class,
+        });
+    }
+
+    /// Whether a class of paths is that of the head and the tails at hand.
+    pub fn is_at_hand(&self, class: &PathClass) -> bool
+        ensures { IsTrue result → (h : OneHead) × (t : OneMetClass) × (self.now.head ≡ Some h) × (self.now.tail ≡ Some t) × (class.now ≡ joined_class h.kind.carrier h.kind.first t.class) }
+    {
+        match (&self.head, &self.tail) {
+            (Some(head), Some(tail)) => head.kind.joined(&tail.class).is(class),
+            _ => false,
+        }
+    }
+
+    /// Keeps for which classes of seats a class of paths is settled, if it is that of the head and the tails at hand.
+    /// Tells whether it is.
+    pub fn settle(&mut self, class: &PathClass, classes: u32) -> bool
+        ensures { (b : Version) (q : Asked) (at : At) (tails : Items OneClass) (table : Items OneEntry) → ClassDone b q at (record { class = class.now; classes = classes }) table → HasRows b q at tails table self.old → HasRows b q at tails table self.new }
+    {
+        if !self.is_at_hand(class) {
+            return false;
+        }
+        let (Some(head), Some(tail)) = (self.at_hand(), self.tail) else {
+            return false;
+        };
+        self.put(head.row, tail.number, classes);
+        true
+    }
+
+    /// The classes of seats that are known in a row for a class of tails.
+    pub fn mask(&self, row: usize, class: usize) -> Option<u32>
+        ensures { IfSome result (λ mask. IsKnownIn self.now.kept.items row class mask) }
+    {
+        let row = self.kept.as_slice().get(row)?;
+        known_for(row.masks.as_slice(), class)
+    }
+
+    /// Keeps in a row for which classes of seats a class of tails is known.
+    pub fn put(&mut self, row: usize, class: usize, mask: u32)
+        ensures rows { (b : Version) (q : Asked) (at : At) (classes : Items OneClass) (table : Items OneEntry) (c : OneClass) → slice_get classes class ≡ Some c → ((one : OneRow) → slice_get self.old.kept.items row ≡ Some one → ClassDone b q at (record { class = joined_class one.carrier one.first c; classes = mask }) table) → HasRows b q at classes table self.old → HasRows b q at classes table self.new }
+        ensures stays { (carrier : CarrierName) (first : ℤ) (n : ℕ) → IsRowAt self.old.kept.items carrier first n → IsRowAt self.new.kept.items carrier first n }
+    {
+        if row < self.kept.len() {
+            put_in(&mut self.kept[row], class, mask);
+        }
+    }
+}
+
+/// Keeps in a row for which classes of seats a class of tails is known.
+fn put_in(row: &mut Row, class: usize, mask: u32)
+    ensures carrier { row.new.carrier ≡ row.old.carrier }
+    ensures first { row.new.first ≡ row.old.first }
+    ensures masks { PutsMask class mask row.old.masks.items row.new.masks.items }
+{
+    if class < row.masks.len() {
+        row.masks[class] = Some(mask);
+    }
+}
+
+/// The classes of seats that are known for a class of tails.
+fn known_for(masks: &[Option<u32>], class: usize) -> Option<u32>
+    ensures { IfSome result (λ mask. slice_get masks.now class ≡ Some (Some mask)) }
+{
+    match masks.get(class) {
+        Some(Some(mask)) => Some(*mask),
+        _ => None,
+    }
+}
+
+/// The row of a first flight's carrier and day.
+fn row_with(first: &Flight, masks: Vec<Option<u32>>) -> Row
+    ensures carrier { result.carrier ≡ first.now.carrier }
+    ensures first { result.first ≡ first.now.day }
+    ensures masks { result.masks ≡ masks }
+{
+    Row {
+        carrier: first.carrier,
+        first: first.day,
+        masks,
+    }
+}
+
+/// Nothing known of so many classes.
+fn no_masks(alloc: Global, width: usize) -> Result<Vec<Option<u32>>, Mem>
+    ensures { IfOk result (λ masks. (n mask : ℕ) → slice_get masks.items n ≡ Some (Some mask) → ⊥) }
+{
+    let mut masks = Vec::with_capacity(alloc, width)?;
+    for _ in 0..width {
+        masks.push(None)?;
+    }
+    Ok(masks)
+}
+
+/// Whether the head of these numbers is at hand.
+fn is_at_hand(head: &Option<MetHead>, numbers: &[u32]) -> bool
+    ensures { IsTrue result → IfSome head.now (λ h. h.flights ≡ numbers.now) }
+{
+    match head {
+        Some(head) => same_numbers(head.flights.as_slice(), numbers),
+        None => false,
+    }
+}
+
+/// A head with this first flight.
+fn with_first(head: &Path, first: &Flight, classes: u32, row: usize) -> MetHead
+    ensures flights { result.flights ≡ head.now.flights }
+    ensures kind { result.kind ≡ record { carrier = first.now.carrier; first = first.now.day; classes = classes; row = row } }
+{
+    MetHead {
+        flights: head.flights.copied(),
+        kind: HeadKind {
+            carrier: first.carrier,
+            first: first.day,
+            classes,
+            row,
+        },
+    }
+}
+
+/// A place, if the row of the first flight's carrier and day stands there.
+fn known(rows: &[Row], found: Option<usize>, first: &Flight) -> Option<usize>
+    ensures { IfSome result (IsRowAt rows.now first.now.carrier first.now.day) }
+{
+    let at = found?;
+    let one = rows.get(at)?;
+    if one.is_of(first) { Some(at) } else { None }
+}
+
+/// The letters of a first flight's carrier and its day, as one number.
+fn letters(first: &Flight) -> u64 {
+    let [a, b] = first.carrier.0;
+    let [c, d, e, f] = first.day.to_le_bytes();
+    u64::from_le_bytes([a, b, c, d, e, f, 0, 0])
+}
