@@ -1,5 +1,5 @@
 -- Paths of a head and a tail that add nothing to a table, by what is known of the two.
-use Rattle.std.proofs.Common.{◌≡◌, ◌⊎◌, ℕ, ℤ, zero, suc, List, [], ◌∷◌, ◌++◌, set, slice_get, Option, Some, None, IfSome, Bool, true, false, bit_and, refl, sym, ap, subst, ◌∙◌, inl, inr}
+use Rattle.std.proofs.Common.{◌≡◌, ◌⊎◌, ℕ, ℤ, zero, suc, List, [], ◌∷◌, ◌++◌, set, slice_get, Option, Some, None, IfSome, Bool, true, false, bit_and, refl, sym, ap, subst, ◌∙◌, inl, inr, ◌<◌, ◌≤◌, arith}
 use Rattle.component_table.specs.declared.classes.PathClass.{PathClass}
 use Rattle.component_table.specs.declared.ends.End.{End}
 use Rattle.component_table.specs.declared.ends.EndKey.{EndKey}
@@ -11,11 +11,11 @@ use Rattle.component_table.specs.declared.rows.MetHead.{MetHead}
 use Rattle.component_table.specs.declared.rows.Row.{Row}
 use Rattle.component_table.specs.declared.rows.Rows.{Rows}
 use Rattle.component_table.specs.Classes.{AreAmong, ClassDone, IsOfClass}
-use Rattle.component_table.specs.Kinds.{IsKindOf, joined_class}
+use Rattle.component_table.specs.Kinds.{AreKindsOf, IsKindOf, joined_class}
 use Rattle.component_table.specs.Markets.{AreMarkets}
 use Rattle.component_table.specs.Masks.{PutsMask}
 use Rattle.component_table.specs.Reaches.{IsEnd, IsUnserved, filed_of}
-use Rattle.component_table.specs.Rows.{AreRows, HasRows, IsHeadOf, IsKnownIn, IsMet, IsRow, IsRowAt}
+use Rattle.component_table.specs.Rows.{AreRows, HasRows, IsHeadOf, IsKnownTail, IsMet, IsRow, IsRowAt, TailAddsNothing}
 use Rattle.component_table.specs.Tables.{AddsNothing, Covers}
 use Rattle.component_table.proofs.FiledFacts.{some_same}
 use Rattle.component_table.proofs.Halves.{joint_class, joint_legs}
@@ -35,6 +35,11 @@ use Rattle.flight_paths.specs.declared.positions.Path.{Path}
 use Rattle.flight_paths.specs.declared.positions.Position.{Position}
 use Rattle.outlines.specs.declared.outline.Entry.{Entry}
 use Rattle.residual_keys.proofs.Sheeted.{got_in}
+
+below_or_from : (n i : ℕ) → (i < n) ⊎ (n ≤ i)
+below_or_from zero i = inr (omega arith)
+below_or_from (suc n) zero = inl (omega arith)
+below_or_from (suc n) (suc i) = elim (below_or_from n i) [ inl h ↦ inl (omega (arith, h)) | inr h ↦ inr (omega (arith, h)) ]
 
 module _ (b : Book) (q : Request) (at : Position) where
   -- where the class of the two is done for what is open in both
@@ -57,15 +62,23 @@ module _ (b : Book) (q : Request) (at : Position) where
       (subst (λ d. ClassDone b q at (record { class = joined_class h.carrier d c; classes = mask }) table) (sym row.first_is) done))
 
   -- where the head's row knows enough classes of seats for the tail's class
-  pub known_nothing : (ns : List ℕ) (h : HeadKind) (classes : List TailClass) (tail : Path) (k : TailKind) (rows : List Row) (mask : ℕ) (table : List Entry) → IsHeadOf b q ns h → IsKindOf b q classes tail k → AreRows b q at classes table rows → IsRowAt rows h.carrier h.first h.row
-      → IsKnownIn rows h.row k.class mask → AreAmong (bit_and h.classes k.classes) mask → AddsNothing b q at (ns ++ tail.flights) tail.after table
-  known_nothing ns h classes tail k rows mask table head kind are row known among =
-      let same = some_same (slice_get rows h.row) known.one row.row known.stands row.stands in
-      let done = each_in (IsRow b q at classes table) rows known.one are (got_in rows h.row known.one known.stands) k.class mask kind.class known.known kind.stands in
-      let own = subst (λ d. ClassDone b q at (record { class = joined_class h.carrier d kind.class; classes = mask }) table) row.first_is
-      (subst (λ x. ClassDone b q at (record { class = joined_class x row.row.first kind.class; classes = mask }) table) row.carrier_is
-      (subst (λ (r : Row). ClassDone b q at (record { class = joined_class r.carrier r.first kind.class; classes = mask }) table) same done)) in
-      tail_nothing ns h classes tail k kind.class mask table head kind kind.stands own among
+  pub known_nothing : (ns : List ℕ) (h : HeadKind) (classes : List TailClass) (tails : List Path) (kinds : List TailKind) (rows : List Row) (number : ℕ) (table : List Entry) → IsHeadOf b q ns h → AreKindsOf b q tails classes kinds → AreRows b q at classes table rows
+      → (row : IsRowAt rows h.carrier h.first h.row) → IsKnownTail kinds row.row.masks.items h.classes number → TailAddsNothing b q at tails table ns number
+  known_nothing ns h classes tails kinds rows number table head are rights row known tail got =
+      let kind = are number known.kind tail known.stands got in
+      let done = each_in (IsRow b q at classes table) rows row.row rights (got_in rows h.row row.row row.stands) known.kind.class known.mask kind.class known.known kind.stands in
+      let own = subst (λ d. ClassDone b q at (record { class = joined_class h.carrier d kind.class; classes = known.mask }) table) row.first_is
+      (subst (λ x. ClassDone b q at (record { class = joined_class x row.row.first kind.class; classes = known.mask }) table) row.carrier_is done) in
+      tail_nothing ns h classes tail known.kind kind.class known.mask table head kind kind.stands own known.among
+
+  -- the tails before a place add nothing, where those before another do and a row tells it of those between
+  pub nothing_to : (ns : List ℕ) (h : HeadKind) (classes : List TailClass) (tails : List Path) (kinds : List TailKind) (rows : List Row) (numbers : List ℕ) (from to : ℕ) (table : List Entry) → IsHeadOf b q ns h → AreKindsOf b q tails classes kinds → AreRows b q at classes table rows
+      → (row : IsRowAt rows h.carrier h.first h.row) → ((i number : ℕ) → from ≤ i → i < to → slice_get numbers i ≡ Some number → IsKnownTail kinds row.row.masks.items h.classes number)
+      → ((i number : ℕ) → i < from → slice_get numbers i ≡ Some number → TailAddsNothing b q at tails table ns number) → (i number : ℕ) → i < to → slice_get numbers i ≡ Some number → TailAddsNothing b q at tails table ns number
+  nothing_to ns h classes tails kinds rows numbers from to table head are rights row known before i number lt got = elim (below_or_from from i) [
+    | inl k ↦ before i number k got
+    | inr k ↦ known_nothing ns h classes tails kinds rows number table head are rights row (known i number k lt got)
+  ]
 
   module _ (class : PathClass) (ms : List Market) (e : End) (are : AreMarkets b ms) (limited : Limited b) (key : e.key ≡ record { place = class.end; carrier = class.carrier }) (end : IsEnd b at.place ms e) where
     reaches : (after : Option Position) (fs : List Flight) → IsOfClass class after fs → ReachesEnd e fs

@@ -1,11 +1,12 @@
 -- What is known of the paths that begin with a carrier on a day and go on by tails, class by class.
-use Rattle.std.specs.Prelude.{◌≡◌, ℕ, ℤ, List, ◌++◌, Some, IfSome, slice_get}
+use Rattle.std.specs.Prelude.{◌≡◌, ℕ, ℤ, List, ◌++◌, Option, Some, bit_and, IfSome, slice_get}
 use Rattle.component_table.specs.declared.kinds.TailClass.{TailClass}
+use Rattle.component_table.specs.declared.kinds.TailKind.{TailKind}
 use Rattle.component_table.specs.declared.rows.HeadKind.{HeadKind}
 use Rattle.component_table.specs.declared.rows.MetHead.{MetHead}
 use Rattle.component_table.specs.declared.rows.Row.{Row}
 use Rattle.component_table.specs.declared.rows.Rows.{Rows}
-use Rattle.component_table.specs.Classes.{ClassDone}
+use Rattle.component_table.specs.Classes.{AreAmong, ClassDone}
 use Rattle.component_table.specs.Kinds.{joined_class}
 use Rattle.component_table.specs.Tables.{AddsNothing, HasLegs}
 use Rattle.fare_law.specs.declared.flights.Flight.{Flight}
@@ -52,11 +53,13 @@ pub record HasRows (b : Book) (q : Request) (at : Position) (classes : List Tail
   pub head : IfSome r.head (IsMet b q r.kept.items)
   pub tail : IfSome r.tail (λ t. slice_get classes t.number ≡ Some t.class)
 
--- the classes of seats stand in the row of this number for a class of tails
-pub record IsKnownIn (rows : List Row) (row class mask : ℕ) : Type 0 where
-  pub one : Row
-  pub stands : slice_get rows row ≡ Some one
-  pub known : slice_get one.masks.items class ≡ Some (Some mask)
+-- Enough classes of seats stand in a row for the class of the tail of this number, where these are open in the head.
+pub record IsKnownTail (kinds : List TailKind) (masks : List (Option ℕ)) (classes number : ℕ) : Type 0 where
+  pub kind : TailKind
+  pub stands : slice_get kinds number ≡ Some kind
+  pub mask : ℕ
+  pub known : slice_get masks kind.class ≡ Some (Some mask)
+  pub among : AreAmong (bit_and classes kind.classes) mask
 
 -- a path that goes on from a head of these numbers by the tail of this number adds nothing to the table
 abbrev pub TailAddsNothing : Book → Request → Position → List Path → List Entry → List ℕ → ℕ → Type 0

@@ -8,7 +8,7 @@ ghost use Rattle.component_table.specs.declared.rows.Row.{Row as OneRow};
 ghost use Rattle.component_table.specs.Classes.{ClassDone};
 ghost use Rattle.component_table.specs.Masks.{AreMasks, PutsMask};
 ghost use Rattle.component_table.specs.Kinds.{joined_class};
-ghost use Rattle.component_table.specs.Rows.{AreRows, HasRows, IsKnownIn, IsMet, IsRowAt};
+ghost use Rattle.component_table.specs.Rows.{AreRows, HasRows, IsMet, IsRowAt};
 ghost use Rattle.fare_law.specs.declared.names.Carrier.{Carrier as CarrierName};
 ghost use Rattle.fare_law.specs.declared.requests.Request.{Request as Asked};
 ghost use Rattle.fare_law.specs.Book.{Book as Version};
@@ -218,12 +218,14 @@ impl Rows {
         true
     }
 
-    /// The classes of seats that are known in a row for a class of tails.
-    pub fn mask(&self, row: usize, class: usize) -> Option<u32>
-        ensures { IfSome result (λ mask. IsKnownIn self.now.kept.items row class mask) }
+    /// The classes of seats that are known in a row, by the numbers of classes of tails. None where there is no such row.
+    pub fn masks(&self, row: usize) -> &[Option<u32>]
+        ensures { (one : OneRow) → slice_get self.now.kept.items row ≡ Some one → result.now ≡ one.masks.items }
     {
-        let row = self.kept.as_slice().get(row)?;
-        known_for(row.masks.as_slice(), class)
+        match self.kept.as_slice().get(row) {
+            Some(row) => row.masks.as_slice(),
+            None => &[],
+        }
     }
 
     /// Keeps in a row for which classes of seats a class of tails is known.
@@ -249,7 +251,7 @@ fn put_in(row: &mut Row, class: usize, mask: u32)
 }
 
 /// The classes of seats that are known for a class of tails.
-fn known_for(masks: &[Option<u32>], class: usize) -> Option<u32>
+pub fn known_for(masks: &[Option<u32>], class: usize) -> Option<u32>
     ensures { IfSome result (λ mask. slice_get masks.now class ≡ Some (Some mask)) }
 {
     match masks.get(class) {

@@ -1,17 +1,17 @@
 //! Paths that need not be put into a table, told by their heads and tails before they are made.
 ghost use Rattle.std.specs.Prelude.{◌≡◌, ◌<◌, ◌≤◌, ℕ, IfSome, IsTrue, List as Items, Some, bit_and, length, slice_get};
-ghost use Rattle.component_table.specs.Classes.{AreAmong, ClassDone};
+ghost use Rattle.component_table.specs.Classes.{ClassDone};
 ghost use Rattle.component_table.specs.Kinds.{AreKinds};
 ghost use Rattle.component_table.specs.Reaches.{IsReach};
-ghost use Rattle.component_table.specs.Rows.{HasRows, IsHeadOf, IsKnownIn, IsRowAt, TailAddsNothing};
+ghost use Rattle.component_table.specs.Rows.{HasRows, IsHeadOf, IsKnownTail, IsRowAt, TailAddsNothing};
 ghost use Rattle.flight_paths.specs.declared.positions.Path.{Path as PathData};
 ghost use Rattle.outlines.specs.declared.outline.Entry.{Entry as OneEntry};
 
 use crate::adding::{end_at, is_unserved};
 use crate::classes::PathClass;
 use crate::ends::{EndKey, Reach};
-use crate::kinds::Kinds;
-use crate::rows::{HeadKind, Rows};
+use crate::kinds::{Kinds, TailKind};
+use crate::rows::{HeadKind, Rows, known_for};
 use crate::settled::are_among;
 use crate::ways::Origin;
 
@@ -32,18 +32,92 @@ pub fn skipped(rows: &mut Rows, met: &Met, numbers: &[usize]) -> usize
     ensures within { result ≤ length numbers.now }
     ensures nothing { (table : Items OneEntry) → HasRows met.now.origin.book.now met.now.origin.request.now met.now.origin.at.now met.now.kinds.now.classes.items table rows.old → (head : Items ℕ) → IsHeadOf met.now.origin.book.now met.now.origin.request.now head met.now.head → (tails : Items PathData) → AreKinds met.now.origin.book.now met.now.origin.request.now tails met.now.kinds.now → (i number : ℕ) → i < result → slice_get numbers.now i ≡ Some number → TailAddsNothing met.now.origin.book.now met.now.origin.request.now met.now.origin.at.now tails table head number }
 {
-    let mut run = 0;
-    for number in numbers {
-        if !adds_nothing(rows, met, *number) {
-            return run;
+    let mut at = 0;
+    while at < numbers.len() {
+        let masks = rows.masks(met.head.row);
+        at = known_to(
+            met.kinds.of.as_slice(),
+            masks,
+            met.head.classes,
+            numbers,
+            at,
+        );
+        if !adds_nothing_at(rows, met, numbers, at) {
+            return at;
         }
-        run += 1;
+        at += 1;
     }
-    run
+    at
 }
 
-/// Whether the path that goes on from the head by the tail of this number adds nothing to the table: where its row says
-/// so, or what is filed, which is then kept in the row. Where it may add something, the tail's class is at hand.
+/// Where the first stands, from a place on, of the tails of these numbers of which a row doesn't tell that they add nothing
+/// after a head on which these classes of seats are open.
+fn known_to(
+    kinds: &[TailKind],
+    masks: &[Option<u32>],
+    classes: u32,
+    numbers: &[usize],
+    from: usize,
+) -> usize
+    requires { from ≤ length numbers.now }
+    ensures low { from ≤ result }
+    ensures high { result ≤ length numbers.now }
+    ensures known { (i number : ℕ) → from ≤ i → i < result → slice_get numbers.now i ≡ Some number → IsKnownTail kinds.now masks.now classes number }
+{
+    for at in from..numbers.len() {
+        if !is_known_at(kinds, masks, classes, numbers, at) {
+            return at;
+        }
+    }
+    numbers.len()
+}
+
+/// Whether a row tells that the tail of the number at a place adds nothing.
+fn is_known_at(
+    kinds: &[TailKind],
+    masks: &[Option<u32>],
+    classes: u32,
+    numbers: &[usize],
+    at: usize,
+) -> bool
+    ensures { IsTrue result → (number : ℕ) → slice_get numbers.now at ≡ Some number → IsKnownTail kinds.now masks.now classes number }
+{
+    match numbers.get(at) {
+        Some(number) => is_known(kinds, masks, classes, *number),
+        None => false,
+    }
+}
+
+/// Whether a row tells that the tail of this number adds nothing.
+fn is_known(kinds: &[TailKind], masks: &[Option<u32>], classes: u32, number: usize) -> bool
+    ensures { IsTrue result → IsKnownTail kinds.now masks.now classes number }
+{
+    let Some(kind) = kinds.get(number) else {
+        return false;
+    };
+    match known_for(masks, kind.class) {
+        Some(mask) => are_among(classes & kind.classes, mask),
+        None => false,
+    }
+}
+
+/// Whether there is a number at this place, and the path that goes on from the head by its tail adds nothing.
+fn adds_nothing_at(rows: &mut Rows, met: &Met, numbers: &[usize], at: usize) -> bool
+    requires reach { IsReach met.now.origin.book.now met.now.origin.at.now.place met.now.reach.now }
+    requires row { IsRowAt rows.old.kept.items met.now.head.carrier met.now.head.first met.now.head.row }
+    ensures rows { (table : Items OneEntry) → HasRows met.now.origin.book.now met.now.origin.request.now met.now.origin.at.now met.now.kinds.now.classes.items table rows.old → HasRows met.now.origin.book.now met.now.origin.request.now met.now.origin.at.now met.now.kinds.now.classes.items table rows.new }
+    ensures row { IsRowAt rows.new.kept.items met.now.head.carrier met.now.head.first met.now.head.row }
+    ensures within { IsTrue result → at < length numbers.now }
+    ensures nothing { IsTrue result → (table : Items OneEntry) → HasRows met.now.origin.book.now met.now.origin.request.now met.now.origin.at.now met.now.kinds.now.classes.items table rows.old → (head : Items ℕ) → IsHeadOf met.now.origin.book.now met.now.origin.request.now head met.now.head → (tails : Items PathData) → AreKinds met.now.origin.book.now met.now.origin.request.now tails met.now.kinds.now → (number : ℕ) → slice_get numbers.now at ≡ Some number → TailAddsNothing met.now.origin.book.now met.now.origin.request.now met.now.origin.at.now tails table head number }
+{
+    match numbers.get(at) {
+        Some(number) => adds_nothing(rows, met, *number),
+        None => false,
+    }
+}
+
+/// Whether the path that goes on from the head by the tail of this number adds nothing to the table by what is filed,
+/// which is then kept in the head's row. Where it may add something, the tail's class is at hand.
 fn adds_nothing(rows: &mut Rows, met: &Met, number: usize) -> bool
     requires reach { IsReach met.now.origin.book.now met.now.origin.at.now.place met.now.reach.now }
     requires row { IsRowAt rows.old.kept.items met.now.head.carrier met.now.head.first met.now.head.row }
@@ -55,9 +129,6 @@ fn adds_nothing(rows: &mut Rows, met: &Met, number: usize) -> bool
         return false;
     };
     let classes = met.head.classes & kind.classes;
-    if is_known(rows, met.head.row, kind.class, classes) {
-        return true;
-    }
     let Some(class) = met.kinds.classes.as_slice().get(kind.class) else {
         return false;
     };
@@ -70,16 +141,6 @@ fn adds_nothing(rows: &mut Rows, met: &Met, number: usize) -> bool
             rows.take(kind.class, class);
             false
         }
-    }
-}
-
-/// Whether these classes of seats are among those that are known in a row for a class of tails.
-fn is_known(rows: &Rows, row: usize, class: usize, classes: u32) -> bool
-    ensures { IsTrue result → (mask : ℕ) × IsKnownIn rows.now.kept.items row class mask × AreAmong classes mask }
-{
-    match rows.mask(row, class) {
-        Some(mask) => are_among(classes, mask),
-        None => false,
     }
 }
 

@@ -2,18 +2,8 @@ use Rattle.std.proofs.Common.{ap, length, refl, slice_get, subst, sym, ◌∙◌
 use Rattle.std.proofs.lemmas.Option.{slice_get_read}
 use Rattle.component_table.specs.declared.classes.PathClass.{PathClass}
 use Rattle.component_table.specs.Classes.{ClassDone}
-use Rattle.component_table.proofs.RowFacts.{done_in_row, known_nothing, tail_nothing}
+use Rattle.component_table.proofs.RowFacts.{done_in_row, tail_nothing}
 use Rattle.component_table.proofs.skipping.adds_nothing.Goals as goal
-
-pub returns-then-is_known-clause-nothing : goal.returns-then-is_known-clause-nothing
-returns-then-is_known-clause-nothing c = λ t table has head is tails kinds tail got.
-    let m = c.args.met.now in
-    let kind = c.in-Some.kind.now in
-    let all = c.as_slice.result.now in
-    let found = c.in-Some.ensures.lookup in
-    let stands = ap (λ xs. slice_get xs c.args.number) (sym c.as_slice.ensures.value) ∙ slice_get_read all (length all) c.args.number kind refl found.3.0 found.1 in
-    let known = c.is_known.ensures c.if-is_known.true in
-    known_nothing m.origin.book.now m.origin.request.now m.origin.at.now head m.head m.kinds.now.classes.items tail kind c.args.rows.now.kept.items known.0 table is (kinds c.args.number kind tail stands got) has.each c.requires.row known.1 known.2
 
 pub returns-in-Some-filed_for-clause-rows : goal.returns-in-Some-filed_for-clause-rows
 returns-in-Some-filed_for-clause-rows c = λ table has.
