@@ -1,7 +1,6 @@
 -- Steps without what another of the list makes idle are a list of the same marks.
-use Rattle.std.proofs.Common.{◌≡◌, ◌⊎◌, ◌∙◌, ℕ, ℤ, zero, suc, ◌+◌, ◌≤◌, ◌<◌, List, [], ◌∷◌, ◌++◌, length, take, get_or, slice_get, Option, Some, None, refl, sym, ap, subst, inl, inr, arith}
+use Rattle.std.proofs.Common.{◌≡◌, ◌⊎◌, ◌∙◌, ℕ, ℤ, IfSome, zero, suc, ◌+◌, ◌≤◌, ◌<◌, List, [], ◌∷◌, ◌++◌, length, take, get_or, slice_get, slice_set, Option, Some, None, refl, sym, ap, subst, inl, inr, arith}
 use Rattle.std.proofs.Math.Seq.{take-suc}
-use Rattle.std.specs.List.Sorted.{IsPermutation}
 use Rattle.fare_law.specs.Lists.{Each, IsIn, Matched}
 use Rattle.outlines.specs.declared.marks.Listed.{Listed}
 use Rattle.outlines.specs.declared.marks.Mark.{Mark}
@@ -9,11 +8,10 @@ use Rattle.outlines.specs.declared.outline.Entry.{Entry}
 use Rattle.outlines.specs.Marks.{IsList}
 use Rattle.residual_keys.proofs.Adding.{in_either, in_left, in_right}
 use Rattle.residual_keys.proofs.LeastOne.{in_each, weaken}
-use Rattle.residual_keys.proofs.SortedWords.{same_elements}
 use Rattle.residual_table.specs.Keys.{IsSlot, Tables as Numbers}
 use Rattle.search_steps.specs.declared.numbered.Step.{Step}
 use Rattle.search_steps.specs.Numbers.{AreSteps, AreStepsOf, HasSteps, IsStep}
-use Rattle.search_steps.specs.Shortening.{HasNoDearer, HaveOneMark, IsShorter, OnceMore}
+use Rattle.search_steps.specs.Shortening.{HasMarkAt, HasNoDearer, HaveOneMark, IsShorter}
 use Rattle.search_steps.proofs.TableFacts.{each_last}
 
 pub got_in : (ss : List Step) (n : ℕ) (s : Step) → slice_get ss n ≡ Some s → IsIn s ss
@@ -30,38 +28,6 @@ one_mark s u e = record { after = ap (λ (z : Step). z.after) (sym e); unit = ap
 pub shorter_none : IsShorter [] []
 shorter_none = record { part = tt; covered = λ s i. absurd i }
 
-once_more : (ss old new : List Step) (s : Step) → OnceMore old s new → IsShorter ss old → IsShorter (ss ++ s ∷ []) new
-once_more ss old new s (inl is) h = subst (IsShorter (ss ++ s ∷ [])) (sym is) (record {
-  part = each_last (λ u. IsIn u (ss ++ s ∷ [])) old s (weaken (λ u. IsIn u ss) (λ u. IsIn u (ss ++ s ∷ [])) (λ u i. in_left u ss (s ∷ []) i) old h.part) (in_right s ss (s ∷ []) (inl refl));
-  covered = λ u i. cover u (in_either u ss (s ∷ []) i);
-})
-  where
-    cover : (u : Step) → IsIn u ss ⊎ IsIn u (s ∷ []) → HasNoDearer (old ++ s ∷ []) u
-    cover u (inl i) = let z = h.covered u i in (z.0, in_left z.0 old (s ∷ []) z.1, z.2, z.3)
-    cover u (inr (inl e)) = (s, in_right s old (s ∷ []) (inl refl), one_mark u s e, subst (λ (z : Step). s.price ≤ z.price) (sym e) (itself s.price))
-    cover u (inr (inr n)) = absurd n
-once_more ss old new s (inr had) h = subst (IsShorter (ss ++ s ∷ [])) (sym had.0) (record {
-  part = weaken (λ u. IsIn u ss) (λ u. IsIn u (ss ++ s ∷ [])) (λ u i. in_left u ss (s ∷ []) i) old h.part;
-  covered = λ u i. cover u (in_either u ss (s ∷ []) i);
-})
-  where
-    cover : (u : Step) → IsIn u ss ⊎ IsIn u (s ∷ []) → HasNoDearer old u
-    cover u (inl i) = h.covered u i
-    cover u (inr (inl e)) = subst (HasNoDearer old) (sym e) had.1
-    cover u (inr (inr n)) = absurd n
-
-pub shorter_next : (ss : List Step) (i : ℕ) (d : Step) (old new : List Step) → i < length ss → OnceMore old (get_or ss i d) new → IsShorter (take i ss) old → IsShorter (take (i + 1) ss) new
-shorter_next ss i d old new lt more h =
-    let one : i + 1 ≡ suc i = omega arith in
-    let front : take (i + 1) ss ≡ take i ss ++ get_or ss i d ∷ [] = ap (λ n. take n ss) one ∙ take-suc ss i d lt in
-    subst (λ us. IsShorter us new) (sym front) (once_more (take i ss) old new (get_or ss i d) more h)
-
-pub shorter_order : (old mid new : List Step) → IsPermutation old mid → IsShorter mid new → IsShorter old new
-shorter_order old mid new p h = record {
-  part = weaken (λ s. IsIn s mid) (λ s. IsIn s old) (λ s i. (same_elements s old mid p).1 i) new h.part;
-  covered = λ s i. h.covered s ((same_elements s old mid p).0 i);
-}
-
 mark_on : (s u v : Step) → HaveOneMark v u → HaveOneMark u s → HaveOneMark v s
 mark_on s u v h k = record { after = h.after ∙ k.after; unit = h.unit ∙ k.unit; carrier = h.carrier ∙ k.carrier; ends = h.ends ∙ k.ends }
 
@@ -76,6 +42,107 @@ shorter_twice old mid new g h = record {
       let second = v.3 in
       (v.0, v.1, mark_on s u.0 v.0 v.2 u.2, omega (arith, first, second));
 }
+
+each_from : (all ss : List Step) → ((s : Step) → IsIn s ss → IsIn s all) → Each (λ s. IsIn s all) ss
+each_from all [] f = tt
+each_from all (s ∷ ss) f = (f s (inl refl), each_from all ss (λ u i. f u (inr i)))
+
+each_itself : (ss : List Step) → Each (λ s. IsIn s ss) ss
+each_itself ss = each_from ss ss (λ s i. i)
+
+-- what is shorter than a list is so with one more at the end of both
+shorter_more : (ss old : List Step) (s : Step) → IsShorter ss old → IsShorter (ss ++ s ∷ []) (old ++ s ∷ [])
+shorter_more ss old s h = record {
+  part = each_last (λ u. IsIn u (ss ++ s ∷ [])) old s (weaken (λ u. IsIn u ss) (λ u. IsIn u (ss ++ s ∷ [])) (λ u i. in_left u ss (s ∷ []) i) old h.part) (in_right s ss (s ∷ []) (inl refl));
+  covered = λ u i. cover u (in_either u ss (s ∷ []) i);
+}
+  where
+    cover : (u : Step) → IsIn u ss ⊎ IsIn u (s ∷ []) → HasNoDearer (old ++ s ∷ []) u
+    cover u (inl i) = let z = h.covered u i in (z.0, in_left z.0 old (s ∷ []) z.1, z.2, z.3)
+    cover u (inr (inl e)) = (s, in_right s old (s ∷ []) (inl refl), one_mark u s e, subst (λ (z : Step). s.price ≤ z.price) (sym e) (itself s.price))
+    cover u (inr (inr n)) = absurd n
+
+pub shorter_next : (ss : List Step) (i : ℕ) (d : Step) (old new : List Step) → i < length ss → IsShorter (old ++ get_or ss i d ∷ []) new → IsShorter (take i ss) old → IsShorter (take (i + 1) ss) new
+shorter_next ss i d old new lt more h =
+    let one : i + 1 ≡ suc i = omega arith in
+    let front : take (i + 1) ss ≡ take i ss ++ get_or ss i d ∷ [] = ap (λ n. take n ss) one ∙ take-suc ss i d lt in
+    subst (λ us. IsShorter us new) (sym front) (shorter_twice (take i ss ++ get_or ss i d ∷ []) (old ++ get_or ss i d ∷ []) new (shorter_more (take i ss) old (get_or ss i d) h) more)
+
+pub shorter_itself : (ss : List Step) → IsShorter ss ss
+shorter_itself ss = record {
+  part = each_itself ss;
+  covered = λ s i. (s, i, one_mark s s refl, itself s.price);
+}
+
+-- one at a place may stand for one more of its mark that costs no less
+pub shorter_had : (ss : List Step) (n : ℕ) (s u : Step) → slice_get ss n ≡ Some u → HaveOneMark u s → u.price ≤ s.price → IsShorter (ss ++ s ∷ []) ss
+shorter_had ss n s u got mark low = record {
+  part = weaken (λ z. IsIn z ss) (λ z. IsIn z (ss ++ s ∷ [])) (λ z i. in_left z ss (s ∷ []) i) ss (each_itself ss);
+  covered = λ z i. cover z (in_either z ss (s ∷ []) i);
+}
+  where
+    cover : (z : Step) → IsIn z ss ⊎ IsIn z (s ∷ []) → HasNoDearer ss z
+    cover z (inl i) = (z, i, one_mark z z refl, itself z.price)
+    cover z (inr (inl e)) = subst (HasNoDearer ss) (sym e) (u, got_in ss n u got, mark, low)
+    cover z (inr (inr none)) = absurd none
+
+-- and one more may stand at the place of one of its mark that costs no less
+pub shorter_put : (ss : List Step) (n : ℕ) (s u : Step) → slice_get ss n ≡ Some u → HaveOneMark u s → s.price ≤ u.price → IsShorter (ss ++ s ∷ []) (slice_set ss n s)
+shorter_put [] n s u got mark low = absurd (cc)
+shorter_put (x ∷ ss) zero s u got mark low = record {
+  part = (in_right s (x ∷ ss) (s ∷ []) (inl refl), weaken (λ z. IsIn z ss) (λ z. IsIn z (x ∷ (ss ++ s ∷ []))) (λ z i. inr (in_left z ss (s ∷ []) i)) ss (each_itself ss));
+  covered = λ z i. cover z i;
+}
+  where
+    first : x ≡ u
+    first = let z : Some x ≡ Some u = got in cc
+
+    cover : (z : Step) → IsIn z (x ∷ (ss ++ s ∷ [])) → HasNoDearer (s ∷ ss) z
+    cover z (inl e) = (s, inl refl, turned z (e ∙ first), subst (λ (y : Step). s.price ≤ y.price) (sym (e ∙ first)) low)
+      where
+        turned : (y : Step) → y ≡ u → HaveOneMark s y
+        turned y f = subst (HaveOneMark s) (sym f) (record { after = sym mark.after; unit = sym mark.unit; carrier = sym mark.carrier; ends = sym mark.ends })
+    cover z (inr i) = rest z (in_either z ss (s ∷ []) i)
+      where
+        rest : (z : Step) → IsIn z ss ⊎ IsIn z (s ∷ []) → HasNoDearer (s ∷ ss) z
+        rest z (inl i) = (z, inr i, one_mark z z refl, itself z.price)
+        rest z (inr (inl e)) = (s, inl refl, one_mark z s e, subst (λ (z : Step). s.price ≤ z.price) (sym e) (itself s.price))
+        rest z (inr (inr none)) = absurd none
+shorter_put (x ∷ ss) (suc n) s u got mark low =
+    let more = shorter_put ss n s u got mark low in
+    record {
+      part = (inl refl, weaken (λ z. IsIn z (ss ++ s ∷ [])) (λ z. IsIn z (x ∷ (ss ++ s ∷ []))) (λ z i. inr i) (slice_set ss n s) more.part);
+      covered = λ z i. cover more z i;
+    }
+  where
+    cover : IsShorter (ss ++ s ∷ []) (slice_set ss n s) → (z : Step) → IsIn z (x ∷ (ss ++ s ∷ [])) → HasNoDearer (x ∷ slice_set ss n s) z
+    cover more z (inl e) = (x, inl refl, one_mark z x e, subst (λ (y : Step). x.price ≤ y.price) (sym e) (itself x.price))
+    cover more z (inr i) = let y = more.covered z i in (y.0, inr y.1, y.2, y.3)
+
+got_none : (ss : List Step) (n : ℕ) → slice_get ss n ≡ None → n < length ss → ⊥
+got_none [] n e lt = omega (arith, lt)
+got_none (s ∷ ss) zero e lt = absurd (cc)
+got_none (s ∷ ss) (suc n) e lt = got_none ss n e (omega (arith, lt))
+
+got_or : (ss : List Step) (n : ℕ) (d u : Step) → slice_get ss n ≡ Some u → get_or ss n d ≡ u
+got_or [] n d u e = absurd (cc)
+got_or (s ∷ ss) zero d u e = cc
+got_or (s ∷ ss) (suc n) d u e = got_or ss n d u e
+
+-- the same of a step whose mark stands at a place
+pub lower_had : (ss : List Step) (n : ℕ) (s d : Step) → HasMarkAt ss s n → (get_or ss n d).price ≤ s.price → IsShorter (ss ++ s ∷ []) ss
+lower_had ss n s d has low = by_case (slice_get ss n) refl has.0
+  where
+    by_case : (o : Option Step) → slice_get ss n ≡ o → IfSome o (λ u. HaveOneMark u s) → IsShorter (ss ++ s ∷ []) ss
+    by_case None e h = absurd (let lt = has.1 in got_none ss n e lt)
+    by_case (Some u) e h = shorter_had ss n s u e h (subst (λ (z : Step). z.price ≤ s.price) (got_or ss n d u e) low)
+
+pub lower_put : (ss : List Step) (n : ℕ) (s d : Step) → HasMarkAt ss s n → s.price < (get_or ss n d).price → IsShorter (ss ++ s ∷ []) (slice_set ss n s)
+lower_put ss n s d has low = by_case (slice_get ss n) refl has.0
+  where
+    by_case : (o : Option Step) → slice_get ss n ≡ o → IfSome o (λ u. HaveOneMark u s) → IsShorter (ss ++ s ∷ []) (slice_set ss n s)
+    by_case None e h = absurd (let lt = has.1 in got_none ss n e lt)
+    by_case (Some u) e h = let less = subst (λ (z : Step). s.price < z.price) (got_or ss n d u e) low in shorter_put ss n s u e h (omega (arith, less))
 
 -- what is matched with one of a list
 matched_left : {X Y : Type 0} (R : X → Y → Type 0) (xs : List X) (ys : List Y) (y : Y) → Matched R xs ys → IsIn y ys → (x : X) × IsIn x xs × R x y

@@ -1,5 +1,5 @@
 -- Lists of steps without what another of the list makes idle.
-use Rattle.std.specs.Prelude.{◌≡◌, ◌⊎◌, ◌≤◌, List, [], ◌∷◌, ◌++◌}
+use Rattle.std.specs.Prelude.{◌≡◌, ◌≤◌, ◌<◌, ℕ, List, IfSome, length, slice_get}
 use Rattle.fare_law.specs.Lists.{Each, IsIn}
 use Rattle.search_steps.specs.declared.numbered.Step.{Step}
 
@@ -19,6 +19,6 @@ pub record IsShorter (old new : List Step) : Type 0 where
   pub part : Each (λ s. IsIn s old) new
   pub covered : (s : Step) → IsIn s old → HasNoDearer new s
 
--- one was added at the end, or the list had its mark at no higher price
-abbrev pub OnceMore : List Step → Step → List Step → Type 0
-OnceMore old s new = (new ≡ old ++ s ∷ []) ⊎ ((new ≡ old) × HasNoDearer old s)
+-- a step of this mark stands at a place
+abbrev pub HasMarkAt : List Step → Step → ℕ → Type 0
+HasMarkAt ss s n = IfSome (slice_get ss n) (λ u. HaveOneMark u s) × (n < length ss)

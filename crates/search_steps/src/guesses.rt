@@ -43,4 +43,9 @@ impl Guesses {
         let spread = mixed.wrapping_mul(0x9e3779b97f4a7c15) >> 32;
         spread as usize & self.places.len().saturating_sub(1)
     }
+
+    /// The spot to look at after this one.
+    pub fn next_spot(&self, spot: usize) -> usize {
+        spot.wrapping_add(1) & self.places.len().saturating_sub(1)
+    }
 }

@@ -23,7 +23,7 @@ pub fn steps_of(
     ensures grows { Grows numbers.old numbers.new }
 {
     let steps = all_steps(alloc, numbers, list)?;
-    shortened(alloc, steps)
+    shortened(alloc, steps.as_slice())
 }
 
 /// All marks of a list by numbers.

@@ -1,13 +1,10 @@
-use Rattle.std.proofs.Common.{subst}
-use Rattle.std.proofs.lemmas.Result.{IfOk-weaker}
+use Rattle.std.proofs.Common.{[], sym, subst}
 use Rattle.search_steps.specs.Shortening.{IsShorter}
-use Rattle.search_steps.proofs.Shorter.{shorter_order, shorter_twice}
+use Rattle.search_steps.proofs.Shorter.{shorter_next, shorter_none}
 use Rattle.search_steps.proofs.shortening.shortened.Goals as goal
 
-pub returns : goal.returns
-returns c =
-    let first = c.in_ok-sorted.sorted.items in
-    let sorted = c.sort_unstable_by_key.new.self.items in
-    let once = subst (λ ss. IsShorter ss first) c.as_slice.ensures.value c.in_ok-sorted.ensures in
-    IfOk-weaker c.once_each-2.result _ _
-    (λ kept h. shorter_twice c.args.steps.items first kept.items once (shorter_order first sorted kept.items c.sort_unstable_by_key.ensures.permutation (subst (λ ss. IsShorter ss kept.items) c.as_slice-2.ensures.value h))) c.once_each-2.ensures
+pub loop-step-init : goal.loop-step-init
+loop-step-init c = subst (IsShorter []) (sym c.new-kept.ensures.items) shorter_none
+
+pub loop-step-preserved : goal.loop-step-preserved
+loop-step-preserved c = shorter_next c.args.steps.now c.loop-step.step-index _ c.loop-step.kept.items c.add_once.new.kept.items c.loop-step-test.true c.in_ok-add_once.ensures c.loop-step.invariant
