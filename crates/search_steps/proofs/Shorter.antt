@@ -1,5 +1,5 @@
 -- Steps without what another of the list makes idle are a list of the same marks.
-use Rattle.std.proofs.Common.{◌≡◌, ◌⊎◌, ◌∙◌, ℕ, ℤ, IfSome, zero, suc, ◌+◌, ◌≤◌, ◌<◌, List, [], ◌∷◌, ◌++◌, length, take, get_or, slice_get, slice_set, Option, Some, None, refl, sym, ap, subst, inl, inr, arith}
+use Rattle.std.proofs.Common.{◌≡◌, ◌⊎◌, ◌∙◌, ℕ, ℤ, zero, suc, ◌+◌, ◌≤◌, ◌<◌, List, [], ◌∷◌, ◌++◌, length, take, get_or, slice_get, slice_set, Option, Some, None, refl, sym, ap, subst, inl, inr, arith}
 use Rattle.std.proofs.Math.Seq.{take-suc}
 use Rattle.fare_law.specs.Lists.{Each, IsIn, Matched}
 use Rattle.outlines.specs.declared.marks.Listed.{Listed}
@@ -119,11 +119,6 @@ shorter_put (x ∷ ss) (suc n) s u got mark low =
     cover more z (inl e) = (x, inl refl, one_mark z x e, subst (λ (y : Step). x.price ≤ y.price) (sym e) (itself x.price))
     cover more z (inr i) = let y = more.covered z i in (y.0, inr y.1, y.2, y.3)
 
-got_none : (ss : List Step) (n : ℕ) → slice_get ss n ≡ None → n < length ss → ⊥
-got_none [] n e lt = omega (arith, lt)
-got_none (s ∷ ss) zero e lt = absurd (cc)
-got_none (s ∷ ss) (suc n) e lt = got_none ss n e (omega (arith, lt))
-
 got_or : (ss : List Step) (n : ℕ) (d u : Step) → slice_get ss n ≡ Some u → get_or ss n d ≡ u
 got_or [] n d u e = absurd (cc)
 got_or (s ∷ ss) zero d u e = cc
@@ -131,18 +126,12 @@ got_or (s ∷ ss) (suc n) d u e = got_or ss n d u e
 
 -- the same of a step whose mark stands at a place
 pub lower_had : (ss : List Step) (n : ℕ) (s d : Step) → HasMarkAt ss s n → (get_or ss n d).price ≤ s.price → IsShorter (ss ++ s ∷ []) ss
-lower_had ss n s d has low = by_case (slice_get ss n) refl has.0
-  where
-    by_case : (o : Option Step) → slice_get ss n ≡ o → IfSome o (λ u. HaveOneMark u s) → IsShorter (ss ++ s ∷ []) ss
-    by_case None e h = absurd (let lt = has.1 in got_none ss n e lt)
-    by_case (Some u) e h = shorter_had ss n s u e h (subst (λ (z : Step). z.price ≤ s.price) (got_or ss n d u e) low)
+lower_had ss n s d has low = shorter_had ss n s has.0 has.1 has.2 (subst (λ (z : Step). z.price ≤ s.price) (got_or ss n d has.0 has.1) low)
 
 pub lower_put : (ss : List Step) (n : ℕ) (s d : Step) → HasMarkAt ss s n → s.price < (get_or ss n d).price → IsShorter (ss ++ s ∷ []) (slice_set ss n s)
-lower_put ss n s d has low = by_case (slice_get ss n) refl has.0
-  where
-    by_case : (o : Option Step) → slice_get ss n ≡ o → IfSome o (λ u. HaveOneMark u s) → IsShorter (ss ++ s ∷ []) (slice_set ss n s)
-    by_case None e h = absurd (let lt = has.1 in got_none ss n e lt)
-    by_case (Some u) e h = let less = subst (λ (z : Step). s.price < z.price) (got_or ss n d u e) low in shorter_put ss n s u e h (omega (arith, less))
+lower_put ss n s d has low =
+    let less = subst (λ (z : Step). s.price < z.price) (got_or ss n d has.0 has.1) low in
+    shorter_put ss n s has.0 has.1 has.2 (omega (arith, less))
 
 -- what is matched with one of a list
 matched_left : {X Y : Type 0} (R : X → Y → Type 0) (xs : List X) (ys : List Y) (y : Y) → Matched R xs ys → IsIn y ys → (x : X) × IsIn x xs × R x y

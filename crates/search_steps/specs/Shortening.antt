@@ -1,5 +1,5 @@
 -- Lists of steps without what another of the list makes idle.
-use Rattle.std.specs.Prelude.{◌≡◌, ◌≤◌, ◌<◌, ℕ, List, IfSome, length, slice_get}
+use Rattle.std.specs.Prelude.{◌≡◌, ◌≤◌, ℕ, List, Some, slice_get}
 use Rattle.fare_law.specs.Lists.{Each, IsIn}
 use Rattle.search_steps.specs.declared.numbered.Step.{Step}
 
@@ -21,4 +21,4 @@ pub record IsShorter (old new : List Step) : Type 0 where
 
 -- a step of this mark stands at a place
 abbrev pub HasMarkAt : List Step → Step → ℕ → Type 0
-HasMarkAt ss s n = IfSome (slice_get ss n) (λ u. HaveOneMark u s) × (n < length ss)
+HasMarkAt ss s n = (u : Step) × (slice_get ss n ≡ Some u) × HaveOneMark u s
