@@ -64,9 +64,11 @@ fn answer_by<O: OfferSource>(
     ensures stays { (a : Asked) → O.settled steps.old.offers.now a → O.settled steps.new.offers.now a }
 {
     let graph = Graph::build(alloc, budget, steps)?;
-    let rows = rows_of(alloc, &graph, steps)?;
     let case = steps.case();
     let runs = graph.runs(alloc, steps, u32::from(case.request.best))?;
     let answers = answers_of(alloc, runs)?;
+    // The rows take as much room as what runs are found by, which isn't needed any more.
+    steps.let_go(alloc);
+    let rows = rows_of(alloc, &graph, steps)?;
     Ok(answer_of(alloc, case.book, case.request, answers, rows)?)
 }

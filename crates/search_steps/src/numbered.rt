@@ -77,4 +77,17 @@ impl StepLists {
             recent: Guesses::new(alloc),
         }
     }
+
+    /// Lets go the lists. The numbers stay.
+    pub fn let_go(&mut self, alloc: Global)
+        ensures numbers { self.new.numbers ≡ self.old.numbers }
+        ensures positions { self.new.positions.items ≡ [] }
+        ensures units { self.new.units.items ≡ [] }
+    {
+        self.positions = Vec::new(alloc);
+        self.places = Guesses::new(alloc);
+        self.units = Vec::new(alloc);
+        self.unit_places = IndexMap::new(alloc);
+        self.recent = Guesses::new(alloc);
+    }
 }

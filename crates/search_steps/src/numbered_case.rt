@@ -72,6 +72,14 @@ impl<'a> NumberedCase<'a> {
         }
     }
 
+    /// Lets go the tables and the lists, which take most of the room. They are found anew where they are asked for again.
+    pub fn let_go(&mut self, alloc: Global)
+        ensures { self.new ≡ self.old }
+    {
+        self.tables = Tables::new(alloc);
+        self.lists.let_go(alloc);
+    }
+
     /// The case.
     pub fn case(&self) -> Case<'a>
         ensures book { result.book ≡ self.now.book }

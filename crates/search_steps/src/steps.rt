@@ -61,6 +61,16 @@ impl<'a, O: OfferSource> SearchSteps<'a, O> {
         offers
     }
 
+    /// Lets go what outcomes and moves are found by, which takes most of the room. It is found anew where they are asked
+    /// for again, and keys stay as they are.
+    pub fn let_go(&mut self, alloc: Global)
+        ensures same { self.new.case ≡ self.old.case }
+        ensures same_offers { self.new.offers.ghost_name ≡ self.old.offers.ghost_name }
+        ensures offers { self.new.offers.now ≡ self.old.offers.now }
+    {
+        self.case.let_go(alloc);
+    }
+
     /// The book and the request.
     pub fn case(&self) -> Case<'a>
         ensures book { result.book.now ≡ self.now.case.book.now }
