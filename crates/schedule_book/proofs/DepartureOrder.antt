@@ -4,37 +4,27 @@ use Rattle.std.proofs.Math.ListN.{get_or-map}
 use Rattle.std.proofs.lemmas.Bool.{cases_eq, cases_lt, ne_eqb, eqb-false}
 use Rattle.std.proofs.lemmas.Cmp.{then_total, on_total, nat_cmp_total, nat_list_cmp_total, tied_itself, ranked}
 use Rattle.std.proofs.lemmas.List.{get_or-take, get_or-drop, length-map, length-take, length-drop}
-use Rattle.std.proofs.lemmas.List.Sorted.{Contains-permutation, IsPermutation-map, IsPermutation-sym, searchable_from_sorted}
+use Rattle.std.proofs.lemmas.List.Sorted.{Contains-permutation, IsPermutation-map, IsPermutation-sym}
 use Rattle.std.proofs.lemmas.Map.Keys.{IsDistinct-IsPermutation, IsDistinct-from_apart, apart_from_distinct}
 use Rattle.std.specs.Cmp.{IsTotalOrder, nat_cmp_is}
 use Rattle.std.specs.Cmp.Lexicographic.{slice_cmp}
 use Rattle.std.specs.declared.cmp.Ordering.{Ordering}
 use Rattle.std.specs.declared.cmp.Ordering.TheVariants.{Less as Lower, Equal, Greater}
 use Rattle.std.specs.List.{Contains, IsDistinct}
-use Rattle.std.specs.List.Sorted.{IsPartitionedBy, IsSorted}
-use Rattle.std.specs.Ordering.{MatchOrdering, is_lt, nat_cmp, ordering_index, ordering_then}
+use Rattle.std.specs.List.Sorted.{IsPermutation, IsSorted}
+use Rattle.std.specs.Ordering.{MatchOrdering, is_lt, nat_cmp, ordering_then}
 use Rattle.fare_law.specs.declared.flights.Flight.{Flight}
 use Rattle.fare_law.specs.declared.names.Place.{Place}
 use Rattle.fare_law.specs.Lists.{EachPair, IsIn, Less}
-use Rattle.schedule_book.specs.Departures.{AreDepartures, DepartsFrom, Indexes, origin_cmp, origins}
+use Rattle.schedule_book.specs.Departures.{AreDepartures, DepartsFrom, origins}
 use Rattle.schedule_book.proofs.Sorting.{words_told}
+
+-- by origin, then by number
+abbrev pub origin_cmp : Place × ℕ → Place × ℕ → Ordering
+origin_cmp k l = ordering_then (slice_cmp nat_cmp k.0.0 l.0.0) (nat_cmp k.1 l.1)
 
 origin_total : IsTotalOrder origin_cmp
 origin_total = then_total (on_total (λ (k : Place × ℕ). k.0.0) nat_list_cmp_total) (on_total (λ (k : Place × ℕ). k.1) nat_cmp_total)
-
-lower_falls : (o p : Ordering) → ordering_index o ≤ ordering_index p → is_lt p ≡ true → is_lt o ≡ true
-lower_falls Lower p le t = refl
-lower_falls Equal Lower le t = absurd (omega arith)
-lower_falls Greater Lower le t = absurd (omega arith)
-lower_falls Equal Equal le t = absurd (cc)
-lower_falls Equal Greater le t = absurd (cc)
-lower_falls Greater Equal le t = absurd (cc)
-lower_falls Greater Greater le t = absurd (cc)
-
--- those before a key come before the others
-pub keys_parted : (keys : List (Place × ℕ)) (x : Place × ℕ) → IsSorted origin_cmp keys → IsPartitionedBy (λ k. is_lt (origin_cmp k x)) keys
-keys_parted keys x s i j d le lt t =
-    lower_falls (origin_cmp (get_or keys i d) x) (origin_cmp (get_or keys j d) x) (searchable_from_sorted origin_total (λ k. k) keys x s i j d le lt) t
 
 lower_is : (o : Ordering) → is_lt o ≡ true → o ≡ Lower
 lower_is Lower t = refl
@@ -144,7 +134,13 @@ eq_flips x y = elim (cases_eq x y) [
   | inr ne ↦ ne_eqb x y ne ∙ sym (ne_eqb y x (λ q. ne (sym q)))
 ]
 
-module _ (flights : List Flight) (keys : List (Place × ℕ)) (numbers : List ℕ) (ix : Indexes flights keys numbers) where
+-- the flights' origins in order, and their numbers in that order
+pub record ByOrigin (flights : List Flight) (keys : List (Place × ℕ)) (numbers : List ℕ) : Type 0 where
+  pub keys_are : IsPermutation (origins 0 flights) keys
+  pub sorted : IsSorted origin_cmp keys
+  pub numbers_are : numbers ≡ map (λ k. k.1) keys
+
+module _ (flights : List Flight) (keys : List (Place × ℕ)) (numbers : List ℕ) (ix : ByOrigin flights keys numbers) where
   numbers_differ : IsDistinct eqb (map (λ k. k.1) keys)
   numbers_differ =
       IsDistinct-IsPermutation eqb eq_flips (map (λ k. k.1) (origins 0 flights)) (map (λ k. k.1) keys) (IsPermutation-map (λ (k : Place × ℕ). k.1) (origins 0 flights) keys ix.keys_are)

@@ -12,3 +12,4 @@ pub mod DepartureOrder
 pub mod Limited
 pub mod OneFault
 pub mod OneList
+pub mod Packing

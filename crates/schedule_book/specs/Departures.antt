@@ -1,12 +1,10 @@
 -- The numbers of flights by origin.
-use Rattle.std.specs.Prelude.{◌≡◌, ◌↔◌, ℕ, suc, ◌≤◌, ◌<◌, List, [], ◌∷◌, map, slice_get, Some}
-use Rattle.std.specs.declared.cmp.Ordering.{Ordering}
-use Rattle.std.specs.Ordering.{nat_cmp, ordering_then}
-use Rattle.std.specs.Cmp.Lexicographic.{slice_cmp}
+use Rattle.std.specs.Prelude.{◌≡◌, ◌↔◌, ℕ, suc, ◌≤◌, ◌<◌, ◌+◌, ◌*◌, List, [], ◌∷◌, length, map, slice_get, slice_index, Some}
+use Rattle.std.specs.Ordering.{nat_cmp}
 use Rattle.std.specs.List.Sorted.{IsPermutation, IsSorted}
 use Rattle.fare_law.specs.declared.flights.Flight.{Flight}
 use Rattle.fare_law.specs.declared.names.Place.{Place}
-use Rattle.fare_law.specs.Lists.{EachPair, IsIn}
+use Rattle.fare_law.specs.Lists.{Each, EachPair, IsIn}
 
 -- the flight of this number departs from the place
 abbrev pub DepartsFrom : List Flight → Place → ℕ → Type 0
@@ -22,12 +20,27 @@ abbrev pub origins : ℕ → List Flight → List (Place × ℕ)
 origins n [] = []
 origins n (f ∷ fs) = (f.from, n) ∷ origins (suc n) fs
 
--- by origin, then by number
-abbrev pub origin_cmp : Place × ℕ → Place × ℕ → Ordering
-origin_cmp k l = ordering_then (slice_cmp nat_cmp k.0.0 l.0.0) (nat_cmp k.1 l.1)
+-- letters as one number
+abbrev pub letters_number : List ℕ → ℕ
+letters_number letters = (slice_index letters 0 * 256 + slice_index letters 1) * 256 + slice_index letters 2
 
--- the flights' origins in order, and their numbers in that order
-pub record Indexes (flights : List Flight) (keys : List (Place × ℕ)) (numbers : List ℕ) : Type 0 where
-  pub keys_are : IsPermutation (origins 0 flights) keys
-  pub sorted : IsSorted origin_cmp keys
-  pub numbers_are : numbers ≡ map (λ k. k.1) keys
+-- an origin and a flight's number as one number
+abbrev pub packed : Place × ℕ → ℕ
+packed k = letters_number k.0.0 * 4294967296 + k.1
+
+-- three letters of a byte each
+abbrev pub AreLetters : List ℕ → Type 0
+AreLetters letters = (length letters ≡ 3) × Each (λ letter. letter < 256) letters
+
+-- a place of such letters, and a number that has 32 bits
+abbrev pub IsKey : Place × ℕ → Type 0
+IsKey k = AreLetters k.0.0 × (k.1 < 4294967296)
+
+-- the flights' origins with their numbers, in order: packed, and the numbers alone
+pub record Indexes (flights : List Flight) (keys numbers : List ℕ) : Type 0 where
+  pub pairs : List (Place × ℕ)
+  pub pairs_are : IsPermutation (origins 0 flights) pairs
+  pub each : Each IsKey pairs
+  pub keys_are : keys ≡ map packed pairs
+  pub sorted : IsSorted nat_cmp keys
+  pub numbers_are : numbers ≡ map (λ k. k.1) pairs

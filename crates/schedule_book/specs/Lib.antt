@@ -5,3 +5,5 @@ pub mod Expansions
 pub mod Faults
 pub mod Departures
 pub mod LocalDays
+pub mod Hashing
+pub mod Comparing

@@ -1,23 +1,27 @@
 //! The numbers of flights by origin.
-ghost use Rattle.std.specs.Prelude.{◌≡◌, ◌≤◌, length, map, true, false, IfOk};
+ghost use Rattle.std.specs.Prelude.{◌≡◌, ◌≤◌, ◌%◌, length, map, true, false, IfOk};
 ghost use Rattle.std.specs.List.Sorted.{IsPartitionPoint, IsSorted};
-ghost use Rattle.std.specs.Ordering.{is_lt};
-ghost use Rattle.schedule_book.specs.Departures.{AreDepartures, Indexes, origin_cmp, origins};
+ghost use Rattle.std.specs.Ordering.{is_lt, nat_cmp};
+ghost use Rattle.fare_law.specs.Limits.{IsFlight};
+ghost use Rattle.fare_law.specs.Lists.{Each};
+ghost use Rattle.schedule_book.specs.Departures.{AreDepartures, Indexes, IsKey, origins, packed};
 
 use fare_law::{Flight, Mem, Place};
 use std::alloc::Global;
 
-/// The origins of flights in order, each with the flight's number, and the numbers alone.
+/// The origins of flights in order, each with the flight's number and packed with it into one
+/// number, and the flights' numbers alone.
 #[derive(Drop)]
 pub struct Departures {
-    keys: Vec<(Place, u32)>,
+    keys: Vec<u64>,
     numbers: Vec<u32>,
 }
 
 impl Departures {
     /// The index of flights.
     pub fn of(alloc: Global, flights: &[Flight]) -> Result<Departures, Mem>
-        requires { length flights.now ≤ 200000 }
+        requires few { length flights.now ≤ 200000 }
+        requires limits { Each IsFlight flights.now }
         ensures { IfOk result (λ d. Indexes flights.now d.keys.items d.numbers.items) }
     {
         let mut keys = origins_of(alloc, flights)?;
@@ -34,8 +38,8 @@ impl Departures {
         if hi <= lo {
             return &[];
         }
-        let first = position(self.keys.as_slice(), place, lo);
-        let end = position(self.keys.as_slice(), place, hi);
+        let first = position(self.keys.as_slice(), packed(place, lo));
+        let end = position(self.keys.as_slice(), packed(place, hi));
         let (_, after) = self.numbers.as_slice().split_at(first);
         let (part, _) = after.split_at(end - first);
         part
@@ -43,50 +47,43 @@ impl Departures {
 }
 
 /// The origin and the number of each flight.
-fn origins_of(alloc: Global, flights: &[Flight]) -> Result<Vec<(Place, u32)>, Mem>
+fn origins_of(alloc: Global, flights: &[Flight]) -> Result<Vec<u64>, Mem>
     requires { length flights.now ≤ 200000 }
-    ensures { IfOk result (λ keys. keys.items ≡ origins 0 flights.now) }
+    ensures { IfOk result (λ keys. keys.items ≡ map packed (origins 0 flights.now)) }
 {
     let mut keys = Vec::new(alloc);
     for i in 0..flights.len() {
-        keys.push((flights[i].from, i as u32))?;
+        keys.push(packed(flights[i].from, i as u32))?;
     }
     Ok(keys)
 }
 
-/// The numbers of these keys.
-fn numbers_of(alloc: Global, keys: &[(Place, u32)]) -> Result<Vec<u32>, Mem>
-    ensures { IfOk result (λ numbers. numbers.items ≡ map (λ k. k.1) keys.now) }
+/// The flights' numbers in these keys.
+fn numbers_of(alloc: Global, keys: &[u64]) -> Result<Vec<u32>, Mem>
+    ensures { IfOk result (λ numbers. numbers.items ≡ map (λ key. key % 4294967296) keys.now) }
 {
     let mut numbers = Vec::new(alloc);
     for key in keys {
-        numbers.push(key.1)?;
+        numbers.push((*key % 4294967296) as u32)?;
     }
     Ok(numbers)
 }
 
-/// How many keys come before a place and a number.
-fn position(keys: &[(Place, u32)], place: Place, number: u32) -> usize
-    requires { IsSorted origin_cmp keys.now }
-    ensures bound { result ≤ length keys.now }
-    ensures point { IsPartitionPoint (λ k. is_lt (origin_cmp k (place, number)) ≡ true) (λ k. is_lt (origin_cmp k (place, number)) ≡ false) keys.now result }
+/// A place and a number as one number, which compares as the two do.
+fn packed(place: Place, number: u32) -> u64
+    ensures value { result ≡ packed (place, number) }
+    ensures key { IsKey (place, number) }
 {
-    keys.partition_point(|key| is_before(key, place, number))
+    let [a, b, c] = place.0;
+    let letters = (u64::from(a) * 256 + u64::from(b)) * 256 + u64::from(c);
+    letters * 4294967296 + u64::from(number)
 }
 
-/// Whether a key comes before a place and a number. Letters are compared one by one, which is faster than as lists.
-fn is_before(key: &(Place, u32), place: Place, number: u32) -> bool
-    ensures { result ≡ is_lt (origin_cmp key.now (place, number)) }
+/// How many keys come before a key.
+fn position(keys: &[u64], key: u64) -> usize
+    requires { IsSorted nat_cmp keys.now }
+    ensures bound { result ≤ length keys.now }
+    ensures point { IsPartitionPoint (λ k. is_lt (nat_cmp k key) ≡ true) (λ k. is_lt (nat_cmp k key) ≡ false) keys.now result }
 {
-    let [a, b, c] = key.0.0;
-    let [d, e, f] = place.0;
-    if a != d {
-        a < d
-    } else if b != e {
-        b < e
-    } else if c != f {
-        c < f
-    } else {
-        key.1 < number
-    }
+    keys.partition_point(|k| *k < key)
 }

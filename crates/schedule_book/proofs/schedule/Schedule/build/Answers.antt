@@ -12,6 +12,15 @@ use Rattle.schedule_book.proofs.schedule.Schedule.build.Goals as goal
 pub returns-in-Err-clause-fault : goal.returns-in-Err-clause-fault
 returns-in-Err-clause-fault c = has_cause c.args.places.now c.args.rows.now c.in_ok-places.ensures.differ c.in-Err.fault (subst (λ ps. RowCause ps c.args.rows.now c.in-Err.fault) c.in_ok-places.ensures.rows c.in-Err.ensures.fault)
 
+pub of-requires-2-clause-limits : goal.of-requires-2-clause-limits
+of-requires-2-clause-limits c =
+    let rows = c.args.rows.now in
+    let old = c.in-Ok.flights.items in
+    let new = c.put_in_order.new.flights in
+    let same = subst (λ xs. IsPermutation xs new) c.as_mut_slice.ensures.value c.put_in_order.ensures.same in
+    let kept = c.as_slice.ensures.value ∙ written c.in-Ok.flights.len old new (omega (arith, c.in-Ok.flights.ok.0)) (sorted_length old new same) in
+    flights_within rows c.as_slice.result.now c.requires.rows (subst (AreFlights rows) (sym kept) (flights_are rows old new c.in-Ok.ensures.expansion c.put_in_order.ensures.order same))
+
 pub returns-clause-flights : goal.returns-clause-flights
 returns-clause-flights c =
     let old = c.in-Ok.flights.items in
