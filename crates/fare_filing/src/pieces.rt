@@ -1,8 +1,10 @@
-//! Pieces of compact text, each with what follows it.
+//! Pieces of compact text, each with what follows it. Their calls are inlined, so that a piece's length is
+//! known where its bytes are compared.
 ghost use Rattle.std.specs.Prelude.{◌≡◌, ◌+◌, ◌++◌, ◌∷◌, ◌≤◌, length, IfSome, IsTrue, decimal};
 ghost use Rattle.fare_filing.specs.Compact.{Cuts, IsPlain};
 
 /// What follows a piece that the text begins with.
+#[inline(always)]
 #[tactic(auto, using(crate::proofs::PieceLemmas::piece_steps))]
 pub fn after<'a>(text: &'a [u8], piece: &[u8]) -> Option<&'a [u8]>
     ensures { IfSome result (λ rest. text.now ≡ piece.now ++ rest.now) }
@@ -20,6 +22,7 @@ pub fn after<'a>(text: &'a [u8], piece: &[u8]) -> Option<&'a [u8]>
 
 // Whether two texts of one length are the same. Pieces are short, so their bytes are compared without a
 // branch at each, which takes less than the general comparison of slices.
+#[inline(always)]
 #[tactic(auto, using(crate::proofs::PieceLemmas::same_steps))]
 fn is_same(front: &[u8], piece: &[u8]) -> bool
     requires { length front.now ≡ length piece.now }
@@ -33,6 +36,7 @@ fn is_same(front: &[u8], piece: &[u8]) -> bool
 }
 
 /// The text up to the next quote, if JSON writes it as it is, and what follows from the quote on.
+#[inline(always)]
 #[tactic(auto, using(crate::proofs::PieceLemmas::name_steps))]
 pub fn until_quote<'a>(text: &'a [u8]) -> Option<(&'a [u8], &'a [u8])>
     ensures { IfSome result (λ p. Cuts text.now p.0.now p.1.now) }
@@ -50,6 +54,7 @@ pub fn until_quote<'a>(text: &'a [u8]) -> Option<(&'a [u8], &'a [u8])>
 }
 
 /// A number of at most ten digits without needless zeros, and what follows its digits.
+#[inline(always)]
 #[tactic(auto, using(crate::proofs::PieceLemmas::number_steps))]
 pub fn number<'a>(text: &'a [u8]) -> Option<(u64, &'a [u8])>
     ensures text { IfSome result (λ p. text.now ≡ decimal p.0 ++ p.1.now) }
@@ -64,6 +69,7 @@ pub fn number<'a>(text: &'a [u8]) -> Option<(u64, &'a [u8])>
 }
 
 // A number that goes on with the digits that follow it.
+#[inline(always)]
 #[tactic(auto, using(crate::proofs::PieceLemmas::digit_steps))]
 fn with_digits<'a>(first: u64, text: &'a [u8]) -> (u64, &'a [u8])
     requires some { 1 ≤ first }
@@ -87,6 +93,7 @@ fn with_digits<'a>(first: u64, text: &'a [u8]) -> (u64, &'a [u8])
 }
 
 // The digit that a text begins with, and what follows.
+#[inline(always)]
 fn digit<'a>(text: &'a [u8]) -> Option<(u64, &'a [u8])>
     ensures text { IfSome result (λ p. text.now ≡ (48 + p.0) ∷ p.1.now) }
     ensures one { IfSome result (λ p. p.0 ≤ 9) }

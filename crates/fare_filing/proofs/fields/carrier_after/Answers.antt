@@ -1,6 +1,0 @@
-use Rattle.fare_filing.proofs.FieldLemmas.{carrier_there}
-use Rattle.fare_filing.proofs.fields.carrier_after.Goals as goal
-
-pub returns-clause-text : goal.returns-clause-text
-returns-clause-text c =
-    carrier_there c.args.text.now c.args.piece.now c.in_ok-name.name.now c.in_ok-name.rest.now c.in_ok-carrier_of.field-0 c.in_ok-name.ensures c.in_ok-carrier_of.ensures.name
