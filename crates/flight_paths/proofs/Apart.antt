@@ -1,5 +1,5 @@
 -- Lists without repeats, and lists of flights and of numbers that are told apart.
-use Rattle.std.proofs.Common.{◌≡◌, ◌≢◌, ℕ, zero, suc, ◌<◌, List, [], ◌∷◌, ◌++◌, length, take, get_or, refl, sym, ap, subst, ◌∙◌, inl, inr, arith, length-append}
+use Rattle.std.proofs.Common.{◌≡◌, ◌≢◌, ℕ, zero, suc, ◌+◌, ◌<◌, List, [], ◌∷◌, ◌++◌, length, take, get_or, refl, sym, ap, subst, ◌∙◌, inl, inr, arith, length-append}
 use Rattle.fare_law.specs.declared.flights.Flight.{Flight}
 use Rattle.fare_law.specs.declared.names.Place.{Place}
 use Rattle.fare_law.specs.declared.requests.Slice.{Slice}
@@ -10,7 +10,7 @@ use Rattle.flight_paths.specs.Paths.{Precedes}
 use Rattle.flight_paths.specs.Ways.{AreFlightsOf}
 use Rattle.flight_paths.proofs.Ended.{precedes_trans}
 use Rattle.flight_paths.proofs.Places.{in_list}
-use Rattle.flight_paths.proofs.Parting.{same_some}
+use Rattle.flight_paths.proofs.Parting.{each_both, each_right, same_some}
 
 pub same_path : (p q : Path) → p.flights ≡ q.flights → p.after ≡ q.after → p ≡ q
 same_path p q e a = λ i. record { flights = e i; after = a i }
@@ -134,3 +134,19 @@ none_is x (y ∷ xs) n = ((λ e. n (inl e)), none_is x xs (λ i. n (inr i)))
 pub longer_not : (ns ms : List ℕ) → ms ≢ [] → ns ≡ ns ++ ms → ⊥
 longer_not ns [] some e = some refl
 longer_not ns (m ∷ ms) some e = omega (arith, ap length e, length-append ns (m ∷ ms))
+
+each_taken : {X : Type 0} (P : X → Type 0) (xs : List X) (n : ℕ) → Each P xs → Each P (take n xs)
+each_taken P xs zero h = tt
+each_taken P [] (suc n) h = tt
+each_taken P (x ∷ xs) (suc n) h = (h.0, each_taken P xs n h.1)
+
+-- Where a flight's place of arrival is the next, it is apart where all are, and one more is where it is.
+module _ {X : Type 0} (P : X → Type 0) (xs : List X) (i : ℕ) (x : X) (next : take (suc i) xs ≡ take i xs ++ x ∷ []) where
+  pub next_apart : Each P xs → P x
+  next_apart h = (each_right P (take i xs) (x ∷ []) (subst (Each P) next (each_taken P xs (suc i) h))).0
+
+  pub more_apart : Each P (take i xs) → P x → Each P (take (i + 1) xs)
+  more_apart h k = subst (λ n. Each P (take n xs)) (one_more i) (subst (Each P) (sym next) (each_both P (take i xs) (x ∷ []) h (k, tt)))
+    where
+      one_more : (i : ℕ) → suc i ≡ i + 1
+      one_more i = omega arith

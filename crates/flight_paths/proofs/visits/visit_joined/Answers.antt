@@ -1,19 +1,45 @@
-use Rattle.std.proofs.Common.{◌++◌, ◌∷◌, [], List}
+use Rattle.std.proofs.Common.{◌≡◌, ◌++◌, ◌∷◌, [], List, Some, slice_get, ap, sym, subst, ◌∙◌}
 use Rattle.flight_paths.specs.declared.positions.Path.{Path}
 use Rattle.flight_paths.specs.Heads.{AreRest, IsJoined, Saw}
 use Rattle.flight_paths.specs.Plans.{plan_book}
+use Rattle.flight_paths.proofs.Parting.{same_some}
 use Rattle.flight_paths.proofs.Seeing.{on_ok, rest_not, rest_one, saw_none, saw_one}
-use Rattle.flight_paths.proofs.Places.{not_so}
+use Rattle.flight_paths.proofs.Places.{get_some, not_so}
 use Rattle.flight_paths.proofs.visits.visit_joined.Goals as goal
 
+pub follows-requires-clause-tail : goal.follows-requires-clause-tail
+follows-requires-clause-tail g c =
+    let all = c.args.all.now in
+    let n = c.args.number in
+    let t = c.index-all-number.result in
+    c.requires.tails t (get_some all n t c.requires.number ∙ ap Some (sym c.index-all-number.is))
+
+pub visit_after-requires : goal.visit_after-requires
+visit_after-requires g c =
+    let all = c.args.all.now in
+    let n = c.args.number in
+    let t = c.index-all-number.result in
+    record {
+      tails = all;
+      known = c.requires.knows;
+      tail = t;
+      stands = get_some all n t c.requires.number ∙ ap Some (sym c.index-all-number.is);
+      flights = c.joined.ensures.flights;
+      after = c.joined.ensures.after;
+    }
+
 pub returns-then-not-follows : goal.returns-then-not-follows
-returns-then-not-follows g c =
+returns-then-not-follows g c = λ t got.
     let b = plan_book c.args.junction.now.schedule.now in
     let sl = c.args.junction.now.slices.now in
     let at = c.args.junction.now.start.now in
     let h = c.args.junction.now.head.now in
-    let t = c.args.tail.now in
-    saw_none (g.V.PathVisitor.told c.args.visitor.now) (AreRest b sl at h (t ∷ [])) (rest_not b sl at h t (not_so c.follows.result c.if-not-follows.true c.follows.ensures.1))
+    let all = c.args.all.now in
+    let n = c.args.number in
+    let x = c.index-all-number.result in
+    let same = same_some x t (sym (get_some all n x c.requires.number ∙ ap Some (sym c.index-all-number.is)) ∙ got) in
+    let told = g.V.PathVisitor.told c.args.visitor.now in
+    subst (λ y. Saw told told (AreRest b sl at h (y ∷ []))) same (saw_none told (AreRest b sl at h (x ∷ [])) (rest_not b sl at h x (not_so c.follows.result c.if-not-follows.true c.follows.ensures.1)))
 
 pub returns : goal.returns
 returns g c =
@@ -21,12 +47,16 @@ returns g c =
     let sl = c.args.junction.now.slices.now in
     let at = c.args.junction.now.start.now in
     let h = c.args.junction.now.head.now in
-    let t = c.args.tail.now in
+    let all = c.args.all.now in
+    let n = c.args.number in
+    let x = c.index-all-number.result in
     let old = g.V.PathVisitor.told c.args.visitor.now in
-    let new = g.V.PathVisitor.told c.visit.new.self in
-    let joined : IsJoined b sl at h t c.joined.result = record { follows = c.follows.ensures.0 c.if-not-follows.false; numbers = c.joined.ensures.flights; after = c.joined.ensures.after } in
-    on_ok ((before : List Path) → old before → new (before ++ c.joined.result ∷ [])) (Saw old new (AreRest b sl at h (t ∷ []))) c.visit.result c.visit.ensures
-    (λ told. saw_one old new (AreRest b sl at h (t ∷ [])) c.joined.result told (rest_one b sl at h t c.joined.result joined))
+    let new = g.V.PathVisitor.told c.visit_after.new.self in
+    let joined : IsJoined b sl at h x c.joined.result = record { follows = c.follows.ensures.0 c.if-not-follows.false; numbers = c.joined.ensures.flights; after = c.joined.ensures.after } in
+    on_ok ((before : List Path) → old before → new (before ++ c.joined.result ∷ [])) ((t : Path) → slice_get all n ≡ Some t → Saw old new (AreRest b sl at h (t ∷ []))) c.visit_after.result c.visit_after.ensures
+    (λ told t got.
+    let same = same_some x t (sym (get_some all n x c.requires.number ∙ ap Some (sym c.index-all-number.is)) ∙ got) in
+    subst (λ y. Saw old new (AreRest b sl at h (y ∷ []))) same (saw_one old new (AreRest b sl at h (x ∷ [])) c.joined.result told (rest_one b sl at h x c.joined.result joined)))
 
 pub joined-requires : goal.joined-requires
 joined-requires g c = (c.follows.ensures.0 c.if-not-follows.false).few

@@ -1,4 +1,4 @@
-use Rattle.std.proofs.Common.{◌≡◌, ◌+◌, ◌<◌, suc, length, take, slice_get, Some, sym, ap, subst, ◌∙◌}
+use Rattle.std.proofs.Common.{◌≡◌, ◌+◌, ◌<◌, suc, get_or, length, take, slice_get, Some, sym, ap, subst, ◌∙◌}
 use Rattle.fare_law.specs.Lists.{IsIn}
 use Rattle.flight_paths.specs.Heads.{AreRest, chosen}
 use Rattle.flight_paths.specs.Plans.{plan_book}
@@ -8,17 +8,23 @@ use Rattle.flight_paths.proofs.Places.{get_some, in_list}
 use Rattle.flight_paths.proofs.Running.{part_tails, run_and_one, run_skipped, saw_since}
 use Rattle.flight_paths.proofs.visits.visit_run.Goals as goal
 
-pub visit_joined-requires-clause-tail : goal.visit_joined-requires-clause-tail
-visit_joined-requires-clause-tail g c =
+pub visit_joined-requires-clause-number : goal.visit_joined-requires-clause-number
+visit_joined-requires-clause-number g c =
     let all = c.args.all.now in
     let ns = c.args.numbers.now in
     let k = c.skips-skipped.result in
     let n = c.in-Some.number.now in
-    let t = c.index-all-number.result in
+    let found = c.in-Some.ensures.lookup in
+    each_in (λ m. m < length all) ns n c.requires.numbers (subst (λ m. IsIn m ns) (sym found.1) (in_list ns k n found.3.0))
+
+pub visit_joined-requires-clause-tails : goal.visit_joined-requires-clause-tails
+visit_joined-requires-clause-tails g c = λ t there.
+    let all = c.args.all.now in
+    let ns = c.args.numbers.now in
+    let k = c.skips-skipped.result in
+    let n = c.in-Some.number.now in
     let found = c.in-Some.ensures.lookup in
     let here : slice_get ns k ≡ Some n = get_some ns k n found.3.0 ∙ ap Some (sym found.1) in
-    let within : n < length all = each_in (λ m. m < length all) ns n c.requires.numbers (subst (λ m. IsIn m ns) (sym found.1) (in_list ns k n found.3.0)) in
-    let there : slice_get all n ≡ Some t = get_some all n t within ∙ ap Some (sym c.index-all-number.is) in
     c.requires.tails.each t (in_chosen all ns k n t here there)
 
 pub returns-in_ok-visit_joined-in-Some-clause-saw :
@@ -32,15 +38,16 @@ returns-in_ok-visit_joined-in-Some-clause-saw g c =
     let ns = c.args.numbers.now in
     let k = c.skips-skipped.result in
     let n = c.in-Some.number.now in
-    let t = c.index-all-number.result in
     let old = g.V.PathVisitor.told c.args.visitor.now in
     let mid = g.V.PathVisitor.told c.skips-skipped.new.self in
     let new = g.V.PathVisitor.told c.visit_joined.new.visitor in
     let found = c.in-Some.ensures.lookup in
     let within : n < length all = each_in (λ m. m < length all) ns n c.requires.numbers (subst (λ m. IsIn m ns) (sym found.1) (in_list ns k n found.3.0)) in
-    let there : slice_get all n ≡ Some t = get_some all n t within ∙ ap Some (sym c.index-all-number.is) in
+    let first = c.args.junction.now.head.now in
+    let t = get_or all n first in
+    let there = get_some all n first within in
     saw_since old mid new (AreRest b sl at h (chosen all (take (k + 1) ns))) c.skips-skipped.ensures.stays
-    (run_and_one b sl at h c.args.junction.now.middle c.requires.crossing mid all new ns k n t c.requires.numbers c.requires.tails (c.skips-skipped.ensures.skipped all c.requires.knows) found.3.0 found.1 there c.in_ok-visit_joined-in-Some.ensures)
+    (run_and_one b sl at h c.args.junction.now.middle c.requires.crossing mid all new ns k n t c.requires.numbers c.requires.tails (c.skips-skipped.ensures.skipped all c.requires.knows) found.3.0 found.1 there (c.in_ok-visit_joined-in-Some.ensures t there))
 
 pub returns-in-None-clause-saw : goal.returns-in-None-clause-saw
 returns-in-None-clause-saw g c =
