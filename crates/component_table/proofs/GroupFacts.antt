@@ -1,11 +1,11 @@
 -- A group that is put in on the flights of a path.
-use Rattle.std.proofs.Common.{◌≡◌, ◌≢◌, ℕ, ℤ, pos, ◌+◌, ◌≤◌, Bool, List, [], ◌∷◌, length, All, Option, Some, None, IfSome, IsBitSet, slice_get, refl, sym, ap, subst, ◌∙◌, arith}
+use Rattle.std.proofs.Common.{◌≡◌, ◌≢◌, ℕ, ℤ, pos, ◌+◌, ◌≤◌, Bool, List, [], ◌∷◌, length, All, Option, Some, None, IsBitSet, refl, sym, ap, subst, ◌∙◌, arith}
 use Rattle.std.proofs.lemmas.Int.{ints}
 use Rattle.std.proofs.lemmas.List.Elements.{All-head, All-tail}
 use Rattle.component_table.specs.declared.markets.Market.{Market}
 use Rattle.component_table.specs.declared.ways.Flown.{Flown}
 use Rattle.component_table.specs.Classes.{GroupSettled}
-use Rattle.component_table.specs.Tables.{GroupDone, HasAt, HasBelow, HasRow, IsBelow, IsEntry, IsOver, IsPathOver, IsRowOf, Lowered}
+use Rattle.component_table.specs.Tables.{GroupDone, HasBelow, HasGroup, HasRow, IsEntry, IsOver, IsPathOver, IsRowOf, Lowered}
 use Rattle.component_table.proofs.Lower.{goes_lowered, goes_self, le_on}
 use Rattle.fare_groups.specs.declared.group.FareGroup.{FareGroup}
 use Rattle.fare_groups.specs.declared.group.GroupKey.{GroupKey}
@@ -18,7 +18,6 @@ use Rattle.fare_law.specs.declared.fares.FareKind.{FareKind}
 use Rattle.fare_law.specs.declared.fares.FareKind.TheVariants.{O, R, S}
 use Rattle.fare_law.specs.declared.flights.Flight.{Flight}
 use Rattle.fare_law.specs.declared.requests.Request.{Request}
-use Rattle.fare_law.specs.declared.rules.Rule.{Rule}
 use Rattle.fare_law.specs.declared.sheets.SheetRow.{SheetRow}
 use Rattle.fare_law.specs.Book.{Book, live_rule}
 use Rattle.fare_law.specs.Days.{IsCalendarDay}
@@ -83,23 +82,11 @@ module _ (after : Option Position) (fs : List Flight) (classes : ℕ) (reverse :
     le_on has.entry.price price fare.share has.below (le_on price mine fare.share low (each_in (λ (f : GroupedFare). IsBitSet classes f.class → mine ≤ f.share) g.fares fare cheap.below i open_class)),
   )
 
--- what was found stands there
-pub found_below : (table : List Entry) (mine : ℕ) (o : Outline) (found : Option ℕ) → IfSome found (HasAt table o) → IsBelow table mine found → HasBelow table o mine
-found_below table mine o found has low = record {
-  entry = low.entry;
-  within = got_in table low.at low.entry low.stands;
-  outline = ap (λ (e : Entry). e.outline) (some_one (slice_get table low.at) low.entry there.entry low.stands there.stands) ∙ there.outline;
-  below = low.below;
-}
-  where
-    there : HasAt table o low.at
-    there = subst (λ x. IfSome x (HasAt table o)) low.found_is has
-
 pub free_below : (mine charges price : ℕ) → price ≡ mine + charges → charges ≡ 0 → price ≤ mine
 free_below mine charges price e free = omega (arith, e, free)
 
 module _ (b : Book) (q : Request) (at : Position) (flown : Flown) (reverse : Bool) (m : Market) (g : FareGroup) (is : IsOver b q flown m) (i : IsIn g m.groups) where
-  over : IsPathOver b q at flown reverse m → OverMarket b q at flown.path.now flown.flights is.flown_is.legs.legs flown.classes reverse m.sheet.value m.groups
+  over : IsPathOver b q at flown reverse m → OverMarket b q at flown.path.now flown.flights.now is.flown_is.legs.legs flown.classes reverse m.sheet.value m.groups
   over p = record {
     path_is = p.path;
     legs_are = is.flown_is.legs.legs_are;
@@ -142,38 +129,47 @@ module _ (b : Book) (q : Request) (at : Position) (flown : Flown) (reverse : Boo
     has = λ rule live permits least c. absurd (each_in (λ (f : GroupedFare). IsBitSet flown.classes f.class → ⊥) g.fares c.fare none c.within c.open_class);
   }
 
-  pub none_extra : (old : List Entry) (row : SheetRow) → IsRowOf m.sheet.value.rows g row → (Permits row.rule g.key.carrier flown.flights → ⊥) → GroupDone b q at flown reverse g old old
+  pub none_extra : (old : List Entry) (row : SheetRow) → IsRowOf m.sheet.value.rows g row → (Permits row.rule g.key.carrier flown.flights.now → ⊥) → GroupDone b q at flown reverse g old old
   none_extra old row r none = record {
     goes = goes_self b q at old;
-    has = λ rule live permits least c. absurd (none (subst (λ x. Permits x g.key.carrier flown.flights) (some_one (live_rule b g.key.carrier g.key.number) rule row.rule live (rule_live row r)) permits));
+    has = λ rule live permits least c. absurd (none (subst (λ x. Permits x g.key.carrier flown.flights.now) (some_one (live_rule b g.key.carrier g.key.number) rule row.rule live (rule_live row r)) permits));
   }
+
+  cheap_le : (mine least : ℕ) → Cheapest flown.classes g.fares (Some mine) → Cheapest flown.classes g.fares (Some least) → mine ≤ least
+  cheap_le mine least cheap c = subst (λ n. mine ≤ n) c.costs (each_in (λ (f : GroupedFare). IsBitSet flown.classes f.class → mine ≤ f.share) g.fares c.fare cheap.below c.within c.open_class)
 
   -- where the outline stands at no more than the least share, nothing is to be put in
-  pub group_below : (table : List Entry) (mine : ℕ) (o : Outline) (found : Option ℕ) → Cheapest flown.classes g.fares (Some mine) → OutlineOver o flown.path.now.after flown.flights g.key reverse → IfSome found (HasAt table o) → IsBelow table mine found → GroupDone b q at flown reverse g table table
-  group_below table mine o found cheap oo has low = record {
+  pub group_below : (table : List Entry) (mine : ℕ) (o : Outline) → Cheapest flown.classes g.fares (Some mine) → OutlineOver o flown.path.now.after flown.flights.now g.key reverse → HasBelow table o mine → GroupDone b q at flown reverse g table table
+  group_below table mine o cheap oo low = record {
     goes = goes_self b q at table;
-    has = λ rule live permits least c. (low.entry, got_in table low.at low.entry low.stands, subst (λ (z : Outline). OutlineOver z flown.path.now.after flown.flights g.key reverse) (sym outline) oo, sums least (extra_of rule flown.flights) (cheap_le least c));
+    has = λ rule live permits least c. (low.entry, low.within, subst (λ (z : Outline). OutlineOver z flown.path.now.after flown.flights.now g.key reverse) (sym low.outline) oo, sums least (extra_of rule flown.flights.now) (cheap_le mine least cheap c));
   }
     where
-      there : HasAt table o low.at
-      there = subst (λ x. IfSome x (HasAt table o)) low.found_is has
-
-      outline : low.entry.outline ≡ o
-      outline = ap (λ (e : Entry). e.outline) (some_one (slice_get table low.at) low.entry there.entry low.stands there.stands) ∙ there.outline
-
-      cheap_le : (least : ℕ) → Cheapest flown.classes g.fares (Some least) → mine ≤ least
-      cheap_le least c = subst (λ n. mine ≤ n) c.costs (each_in (λ (f : GroupedFare). IsBitSet flown.classes f.class → mine ≤ f.share) g.fares c.fare cheap.below c.within c.open_class)
-
       sums : (least extra : ℕ) → mine ≤ least → low.entry.price ≤ least + extra
       sums least extra h = let k = low.below in omega (arith, h, k)
 
-  pub group_had : IsPathOver b q at flown reverse m → (old new : List Entry) (row : SheetRow) (least charges : ℕ) (o : Outline) → IsRowOf m.sheet.value.rows g row → Cheapest flown.classes g.fares (Some least) → Permits row.rule g.key.carrier flown.flights → charges ≡ extra_of row.rule flown.flights
-      → OutlineOver o flown.path.now.after flown.flights g.key reverse → Lowered (record { outline = o; rule = row.rule; price = least + charges }) old new → GroupDone b q at flown reverse g old new
+  group_has : (table : List Entry) (row : SheetRow) (mine charges : ℕ) (o : Outline) → IsRowOf m.sheet.value.rows g row → Cheapest flown.classes g.fares (Some mine) → charges ≡ extra_of row.rule flown.flights.now → OutlineOver o flown.path.now.after flown.flights.now g.key reverse → HasBelow table o (mine + charges)
+      → HasGroup b flown.path.now flown.flights.now flown.classes reverse g table
+  group_has table row mine charges o r cheap extra oo has rule live permits least c =
+      let same = some_one (live_rule b g.key.carrier g.key.number) row.rule rule (rule_live row r) live in
+      (has.entry, has.within, subst (λ (z : Outline). OutlineOver z flown.path.now.after flown.flights.now g.key reverse) (sym has.outline) oo, sums has.entry.price least charges (extra_of rule flown.flights.now) has.below (cheap_le mine least cheap c) (extra ∙ ap (λ z. extra_of z flown.flights.now) same))
+    where
+      sums : (p least y z : ℕ) → p ≤ mine + y → mine ≤ least → y ≡ z → p ≤ least + z
+      sums p least y z h k e = omega (arith, h, k, e)
+
+  -- nor where it stands at no more than the price
+  pub group_dear : (table : List Entry) (row : SheetRow) (mine charges price : ℕ) (o : Outline) → IsRowOf m.sheet.value.rows g row → Cheapest flown.classes g.fares (Some mine) → charges ≡ extra_of row.rule flown.flights.now → OutlineOver o flown.path.now.after flown.flights.now g.key reverse → price ≡ mine + charges → HasBelow table o price
+      → GroupDone b q at flown reverse g table table
+  group_dear table row mine charges price o r cheap extra oo is has = record {
+    goes = goes_self b q at table;
+    has = group_has table row mine charges o r cheap extra oo (subst (HasBelow table o) is has);
+  }
+
+  pub group_had : IsPathOver b q at flown reverse m → (old new : List Entry) (row : SheetRow) (least charges : ℕ) (o : Outline) → IsRowOf m.sheet.value.rows g row → Cheapest flown.classes g.fares (Some least) → Permits row.rule g.key.carrier flown.flights.now → charges ≡ extra_of row.rule flown.flights.now
+      → OutlineOver o flown.path.now.after flown.flights.now g.key reverse → Lowered (record { outline = o; rule = row.rule; price = least + charges }) old new → GroupDone b q at flown reverse g old new
   group_had p old new row mine charges o r cheap permits extra oo l = record {
     goes = goes_lowered b q at x old new entry l;
-    has = λ rule live permits_too least c.
-        let same = some_one (live_rule b g.key.carrier g.key.number) row.rule rule (rule_live row r) live in
-        (l.has.entry, l.has.within, subst (λ (z : Outline). OutlineOver z flown.path.now.after flown.flights g.key reverse) (sym l.has.outline) oo, below rule same least c);
+    has = group_has new row mine charges o r cheap extra oo l.has;
   }
     where
       x : Entry
@@ -181,16 +177,7 @@ module _ (b : Book) (q : Request) (at : Position) (flown : Flown) (reverse : Boo
 
       entry : IsEntry b q at x
       entry = record {
-        outlined = subst (λ n. Outlined b q at o (mine + n)) (sym extra) (groups_give b q at flown.path.now flown.flights is.flown_is.legs.legs flown.classes reverse m.sheet.value m.groups (over p) g i row.rule (rule_live row r) permits mine cheap o oo);
+        outlined = subst (λ n. Outlined b q at o (mine + n)) (sym extra) (groups_give b q at flown.path.now flown.flights.now is.flown_is.legs.legs flown.classes reverse m.sheet.value m.groups (over p) g i row.rule (rule_live row r) permits mine cheap o oo);
         rule = ap (λ c. live_rule b c o.number) oo.carrier ∙ ap (live_rule b g.key.carrier) oo.number ∙ rule_live row r;
-        within = record { first = first_day o.first flown.flights is.flown_is.limits oo.first; last = last_day o flown.flights is.flown_is.limits oo.ends; rule = rule_within row r };
+        within = record { first = first_day o.first flown.flights.now is.flown_is.limits oo.first; last = last_day o flown.flights.now is.flown_is.limits oo.ends; rule = rule_within row r };
       }
-
-      cheap_le : (least : ℕ) → Cheapest flown.classes g.fares (Some least) → mine ≤ least
-      cheap_le least c = subst (λ n. mine ≤ n) c.costs (each_in (λ (f : GroupedFare). IsBitSet flown.classes f.class → mine ≤ f.share) g.fares c.fare cheap.below c.within c.open_class)
-
-      sums : (p least y z : ℕ) → p ≤ mine + y → mine ≤ least → y ≡ z → p ≤ least + z
-      sums p least y z h k e = omega (arith, h, k, e)
-
-      below : (rule : Rule) → row.rule ≡ rule → (least : ℕ) → Cheapest flown.classes g.fares (Some least) → l.has.entry.price ≤ least + extra_of rule flown.flights
-      below rule same least c = sums l.has.entry.price least charges (extra_of rule flown.flights) l.has.below (cheap_le least c) (extra ∙ ap (λ z. extra_of z flown.flights) same)

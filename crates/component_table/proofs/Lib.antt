@@ -9,6 +9,7 @@ pub mod Collected
 pub mod MaskFacts
 pub mod SomeLegs
 pub mod SettledFacts
+pub mod BlockFacts
 pub mod Halves
 pub mod KindFacts
 pub mod RowFacts

@@ -3,6 +3,7 @@ use Rattle.std.proofs.Common.{◌≡◌, ◌⊎◌, ℕ, ℤ, zero, suc, List, [
 use Rattle.component_table.specs.declared.classes.PathClass.{PathClass}
 use Rattle.component_table.specs.declared.ends.End.{End}
 use Rattle.component_table.specs.declared.ends.EndKey.{EndKey}
+use Rattle.component_table.specs.declared.kinds.Kinds.{Kinds}
 use Rattle.component_table.specs.declared.kinds.TailClass.{TailClass}
 use Rattle.component_table.specs.declared.kinds.TailKind.{TailKind}
 use Rattle.component_table.specs.declared.markets.Market.{Market}
@@ -10,13 +11,15 @@ use Rattle.component_table.specs.declared.rows.HeadKind.{HeadKind}
 use Rattle.component_table.specs.declared.rows.MetHead.{MetHead}
 use Rattle.component_table.specs.declared.rows.Row.{Row}
 use Rattle.component_table.specs.declared.rows.Rows.{Rows}
+use Rattle.component_table.specs.declared.ways.Joint.{Joint}
 use Rattle.component_table.specs.Classes.{AreAmong, ClassDone, IsOfClass}
+use Rattle.component_table.specs.Joints.{IsJoint, IsJointOf, Joins}
 use Rattle.component_table.specs.Kinds.{AreKindsOf, IsKindOf, joined_class}
 use Rattle.component_table.specs.Markets.{AreMarkets}
 use Rattle.component_table.specs.Masks.{PutsMask}
 use Rattle.component_table.specs.Reaches.{IsEnd, IsUnserved, filed_of}
 use Rattle.component_table.specs.Rows.{AreRows, HasRows, IsHeadOf, IsKnownTail, IsMet, IsRow, IsRowAt, TailAddsNothing}
-use Rattle.component_table.specs.Tables.{AddsNothing, Covers}
+use Rattle.component_table.specs.Tables.{AddsNothing, Covers, HasLegs}
 use Rattle.component_table.proofs.FiledFacts.{some_same}
 use Rattle.component_table.proofs.Halves.{joint_class, joint_legs}
 use Rattle.component_table.proofs.Lower.{set_only}
@@ -104,7 +107,7 @@ module _ (b : Book) (q : Request) (at : Position) where
 
 -- the rows stay right as the table grows
 pub has_rows_on : (b : Book) (q : Request) (at : Position) (classes : List TailClass) (old new : List Entry) (r : Rows) → Covers old new → HasRows b q at classes old r → HasRows b q at classes new r
-has_rows_on b q at classes old new r covers h = record { each = rows_on b q at classes old new r.kept.items covers h.each; head = h.head; tail = h.tail }
+has_rows_on b q at classes old new r covers h = record { each = rows_on b q at classes old new r.kept.items covers h.each; head = h.head }
 
 -- what stands in a list of which one is set to another
 set_stands : {X : Type 0} (xs : List X) (i n : ℕ) (old new x : X) → slice_get xs i ≡ Some old → slice_get xs n ≡ Some x → (y : X) × (slice_get (set xs i new) n ≡ Some y) × ((y ≡ x) ⊎ ((y ≡ new) × (x ≡ old)))
@@ -166,3 +169,37 @@ rows_more b q at classes table rows row none h = each_last (IsRow b q at classes
 pub if_some : {A : Type 0} (o : Option A) (P Q : A → Type 0) → ((a : A) → P a → Q a) → IfSome o P → IfSome o Q
 if_some None P Q f p = tt
 if_some (Some x) P Q f p = f x p
+
+-- what is known of a path of the head at hand and a known tail
+module _ (b : Book) (q : Request) (at : Position) (table : List Entry) (r : Rows) (ks : Kinds) where
+  joint_head : (ns : List ℕ) (number : ℕ) (path : Path) (j : Joint) → HasRows b q at ks.classes.items table r → (x : Joins r ks ns number path j) → IsMet b q r.kept.items x.head
+  joint_head ns number path j has x = subst (λ o. IfSome o (IsMet b q r.kept.items)) x.hand has.head
+
+  pub joint_is : (tails : List Path) (head : Path) (number : ℕ) (path : Path) (j : Joint) (tail : Path) → HasRows b q at ks.classes.items table r → AreKindsOf b q tails ks.classes.items ks.of.items → slice_get tails number ≡ Some tail → path.flights ≡ head.flights ++ tail.flights → path.after ≡ tail.after
+      → Joins r ks head.flights number path j → IsJoint b q j
+  joint_is tails head number path j tail has are stands flights after x = record {
+    classes = λ fs m. subst (HasLegs b q fs) (sym x.classes_are) (joint_legs b q head.flights x.head.kind ks.classes.items tail x.kind known kind fs (own fs m));
+    class = λ fs m. subst (λ (k : PathClass). IsOfClass k j.path.now.after fs) (sym class) (joint_class b q head.flights x.head.kind ks.classes.items tail x.kind known kind j.path.now.after (ap (λ (p : Path). p.after) x.path_is ∙ after) fs (own fs m));
+  }
+    where
+      kind : IsKindOf b q ks.classes.items tail x.kind
+      kind = are number x.kind tail x.kind_stands stands
+
+      known : IsHeadOf b q head.flights x.head.kind
+      known = subst (λ l. IsHeadOf b q l x.head.kind) x.numbers_are (joint_head head.flights number path j has x).known
+
+      own : (fs : List Flight) → Numbers b j.path.now.flights fs → Numbers b (head.flights ++ tail.flights) fs
+      own fs m = subst (λ l. Numbers b l fs) (ap (λ (p : Path). p.flights) x.path_is ∙ flights) m
+
+      class : j.class ≡ joined_class x.head.kind.carrier x.head.kind.first kind.class
+      class = x.class_is ∙ ap (λ (c : TailClass). joined_class x.head.kind.carrier x.head.kind.first c) (some_same (slice_get ks.classes.items x.kind.class) x.tail kind.class x.tail_stands kind.stands)
+
+  pub joint_of : (ns : List ℕ) (number : ℕ) (path : Path) (j : Joint) → HasRows b q at ks.classes.items table r → Joins r ks ns number path j → IsJointOf ks.classes.items r.kept.items j
+  joint_of ns number path j has x = record {
+    tail = x.tail;
+    stands = ap (slice_get ks.classes.items) x.tail_is ∙ x.tail_stands;
+    row = λ one got.
+        let row = (joint_head ns number path j has x).row in
+        let same = some_same (slice_get r.kept.items x.head.kind.row) row.row one row.stands (ap (slice_get r.kept.items) (sym x.row_is) ∙ got) in
+        x.class_is ∙ ap (λ d. joined_class x.head.kind.carrier d x.tail) (sym row.first_is) ∙ ap (λ e. joined_class e row.row.first x.tail) (sym row.carrier_is) ∙ ap (λ (y : Row). joined_class y.carrier y.first x.tail) same;
+  }

@@ -152,7 +152,7 @@ module _ (b : Book) (q : Request) (at : Position) (path : Path) (ms : List Marke
 -- the groups of a market from one place on and before another were put in
 pub record BetweenIn (b : Book) (q : Request) (at : Position) (flown : Flown) (reverse : Bool) (gs : List FareGroup) (from to : ℕ) (old new : List Entry) : Type 0 where
   pub goes : GoesOn b q at old new
-  pub has : (i : ℕ) (g : FareGroup) → slice_get gs i ≡ Some g → from ≤ i → i < to → HasGroup b flown.path.now flown.flights flown.classes reverse g new
+  pub has : (i : ℕ) (g : FareGroup) → slice_get gs i ≡ Some g → from ≤ i → i < to → HasGroup b flown.path.now flown.flights.now flown.classes reverse g new
 
 module _ (b : Book) (q : Request) (at : Position) (flown : Flown) (reverse : Bool) (gs : List FareGroup) where
   pub between_none : (from : ℕ) (old new : List Entry) → new ≡ old → BetweenIn b q at flown reverse gs from from old new
@@ -162,7 +162,7 @@ module _ (b : Book) (q : Request) (at : Position) (flown : Flown) (reverse : Boo
   between_more from n d x old mid new lt e h done = record {
     goes = goes_on b q at old mid new h.goes done.goes;
     has = λ i g got low high. elim (below_or i n high) [
-      | inl k ↦ has_group_on b flown.path.now flown.flights flown.classes reverse g mid new done.goes.covers (h.has i g got low k)
-      | inr s ↦ subst (λ (y : FareGroup). HasGroup b flown.path.now flown.flights flown.classes reverse y new) (some_same (slice_get gs n) x g (got_at gs n d x lt e) (ap (slice_get gs) (sym s) ∙ got)) done.has
+      | inl k ↦ has_group_on b flown.path.now flown.flights.now flown.classes reverse g mid new done.goes.covers (h.has i g got low k)
+      | inr s ↦ subst (λ (y : FareGroup). HasGroup b flown.path.now flown.flights.now flown.classes reverse y new) (some_same (slice_get gs n) x g (got_at gs n d x lt e) (ap (slice_get gs) (sym s) ∙ got)) done.has
     ];
   }

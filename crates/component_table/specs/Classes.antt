@@ -1,5 +1,5 @@
 -- Classes of paths, and when a class is settled.
-use Rattle.std.specs.Prelude.{◌≡◌, ℕ, ◌≤◌, ◌<◌, Bool, List, length, slice_get, Option, Some, IsBitSet}
+use Rattle.std.specs.Prelude.{◌≡◌, ℕ, ◌≤◌, ◌<◌, Bool, List, slice_get, Option, Some, IsBitSet}
 use Rattle.component_table.specs.declared.classes.PathClass.{PathClass}
 use Rattle.component_table.specs.declared.ends.End.{End}
 use Rattle.component_table.specs.declared.filed.Filed.{Filed}
@@ -60,7 +60,6 @@ WaySettled ms e after fs classes reverse table = (f : Filed) → filed_of e reve
 -- A path to an end of its first carrier's fares, with its class and the classes of seats that are open in every leg.
 pub record IsLanded (b : Book) (q : Request) (at : Position) (ms : List Market) (l : Landed) : Type 0 where
   pub end : IsEnd b at.place ms l.end.now
-  pub some : 1 ≤ length l.path.now.flights
   pub classes : (fs : List Flight) → Numbers b l.path.now.flights fs → HasLegs b q fs l.classes
   pub class : (fs : List Flight) → Numbers b l.path.now.flights fs → IsOfClass l.class l.path.now.after fs
   pub place_is : l.class.end ≡ l.end.now.key.place

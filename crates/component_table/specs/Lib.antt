@@ -6,5 +6,7 @@ pub mod Tables
 pub mod Kinds
 pub mod Networks
 pub mod Classes
+pub mod Blocks
 pub mod Rows
+pub mod Joints
 pub mod Putting

@@ -4,6 +4,7 @@ use Rattle.component_table.specs.declared.ends.Reach.{Reach}
 use Rattle.component_table.specs.declared.kinds.Kinds.{Kinds}
 use Rattle.component_table.specs.declared.masks.Masks.{Masks}
 use Rattle.component_table.specs.declared.settled.Filling.{Filling}
+use Rattle.component_table.specs.Blocks.{IsLow}
 use Rattle.component_table.specs.Classes.{AreSettled}
 use Rattle.component_table.specs.Kinds.{AreKinds}
 use Rattle.component_table.specs.Masks.{AreMasks}
@@ -22,5 +23,6 @@ pub record IsPutting (b : Book) (q : Request) (at : Position) (tails : List Path
   pub reach : IsReach book position.place r
   pub masks : AreMasks book request ms
   pub kinds : AreKinds book request tails known
+  pub low : IsLow f.table
   pub settled : AreSettled book request position f.settled.kept.items f.table.entries.items
   pub rows : HasRows book request position known.classes.items f.table.entries.items f.rows

@@ -47,11 +47,10 @@ pub record IsMet (b : Book) (q : Request) (rows : List Row) (h : MetHead) : Type
   pub known : IsHeadOf b q h.flights h.kind
   pub row : IsRowAt rows h.kind.carrier h.kind.first h.kind.row
 
--- Each row is right as the table stands, and so is what is known of the head at hand; the class of tails at hand has its number.
+-- Each row is right as the table stands, and so is what is known of the head at hand.
 pub record HasRows (b : Book) (q : Request) (at : Position) (classes : List TailClass) (table : List Entry) (r : Rows) : Type 0 where
   pub each : AreRows b q at classes table r.kept.items
   pub head : IfSome r.head (IsMet b q r.kept.items)
-  pub tail : IfSome r.tail (λ t. slice_get classes t.number ≡ Some t.class)
 
 -- Enough classes of seats stand in a row for the class of the tail of this number, where these are open in the head.
 pub record IsKnownTail (kinds : List TailKind) (masks : List (Option ℕ)) (classes number : ℕ) : Type 0 where

@@ -45,14 +45,6 @@ pub record HasBelow (entries : List Entry) (o : Outline) (price : ℕ) : Type 0 
   pub outline : entry.outline ≡ o
   pub below : entry.price ≤ price
 
--- an entry was found that costs no more than this
-pub record IsBelow (entries : List Entry) (price : ℕ) (found : Option ℕ) : Type 0 where
-  pub at : ℕ
-  pub found_is : found ≡ Some at
-  pub entry : Entry
-  pub stands : slice_get entries at ≡ Some entry
-  pub below : entry.price ≤ price
-
 -- each outline that stood there stands there still, at no more
 abbrev pub Covers : List Entry → List Entry → Type 0
 Covers old new = (e : Entry) → IsIn e old → HasBelow new e.outline e.price
@@ -87,9 +79,9 @@ pub record HasLegs (b : Book) (q : Request) (fs : List Flight) (classes : ℕ) :
 
 -- One to four flights of the book, with the classes that are open in all of them.
 pub record IsFlown (b : Book) (q : Request) (flown : Flown) : Type 0 where
-  pub count : IsInRange 1 4 (length flown.flights)
-  pub limits : All IsFlight flown.flights
-  pub legs : HasLegs b q flown.flights flown.classes
+  pub count : IsInRange 1 4 (length flown.flights.now)
+  pub limits : All IsFlight flown.flights.now
+  pub legs : HasLegs b q flown.flights.now flown.classes
 
 -- Such flights, and a market of the book.
 pub record IsOver (b : Book) (q : Request) (flown : Flown) (m : Market) : Type 0 where
@@ -113,12 +105,12 @@ pub record IsServed (fs : List Flight) (s : Serving) : Type 0 where
 
 -- the flights are those of their path, which is one of the position
 abbrev pub IsOfPath : Book → Request → Position → Flown → Type 0
-IsOfPath b q at flown = IsPath b q.slices at flown.path.now.flights flown.flights flown.path.now.after
+IsOfPath b q at flown = IsPath b q.slices at flown.path.now.flights flown.flights.now flown.path.now.after
 
 -- and fares of the market are filed over them this way
 pub record IsPathOver (b : Book) (q : Request) (at : Position) (flown : Flown) (reverse : Bool) (m : Market) : Type 0 where
   pub path : IsOfPath b q at flown
-  pub market : MarketOver reverse flown.flights m.sheet.value.from m.sheet.value.to
+  pub market : MarketOver reverse flown.flights.now m.sheet.value.from m.sheet.value.to
 
 -- a path of the position
 abbrev pub IsPathFrom : Book → Request → Position → Path → Type 0
@@ -137,12 +129,12 @@ pub record HasRow (rows : List SheetRow) (g : FareGroup) : Type 0 where
 -- a group was put in
 pub record GroupDone (b : Book) (q : Request) (at : Position) (flown : Flown) (reverse : Bool) (g : FareGroup) (old new : List Entry) : Type 0 where
   pub goes : GoesOn b q at old new
-  pub has : HasGroup b flown.path.now flown.flights flown.classes reverse g new
+  pub has : HasGroup b flown.path.now flown.flights.now flown.classes reverse g new
 
 -- the groups of a market were put in
 pub record MarketDone (b : Book) (q : Request) (at : Position) (flown : Flown) (reverse : Bool) (m : Market) (old new : List Entry) : Type 0 where
   pub goes : GoesOn b q at old new
-  pub has : (g : FareGroup) → IsIn g m.groups → HasGroup b flown.path.now flown.flights flown.classes reverse g new
+  pub has : (g : FareGroup) → IsIn g m.groups → HasGroup b flown.path.now flown.flights.now flown.classes reverse g new
 
 -- a path was put in with the fares that are filed this way
 pub record WayDone (b : Book) (q : Request) (at : Position) (path : Path) (fs : List Flight) (reverse : Bool) (old new : List Entry) : Type 0 where

@@ -2,7 +2,9 @@
 ghost use Rattle.std.specs.Prelude.{◌≡◌, ◌≢◌, ◌⊎◌, ◌<◌, ◌≤◌, ◌+◌, [], List as Items, length, slice_get, IfOk, IsTrue, OnOk, Some};
 ghost use Rattle.component_table.specs.declared.kinds.TailClass.{TailClass as OneClass};
 ghost use Rattle.component_table.specs.declared.settled.SettledClass.{SettledClass as OneSettled};
-ghost use Rattle.component_table.specs.Classes.{AreAmong, AreSettled, BothSettled, ClassDone, GroupSettled, GroupsSettled, IsLanded, WaySettled};
+ghost use Rattle.component_table.specs.Blocks.{HasBlock, IsLow, outline_of};
+ghost use Rattle.component_table.specs.Classes.{AreSettled, BothSettled, GroupSettled, GroupsSettled, IsLanded, IsOfClass, WaySettled};
+ghost use Rattle.component_table.specs.Joints.{IsJoint, IsJointOf};
 ghost use Rattle.component_table.specs.Markets.{AreMarkets};
 ghost use Rattle.component_table.specs.Masks.{AreMasks};
 ghost use Rattle.component_table.specs.Reaches.{IsEnd, IsReach, IsUnserved, filed_of};
@@ -18,21 +20,19 @@ ghost use Rattle.flight_paths.specs.declared.positions.Position.{Position as At}
 ghost use Rattle.outlines.specs.declared.outline.Entry.{Entry as OneEntry};
 ghost use Rattle.outlines.specs.ByGroups.{OutlineOver};
 
-use crate::classes::{ClassKey, PathClass};
+use crate::classes::PathClass;
 use crate::ends::{End, EndKey, Reach};
 use crate::filed::Filed;
 use crate::gathering::{first_flight, flights_of, last_flight};
-use crate::growing::Growing;
+use crate::growing::{Growing, Spot};
 use crate::markets::Market;
 use crate::masks::Masks;
-use crate::rows::Rows;
-use crate::settled::{Filling, Settled};
-use crate::ways::{Flown, Landed, Origin, Serving};
+use crate::settled::Filling;
+use crate::ways::{Flown, Joint, Landed, Origin, Serving};
 use fare_groups::{FareGroup, GroupKey, extra};
 use fare_law::{Flight, MarketSheet, Mem, SheetRow};
 use flight_paths::{Path, Position};
 use outlines::Outline;
-use residual_keys::{first_of, last_of};
 use rule_route::limits_are_met;
 use rule_unit::rules_stay_in_range;
 use std::alloc::Global;
@@ -49,9 +49,11 @@ pub fn add_path(
 ) -> Result<(), Mem>
     requires reach { IsReach origin.now.book.now origin.now.at.now.place reach.old }
     requires masks { AreMasks origin.now.book.now origin.now.request.now masks.old }
+    requires low { IsLow filling.old.table }
     requires settled { AreSettled origin.now.book.now origin.now.request.now origin.now.at.now filling.old.settled.kept.items filling.old.table.entries.items }
     ensures reach { IsReach origin.now.book.now origin.now.at.now.place reach.new }
     ensures masks { AreMasks origin.now.book.now origin.now.request.now masks.new }
+    ensures low { IsLow filling.new.table }
     ensures rows { (tails : Items OneClass) → HasRows origin.now.book.now origin.now.request.now origin.now.at.now tails filling.old.table.entries.items filling.old.rows → HasRows origin.now.book.now origin.now.request.now origin.now.at.now tails filling.new.table.entries.items filling.new.rows }
     ensures settled { AreSettled origin.now.book.now origin.now.request.now origin.now.at.now filling.new.settled.kept.items filling.new.table.entries.items }
     ensures done { OnOk result (IsPathFrom origin.now.book.now origin.now.request.now origin.now.at.now path.now → PathAdded origin.now.book.now origin.now.request.now origin.now.at.now path.now filling.old.table.entries.items filling.new.table.entries.items) }
@@ -141,41 +143,63 @@ fn add_landed(
     requires markets { AreMarkets origin.now.book.now markets.now }
     requires landed { IsLanded origin.now.book.now origin.now.request.now origin.now.at.now markets.now landed.now }
     requires limited { Limited origin.now.book.now }
+    requires low { IsLow filling.old.table }
     requires settled { AreSettled origin.now.book.now origin.now.request.now origin.now.at.now filling.old.settled.kept.items filling.old.table.entries.items }
+    ensures low { IsLow filling.new.table }
     ensures rows { (tails : Items OneClass) → HasRows origin.now.book.now origin.now.request.now origin.now.at.now tails filling.old.table.entries.items filling.old.rows → HasRows origin.now.book.now origin.now.request.now origin.now.at.now tails filling.new.table.entries.items filling.new.rows }
     ensures settled { AreSettled origin.now.book.now origin.now.request.now origin.now.at.now filling.new.settled.kept.items filling.new.table.entries.items }
     ensures done { OnOk result (IsPathFrom origin.now.book.now origin.now.request.now origin.now.at.now landed.now.path.now → PathAdded origin.now.book.now origin.now.request.now origin.now.at.now landed.now.path.now filling.old.table.entries.items filling.new.table.entries.items) }
 {
-    if is_settled(&filling.rows, &mut filling.settled, landed) {
+    if filling.settled.has(&landed.class, landed.classes) {
         return Ok(());
     }
     if add_both(&mut filling.table, origin, markets, landed)? {
-        settle(&mut filling.rows, &mut filling.settled, landed)?;
+        filling.settled.put(&landed.class, landed.classes)?;
     }
     Ok(())
 }
 
-/// Whether the class of a path is settled. Of a path of the head and the tails at hand its row has told already that it
-/// isn't.
-fn is_settled(rows: &Rows, settled: &mut Settled, landed: &Landed) -> bool
-    ensures same { settled.new.kept.items ≡ settled.old.kept.items }
-    ensures has { IsTrue result → (one : OneSettled) × IsIn one settled.old.kept.items × (one.class ≡ landed.now.class) × AreAmong landed.now.classes one.classes }
+/// Puts in the path of a head and a tail that are known, and keeps in its row if its class is settled then.
+pub fn add_joint(
+    alloc: Global,
+    filling: &mut Filling,
+    reach: &mut Reach,
+    origin: &Origin,
+    joint: &Joint,
+) -> Result<(), Mem>
+    requires reach { IsReach origin.now.book.now origin.now.at.now.place reach.old }
+    requires joint { IsJoint origin.now.book.now origin.now.request.now joint.now }
+    requires low { IsLow filling.old.table }
+    requires settled { AreSettled origin.now.book.now origin.now.request.now origin.now.at.now filling.old.settled.kept.items filling.old.table.entries.items }
+    ensures reach { IsReach origin.now.book.now origin.now.at.now.place reach.new }
+    ensures low { IsLow filling.new.table }
+    ensures rows { (tails : Items OneClass) → IsJointOf tails filling.old.rows.kept.items joint.now → HasRows origin.now.book.now origin.now.request.now origin.now.at.now tails filling.old.table.entries.items filling.old.rows → HasRows origin.now.book.now origin.now.request.now origin.now.at.now tails filling.new.table.entries.items filling.new.rows }
+    ensures settled { AreSettled origin.now.book.now origin.now.request.now origin.now.at.now filling.new.settled.kept.items filling.new.table.entries.items }
+    ensures done { OnOk result (IsPathFrom origin.now.book.now origin.now.request.now origin.now.at.now joint.now.path.now → PathAdded origin.now.book.now origin.now.request.now origin.now.at.now joint.now.path.now filling.old.table.entries.items filling.new.table.entries.items) }
 {
-    if rows.is_at_hand(&landed.class) {
-        return false;
+    origin.book.limits();
+    let at = reach.find(alloc, origin.book, origin.at.place, end_of(&joint.class))?;
+    let landed = Landed {
+        path: joint.path,
+        end: end_at(reach.ends.as_slice(), at),
+        class: joint.class,
+        classes: joint.classes,
+    };
+    let markets = reach.markets.kept.as_slice();
+    if add_both(&mut filling.table, origin, markets, &landed)? {
+        filling.rows.put(joint.row, joint.tail, joint.classes);
     }
-    settled.has(&landed.class, landed.classes)
+    Ok(())
 }
 
-/// Keeps that the class of a path is settled, in the row of the head and the tails at hand if it is theirs.
-fn settle(rows: &mut Rows, settled: &mut Settled, landed: &Landed) -> Result<(), Mem>
-    ensures settled { (one : OneSettled) → IsIn one settled.new.kept.items → IsIn one settled.old.kept.items ⊎ (one ≡ record { class = landed.now.class; classes = landed.now.classes }) }
-    ensures rows { (b : Version) (q : Asked) (at : At) (tails : Items OneClass) (table : Items OneEntry) → ClassDone b q at (record { class = landed.now.class; classes = landed.now.classes }) table → HasRows b q at tails table rows.old → HasRows b q at tails table rows.new }
+/// What the end of a class is asked for by.
+pub fn end_of(class: &PathClass) -> EndKey
+    ensures { result ≡ record { place = class.now.end; carrier = class.now.carrier } }
 {
-    if rows.settle(&landed.class, landed.classes) {
-        return Ok(());
+    EndKey {
+        place: class.end,
+        carrier: class.carrier,
     }
-    settled.put(&landed.class, landed.classes)
 }
 
 /// Puts in such a path. Returns whether each of its groups then stands at its least share, so that no path of the
@@ -188,6 +212,8 @@ fn add_both(
 ) -> Result<bool, Mem>
     requires markets { AreMarkets origin.now.book.now markets.now }
     requires landed { IsLanded origin.now.book.now origin.now.request.now origin.now.at.now markets.now landed.now }
+    requires low { IsLow table.old }
+    ensures low { IsLow table.new }
     ensures covers { Covers table.old.entries.items table.new.entries.items }
     ensures settled { IfOk result (λ all. IsTrue all → (fs : Items DatedFlight) × Numbers origin.now.book.now landed.now.path.now.flights fs × BothSettled markets.now landed.now fs table.new.entries.items) }
     ensures done { OnOk result (IsPathFrom origin.now.book.now origin.now.request.now origin.now.at.now landed.now.path.now → PathAdded origin.now.book.now origin.now.request.now origin.now.at.now landed.now.path.now table.old.entries.items table.new.entries.items) }
@@ -195,15 +221,26 @@ fn add_both(
     let Some(flights) = flights_of(origin.book, landed.path.flights.as_slice()) else {
         return Ok(false);
     };
+    let end = landed.end;
+    let block = table.block(&landed.class, count_of(end.there), count_of(end.back))?;
     let flown = Flown {
         path: landed.path,
-        flights,
+        flights: flights.as_slice(),
         class: landed.class,
         classes: landed.classes,
+        block,
     };
-    let there = add_way(table, origin, markets, &flown, landed.end, false)?;
-    let back = add_way(table, origin, markets, &flown, landed.end, true)?;
+    let there = add_way(table, origin, markets, &flown, end, false)?;
+    let back = add_way(table, origin, markets, &flown, end, true)?;
     Ok(are_both(there, back))
+}
+
+/// How many groups stand there.
+fn count_of(filed: Option<Filed>) -> usize {
+    match filed {
+        Some(filed) => filed.to.saturating_sub(filed.from),
+        None => 0,
+    }
 }
 
 /// Puts in a path with the fares that are filed from its beginning to its end, or in reverse.
@@ -218,9 +255,14 @@ fn add_way(
     requires markets { AreMarkets origin.now.book.now markets.now }
     requires end { IsEnd origin.now.book.now origin.now.at.now.place markets.now end.now }
     requires flown { IsFlown origin.now.book.now origin.now.request.now flown.now }
+    requires low { IsLow table.old }
+    requires block { HasBlock table.old.blocks.items flown.now.class flown.now.block }
+    requires class { IsOfClass flown.now.class flown.now.path.now.after flown.now.flights.now }
+    ensures low { IsLow table.new }
+    ensures blocks { table.new.blocks.items ≡ table.old.blocks.items }
     ensures covers { Covers table.old.entries.items table.new.entries.items }
-    ensures settled { IfOk result (λ all. IsTrue all → WaySettled markets.now end.now flown.now.path.now.after flown.now.flights flown.now.classes reverse table.new.entries.items) }
-    ensures done { OnOk result (IsOfPath origin.now.book.now origin.now.request.now origin.now.at.now flown.now → OnFirst (λ f. f.carrier ≡ end.now.key.carrier) flown.now.flights → OnLast (λ f. f.to ≡ end.now.key.place) flown.now.flights → WayDone origin.now.book.now origin.now.request.now origin.now.at.now flown.now.path.now flown.now.flights reverse table.old.entries.items table.new.entries.items) }
+    ensures settled { IfOk result (λ all. IsTrue all → WaySettled markets.now end.now flown.now.path.now.after flown.now.flights.now flown.now.classes reverse table.new.entries.items) }
+    ensures done { OnOk result (IsOfPath origin.now.book.now origin.now.request.now origin.now.at.now flown.now → OnFirst (λ f. f.carrier ≡ end.now.key.carrier) flown.now.flights.now → OnLast (λ f. f.to ≡ end.now.key.place) flown.now.flights.now → WayDone origin.now.book.now origin.now.request.now origin.now.at.now flown.now.path.now flown.now.flights.now reverse table.old.entries.items table.new.entries.items) }
 {
     origin.book.limits();
     match filed_of(end, reverse) {
@@ -261,17 +303,21 @@ fn add_market(
 ) -> Result<bool, Mem>
     requires over { IsOver origin.now.book.now origin.now.request.now flown.now serving.now.market.now }
     requires within { serving.now.filed.to ≤ length serving.now.market.now.groups }
+    requires low { IsLow table.old }
+    requires block { HasBlock table.old.blocks.items flown.now.class flown.now.block }
+    requires class { IsOfClass flown.now.class flown.now.path.now.after flown.now.flights.now }
+    ensures low { IsLow table.new }
+    ensures blocks { table.new.blocks.items ≡ table.old.blocks.items }
     ensures covers { Covers table.old.entries.items table.new.entries.items }
-    ensures settled { IfOk result (λ all. IsTrue all → GroupsSettled flown.now.path.now.after flown.now.flights flown.now.classes serving.now.reverse serving.now.market.now.groups serving.now.filed.from serving.now.filed.to table.new.entries.items) }
-    ensures done { OnOk result (IsPathOver origin.now.book.now origin.now.request.now origin.now.at.now flown.now serving.now.reverse serving.now.market.now → IsServed flown.now.flights serving.now → MarketDone origin.now.book.now origin.now.request.now origin.now.at.now flown.now serving.now.reverse serving.now.market.now table.old.entries.items table.new.entries.items) }
+    ensures settled { IfOk result (λ all. IsTrue all → GroupsSettled flown.now.path.now.after flown.now.flights.now flown.now.classes serving.now.reverse serving.now.market.now.groups serving.now.filed.from serving.now.filed.to table.new.entries.items) }
+    ensures done { OnOk result (IsPathOver origin.now.book.now origin.now.request.now origin.now.at.now flown.now serving.now.reverse serving.now.market.now → IsServed flown.now.flights.now serving.now → MarketDone origin.now.book.now origin.now.request.now origin.now.at.now flown.now serving.now.reverse serving.now.market.now table.old.entries.items table.new.entries.items) }
 {
     let from = serving.filed.from;
     let to = serving.filed.to;
     if to <= from {
         return Ok(true);
     }
-    let key = ClassKey::of(&flown.class, serving.reverse);
-    let begin = table.class(key, to - from)?;
+    let begin = table.begin(flown.block, serving.reverse);
     let groups = serving.market.groups.as_slice();
     let mut settled = true;
     for at in from..to {
@@ -295,8 +341,13 @@ fn add_group(
 ) -> Result<bool, Mem>
     requires over { IsOver origin.now.book.now origin.now.request.now flown.now serving.now.market.now }
     requires group { IsIn group.now serving.now.market.now.groups }
+    requires low { IsLow table.old }
+    requires block { HasBlock table.old.blocks.items flown.now.class flown.now.block }
+    requires class { IsOfClass flown.now.class flown.now.path.now.after flown.now.flights.now }
+    ensures low { IsLow table.new }
+    ensures blocks { table.new.blocks.items ≡ table.old.blocks.items }
     ensures covers { Covers table.old.entries.items table.new.entries.items }
-    ensures settled { IfOk result (λ all. IsTrue all → GroupSettled flown.now.path.now.after flown.now.flights flown.now.classes serving.now.reverse group.now table.new.entries.items) }
+    ensures settled { IfOk result (λ all. IsTrue all → GroupSettled flown.now.path.now.after flown.now.flights.now flown.now.classes serving.now.reverse group.now table.new.entries.items) }
     ensures done { OnOk result (IsPathOver origin.now.book.now origin.now.request.now origin.now.at.now flown.now serving.now.reverse serving.now.market.now → GroupDone origin.now.book.now origin.now.request.now origin.now.at.now flown.now serving.now.reverse group.now table.old.entries.items table.new.entries.items) }
 {
     origin.book.limits();
@@ -305,19 +356,26 @@ fn add_group(
     let Some(share) = group.cheapest(flown.classes) else {
         return Ok(true);
     };
-    let flights = flown.flights.as_slice();
-    let outline = outline_over(&flown.path.after, flights, group.key, serving.reverse);
-    let found = table.find(slot, &outline);
-    if table.is_below(found, share) {
+    let spot = Spot {
+        block: flown.block,
+        key: group.key,
+        reverse: serving.reverse,
+        slot,
+    };
+    if table.is_below(&spot, share) {
         return Ok(true);
     }
     let sheet: &MarketSheet = &serving.market.sheet;
     let row = first_row(sheet, group);
-    let Some(charges) = extra(&row.rule, group.key.carrier, flights) else {
+    let Some(charges) = extra(&row.rule, group.key.carrier, flown.flights) else {
         return Ok(false);
     };
     let price = sum(share, charges);
-    table.put(found, slot, &outline, &row.rule, price)?;
+    if table.is_below(&spot, price) {
+        return Ok(false);
+    }
+    let outline = outline_of(&flown.class, group.key, serving.reverse);
+    table.put(&spot, &outline, &row.rule, price)?;
     Ok(is_free(charges))
 }
 
@@ -353,23 +411,15 @@ fn first_row<'a>(sheet: &'a MarketSheet, group: &FareGroup) -> &'a SheetRow
     &sheet.rows.as_slice()[place]
 }
 
-/// The outline of a group's components on these flights.
-fn outline_over(
-    after: &Option<Position>,
-    flights: &[Flight],
-    key: GroupKey,
-    reverse: bool,
-) -> Outline
-    requires { flights.now ≢ [] }
-    ensures { OutlineOver result after.now flights.now key reverse }
+/// The outline of a group's components on the paths of a class.
+fn outline_of(class: &PathClass, key: GroupKey, reverse: bool) -> Outline
+    ensures { result ≡ outline_of class.now key reverse }
 {
-    let first = first_of(flights);
-    let last = last_of(flights);
     Outline {
-        after: *after,
-        end: last.to,
-        first: first.day,
-        last: last.day,
+        after: class.after,
+        end: class.end,
+        first: class.first,
+        last: class.last,
         carrier: key.carrier,
         number: key.number,
         kind: key.kind,

@@ -18,7 +18,7 @@ pub struct PathClass {
     pub last: i32,
 }
 
-/// A class and which way the fares are filed, packed into numbers, by which places are looked up.
+/// A class, packed into numbers, by which places are looked up.
 #[derive(Clone, Copy, PartialEq, Eq, Hash, Debug)]
 pub struct ClassKey {
     range: u64,
@@ -48,14 +48,14 @@ impl PathClass {
 }
 
 impl ClassKey {
-    /// The key of a class, one way.
-    pub fn of(class: &PathClass, reverse: bool) -> ClassKey {
+    /// The key of a class.
+    pub fn of(class: &PathClass) -> ClassKey {
         let [a, b, c] = class.end.0;
         let [d, e] = class.carrier.0;
         ClassKey {
             range: range_of(&class.after),
             places: places_of(&class.after),
-            ends: u64::from_le_bytes([a, b, c, d, e, u8::from(reverse), 0, 0]),
+            ends: u64::from_le_bytes([a, b, c, d, e, 0, 0, 0]),
             days: days_of(class.first, class.last),
         }
     }

@@ -1,149 +1,278 @@
 //! A table as it grows, entry by entry.
-ghost use Rattle.std.specs.Prelude.{◌≡◌, ◌↔◌, ◌≤◌, [], IfSome, IsTrue, OnOk, Some, slice_get};
-ghost use Rattle.component_table.specs.Tables.{Covers, HasAt, IsBelow, Lowered};
+ghost use Rattle.std.specs.Prelude.{◌≡◌, ◌↔◌, ◌≤◌, [], IfOk, IfSome, IsTrue, OnOk, Some, slice_get};
+ghost use Rattle.component_table.specs.Blocks.{HasBlock, HasOutline, IsLow, IsSlotOf, TellsNoMore, TellsOne};
+ghost use Rattle.component_table.specs.Tables.{Covers, HasAt, HasBelow, Lowered};
+ghost use Rattle.outlines.specs.declared.outline.Outline.{Outline as OneOutline};
 
-use crate::classes::ClassKey;
+use crate::classes::{ClassKey, PathClass};
 use crate::recent::Recent;
 use crate::same::same_after;
+use fare_groups::GroupKey;
 use fare_law::{FareKind, Mem, Rule, Shared};
 use indexmap::IndexMap;
 use outlines::{Entry, Outline};
 use std::alloc::Global;
 
+/// A class of paths, and where the slots of its groups begin, of the fares that are filed one way and of those in reverse.
+#[derive(Clone, Copy, PartialEq, Eq, Debug)]
+pub struct Block {
+    pub class: PathClass,
+    pub there: usize,
+    pub back: usize,
+}
+
+/// What the table has for a group of fares and a class of paths: where the entry may stand, and a price that it costs at most.
+#[derive(Clone, Copy, PartialEq, Eq, Debug)]
+pub struct Slot {
+    pub block: usize,
+    pub key: GroupKey,
+    pub reverse: bool,
+    pub at: usize,
+    pub price: u64,
+}
+
+/// A class by its block, which way the fares are filed, and a slot of a group.
+#[derive(Clone, Copy, PartialEq, Eq, Debug)]
+pub struct Spot {
+    pub block: usize,
+    pub key: GroupKey,
+    pub reverse: bool,
+    pub slot: usize,
+}
+
 /// The entries so far.
 #[derive(Drop)]
 pub struct Growing {
     pub entries: Vec<Entry>,
-    /// Where the slots of a class may begin.
-    pub classes: IndexMap<ClassKey, usize>,
-    /// Where a class may stand that was asked for before.
+    pub blocks: Vec<Block>,
+    /// Where the block of a class may stand.
+    pub places: IndexMap<ClassKey, usize>,
+    /// Where the block of a class may stand that was asked for before.
     pub recent: Recent,
-    /// Where an entry may stand.
-    pub slots: Vec<usize>,
+    pub slots: Vec<Option<Slot>>,
+}
+
+impl Slot {
+    /// Whether it is that of this spot.
+    fn is_of(&self, spot: &Spot) -> bool
+        ensures block { IsTrue result → self.now.block ≡ spot.now.block }
+        ensures key { IsTrue result → self.now.key ≡ spot.now.key }
+        ensures reverse { IsTrue result → self.now.reverse ≡ spot.now.reverse }
+    {
+        self.block == spot.block && self.key.is(spot.key) && self.reverse == spot.reverse
+    }
 }
 
 impl Growing {
     /// No entry.
     pub fn new(alloc: Global) -> Growing
-        ensures { result.entries.items ≡ [] }
+        ensures entries { result.entries.items ≡ [] }
+        ensures low { IsLow result }
     {
         Growing {
             entries: Vec::new(alloc),
-            classes: IndexMap::new(alloc),
+            blocks: Vec::new(alloc),
+            places: IndexMap::new(alloc),
             recent: Recent::new(),
             slots: Vec::new(alloc),
         }
     }
 
-    /// Where the slots of a class begin: so many, if it is a new one.
-    pub fn class(&mut self, key: ClassKey, count: usize) -> Result<usize, Mem>
-        ensures { self.new.entries.items ≡ self.old.entries.items }
+    /// Where the block of a class stands: with slots for so many groups of the fares that are filed one way, and for so
+    /// many of those in reverse, if it is a new one.
+    pub fn block(&mut self, class: &PathClass, there: usize, back: usize) -> Result<usize, Mem>
+        requires { IsLow self.old }
+        ensures low { IsLow self.new }
+        ensures same { self.new.entries.items ≡ self.old.entries.items }
+        ensures block { IfOk result (HasBlock self.new.blocks.items class.now) }
     {
+        let key = ClassKey::of(class);
         let spot = key.spot();
-        if let Some(begin) = begin_at(&self.classes, self.recent.get(spot), &key) {
-            return Ok(begin);
+        if let Some(at) = known(self.blocks.as_slice(), self.recent.get(spot), class) {
+            return Ok(at);
         }
-        if let Some((at, _, begin)) = self.classes.get_full(&key) {
-            self.recent.put(spot, at);
-            return Ok(*begin);
+        let found = self.places.get(&key).copied();
+        self.recent.put(spot, found.unwrap_or(self.blocks.len()));
+        if let Some(at) = known(self.blocks.as_slice(), found, class) {
+            return Ok(at);
         }
-        self.recent.put(spot, self.classes.len());
+        self.add_block(key, class, there, back)
+    }
+
+    /// Adds a block.
+    fn add_block(
+        &mut self,
+        key: ClassKey,
+        class: &PathClass,
+        there: usize,
+        back: usize,
+    ) -> Result<usize, Mem>
+        requires { IsLow self.old }
+        ensures low { IsLow self.new }
+        ensures same { self.new.entries.items ≡ self.old.entries.items }
+        ensures block { IfOk result (HasBlock self.new.blocks.items class.now) }
+    {
+        let at = self.blocks.len();
         let begin = self.slots.len();
-        self.classes.insert(key, begin)?;
-        add_slots(&mut self.slots, count)?;
-        Ok(begin)
+        add_slots(&mut self.slots, there)?;
+        let middle = self.slots.len();
+        add_slots(&mut self.slots, back)?;
+        self.places.insert(key, at)?;
+        self.blocks.push(Block {
+            class: *class,
+            there: begin,
+            back: middle,
+        })?;
+        Ok(at)
     }
 
-    /// Where an outline stands, if its slot tells it.
-    pub fn find(&self, slot: usize, outline: &Outline) -> Option<usize>
-        ensures { IfSome result (HasAt self.now.entries.items outline.now) }
-    {
-        let at = *self.slots.get(slot)?;
-        let entry = self.entries.get(at)?;
-        if same_outline(&entry.outline, outline) {
-            Some(at)
-        } else {
-            None
+    /// Where the slots of a block begin, one way.
+    pub fn begin(&self, block: usize, reverse: bool) -> usize {
+        match self.blocks.as_slice().get(block) {
+            Some(block) => if reverse { block.back } else { block.there },
+            None => usize::MAX,
         }
     }
 
-    /// Whether the entry at a place, if there is one, costs no more than a price.
-    pub fn is_below(&self, found: Option<usize>, price: u64) -> bool
-        ensures { IsTrue result → IsBelow self.now.entries.items price found }
+    /// Whether the table has a group's outline for a class at no more than a price, as its slot tells.
+    pub fn is_below(&self, spot: &Spot, price: u64) -> bool
+        ensures { IsTrue result → IsLow self.now → (o : OneOutline) → HasOutline self.now.blocks.items spot.now o → HasBelow self.now.entries.items o price }
     {
-        match found {
-            Some(at) => match self.entries.get(at) {
-                Some(entry) => entry.price <= price,
-                None => false,
-            },
+        match slot_of(self.slots.as_slice(), spot) {
+            Some(slot) => slot.price <= price,
             None => false,
         }
     }
 
-    /// Puts an outline in at a price, where it was found or at the end. Where it stands, the lesser price stays.
+    /// Puts an outline in at a price. Where it stands, the lesser price stays.
     pub fn put(
         &mut self,
-        found: Option<usize>,
-        slot: usize,
+        spot: &Spot,
         outline: &Outline,
         rule: &Shared<Rule>,
         price: u64,
     ) -> Result<(), Mem>
-        requires { IfSome found (HasAt self.old.entries.items outline.now) }
+        requires low { IsLow self.old }
+        requires outline { HasOutline self.old.blocks.items spot.now outline.now }
+        ensures low { IsLow self.new }
+        ensures blocks { self.new.blocks.items ≡ self.old.blocks.items }
         ensures covers { Covers self.old.entries.items self.new.entries.items }
         ensures lowered { OnOk result (Lowered (record { outline = outline.now; rule = rule.now; price = price }) self.old.entries.items self.new.entries.items) }
     {
-        match found {
-            Some(at) => lower_at(&mut self.entries, at, outline, rule, price),
-            None => self.add(slot, outline, rule, price),
-        }
-    }
-
-    /// Adds an entry at the end, and tells its slot.
-    fn add(
-        &mut self,
-        slot: usize,
-        outline: &Outline,
-        rule: &Shared<Rule>,
-        price: u64,
-    ) -> Result<(), Mem>
-        ensures covers { Covers self.old.entries.items self.new.entries.items }
-        ensures lowered { OnOk result (Lowered (record { outline = outline.now; rule = rule.now; price = price }) self.old.entries.items self.new.entries.items) }
-    {
-        tell(self.slots.as_mut_slice(), slot, self.entries.len());
-        let rule = rule.share()?;
-        self.entries.push(Entry {
-            outline: *outline,
+        let at = put_in(
+            &mut self.entries,
+            slot_of(self.slots.as_slice(), spot),
+            outline,
             rule,
             price,
-        })?;
+        )?;
+        tell(&mut self.slots, spot, at, price);
         Ok(())
     }
 }
 
-/// Where the slots of a class begin, if it stands at a place.
-fn begin_at(
-    classes: &IndexMap<ClassKey, usize>,
-    found: Option<usize>,
-    key: &ClassKey,
-) -> Option<usize> {
-    let (known, begin) = classes.get_index(found?)?;
-    if known == key { Some(*begin) } else { None }
+/// The slot of a spot, if it is filled.
+fn slot_of(slots: &[Option<Slot>], spot: &Spot) -> Option<Slot>
+    ensures { IfSome result (IsSlotOf slots.now spot.now) }
+{
+    match slots.get(spot.slot) {
+        Some(Some(slot)) if slot.is_of(spot) => Some(*slot),
+        _ => None,
+    }
 }
 
-/// Adds slots that tell no place.
-fn add_slots(slots: &mut Vec<usize>, count: usize) -> Result<(), Mem> {
+/// A place, if the block of the class stands there.
+fn known(blocks: &[Block], found: Option<usize>, class: &PathClass) -> Option<usize>
+    ensures { IfSome result (HasBlock blocks.now class.now) }
+{
+    let at = found?;
+    let block = blocks.get(at)?;
+    if block.class.is(class) {
+        Some(at)
+    } else {
+        None
+    }
+}
+
+/// Adds slots that tell nothing.
+fn add_slots(slots: &mut Vec<Option<Slot>>, count: usize) -> Result<(), Mem>
+    ensures { TellsNoMore slots.old.items slots.new.items }
+{
     for _ in 0..count {
-        slots.push(usize::MAX)?;
+        slots.push(None)?;
     }
     Ok(())
 }
 
-/// Makes a slot tell a place.
-fn tell(slots: &mut [usize], slot: usize, at: usize) {
-    if let Some(known) = slots.get_mut(slot) {
-        *known = at;
+/// Makes a spot's slot tell a place and a price.
+fn tell(slots: &mut Vec<Option<Slot>>, spot: &Spot, at: usize, price: u64)
+    ensures { TellsOne (record { block = spot.now.block; key = spot.now.key; reverse = spot.now.reverse; at = at; price = price }) slots.old.items slots.new.items }
+{
+    if spot.slot < slots.len() {
+        slots[spot.slot] = Some(Slot {
+            block: spot.block,
+            key: spot.key,
+            reverse: spot.reverse,
+            at,
+            price,
+        });
     }
+}
+
+/// Puts an outline in at a price, where its slot tells that it stands, or at the end. Returns where it stands.
+fn put_in(
+    entries: &mut Vec<Entry>,
+    slot: Option<Slot>,
+    outline: &Outline,
+    rule: &Shared<Rule>,
+    price: u64,
+) -> Result<usize, Mem>
+    ensures covers { Covers entries.old.items entries.new.items }
+    ensures lowered { OnOk result (Lowered (record { outline = outline.now; rule = rule.now; price = price }) entries.old.items entries.new.items) }
+{
+    match found_at(entries.as_slice(), slot, outline) {
+        Some(at) => {
+            lower_at(entries, at, outline, rule, price)?;
+            Ok(at)
+        }
+        None => {
+            let at = entries.len();
+            add(entries, outline, rule, price)?;
+            Ok(at)
+        }
+    }
+}
+
+/// Where an outline stands, if its slot tells it.
+fn found_at(entries: &[Entry], slot: Option<Slot>, outline: &Outline) -> Option<usize>
+    ensures { IfSome result (HasAt entries.now outline.now) }
+{
+    let at = slot?.at;
+    let entry = entries.get(at)?;
+    if same_outline(&entry.outline, outline) {
+        Some(at)
+    } else {
+        None
+    }
+}
+
+/// Adds an entry at the end.
+fn add(
+    entries: &mut Vec<Entry>,
+    outline: &Outline,
+    rule: &Shared<Rule>,
+    price: u64,
+) -> Result<(), Mem>
+    ensures covers { Covers entries.old.items entries.new.items }
+    ensures lowered { OnOk result (Lowered (record { outline = outline.now; rule = rule.now; price = price }) entries.old.items entries.new.items) }
+{
+    let rule = rule.share()?;
+    entries.push(Entry {
+        outline: *outline,
+        rule,
+        price,
+    })?;
+    Ok(())
 }
 
 /// Puts an outline in at a price where it stands.

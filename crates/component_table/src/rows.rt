@@ -2,10 +2,10 @@
 //! paths are known to add nothing more.
 ghost use Rattle.std.specs.Prelude.{◌≡◌, ℕ, ℤ, IfOk, IfSome, List as Items, Some, slice_get, IsTrue};
 ghost use Rattle.component_table.specs.declared.kinds.TailClass.{TailClass as OneClass};
-ghost use Rattle.component_table.specs.declared.rows.MetClass.{MetClass as OneMetClass};
 ghost use Rattle.component_table.specs.declared.rows.MetHead.{MetHead as OneHead};
 ghost use Rattle.component_table.specs.declared.rows.Row.{Row as OneRow};
 ghost use Rattle.component_table.specs.Classes.{ClassDone};
+ghost use Rattle.component_table.specs.Joints.{Joins};
 ghost use Rattle.component_table.specs.Masks.{AreMasks, PutsMask};
 ghost use Rattle.component_table.specs.Kinds.{joined_class};
 ghost use Rattle.component_table.specs.Rows.{AreRows, HasRows, IsMet, IsRowAt};
@@ -17,10 +17,10 @@ ghost use Rattle.outlines.specs.declared.outline.Entry.{Entry as OneEntry};
 
 use crate::classes::PathClass;
 use crate::gathering::first_flight;
-use crate::kinds::TailClass;
+use crate::kinds::{Kinds, TailClass};
 use crate::masks::Masks;
 use crate::same::same_numbers;
-use crate::ways::Origin;
+use crate::ways::{Joint, Origin};
 use fare_law::{ArrayVec, Carrier, Flight, Mem};
 use flight_paths::Path;
 use indexmap::IndexMap;
@@ -52,21 +52,13 @@ pub struct Row {
     pub masks: Vec<Option<u32>>,
 }
 
-/// A class of tails, with its number.
-#[derive(Clone, Copy, PartialEq, Eq, Debug)]
-pub struct MetClass {
-    pub number: usize,
-    pub class: TailClass,
-}
-
-/// The rows of a position, and the head and the class of tails at hand.
+/// The rows of a position, and the head at hand.
 #[derive(Drop)]
 pub struct Rows {
     pub kept: Vec<Row>,
     /// Where a row may stand, by the letters of its carrier and its day.
     pub places: IndexMap<u64, usize>,
     pub head: Option<MetHead>,
-    pub tail: Option<MetClass>,
 }
 
 impl HeadKind {
@@ -94,7 +86,7 @@ impl Row {
 }
 
 impl Rows {
-    /// No row, no head and no tail.
+    /// No row and no head.
     pub fn new(alloc: Global) -> Rows
         ensures { (b : Version) (q : Asked) (at : At) (classes : Items OneClass) (table : Items OneEntry) → HasRows b q at classes table result }
     {
@@ -102,11 +94,10 @@ impl Rows {
             kept: Vec::new(alloc),
             places: IndexMap::new(alloc),
             head: None,
-            tail: None,
         }
     }
 
-    /// Takes a head at hand, and no tail, if it isn't there already, with a row for so many classes of tails. Where
+    /// Takes a head at hand, if it isn't there already, with a row for so many classes of tails. Where
     /// memory runs out there is none.
     pub fn meet(
         &mut self,
@@ -126,7 +117,6 @@ impl Rows {
         }
         let met = self.met(alloc, origin, masks, width, head);
         self.head = met;
-        self.tail = None;
     }
 
     /// What is known of a head, with its row.
@@ -182,40 +172,29 @@ impl Rows {
         }
     }
 
-    /// Takes a class of tails at hand.
-    pub fn take(&mut self, number: usize, class: &TailClass)
-        ensures rows { (b : Version) (q : Asked) (at : At) (classes : Items OneClass) (table : Items OneEntry) → slice_get classes number ≡ Some class.now → HasRows b q at classes table self.old → HasRows b q at classes table self.new }
-        ensures same { self.new.kept ≡ self.old.kept }
+    /// What is known of the path that goes on from a head by the tail of this number. None where the head isn't at hand.
+    pub fn joint<'a>(
+        &self,
+        kinds: &Kinds,
+        head: &Path,
+        number: usize,
+        path: &'a Path,
+    ) -> Option<Joint<'a>>
+        ensures { IfSome result (Joins self.now kinds.now head.now.flights number path.now) }
     {
-        self.tail = Some(MetClass {
-            number,
-            class: *class,
-        });
-    }
-
-    /// Whether a class of paths is that of the head and the tails at hand.
-    pub fn is_at_hand(&self, class: &PathClass) -> bool
-        ensures { IsTrue result → (h : OneHead) × (t : OneMetClass) × (self.now.head ≡ Some h) × (self.now.tail ≡ Some t) × (class.now ≡ joined_class h.kind.carrier h.kind.first t.class) }
-    {
-        match (&self.head, &self.tail) {
-            (Some(head), Some(tail)) => head.kind.joined(&tail.class).is(class),
-            _ => false,
+        let met = self.head.as_ref()?;
+        if !same_numbers(met.flights.as_slice(), head.flights.as_slice()) {
+            return None;
         }
-    }
-
-    /// Keeps for which classes of seats a class of paths is settled, if it is that of the head and the tails at hand.
-    /// Tells whether it is.
-    pub fn settle(&mut self, class: &PathClass, classes: u32) -> bool
-        ensures { (b : Version) (q : Asked) (at : At) (tails : Items OneClass) (table : Items OneEntry) → ClassDone b q at (record { class = class.now; classes = classes }) table → HasRows b q at tails table self.old → HasRows b q at tails table self.new }
-    {
-        if !self.is_at_hand(class) {
-            return false;
-        }
-        let (Some(head), Some(tail)) = (self.at_hand(), self.tail) else {
-            return false;
-        };
-        self.put(head.row, tail.number, classes);
-        true
+        let kind = kinds.of.as_slice().get(number)?;
+        let class = kinds.classes.as_slice().get(kind.class)?;
+        Some(Joint {
+            path,
+            class: met.kind.joined(class),
+            classes: met.kind.classes & kind.classes,
+            row: met.kind.row,
+            tail: kind.class,
+        })
     }
 
     /// The classes of seats that are known in a row, by the numbers of classes of tails. None where there is no such row.

@@ -61,7 +61,7 @@ impl Settled {
         if let Some(at) = known(kept, self.recent.get(spot), class) {
             return Some(at);
         }
-        let found = self.places.get(&ClassKey::of(class, false)).copied();
+        let found = self.places.get(&ClassKey::of(class)).copied();
         let at = known(kept, found, class)?;
         self.recent.put(spot, at);
         Some(at)
@@ -91,8 +91,7 @@ impl Settled {
             return Ok(());
         }
         self.recent.put(class.spot(), self.kept.len());
-        self.places
-            .insert(ClassKey::of(class, false), self.kept.len())?;
+        self.places.insert(ClassKey::of(class), self.kept.len())?;
         self.kept.push(one)?;
         Ok(())
     }

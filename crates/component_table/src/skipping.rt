@@ -7,9 +7,9 @@ ghost use Rattle.component_table.specs.Rows.{HasRows, IsHeadOf, IsKnownTail, IsR
 ghost use Rattle.flight_paths.specs.declared.positions.Path.{Path as PathData};
 ghost use Rattle.outlines.specs.declared.outline.Entry.{Entry as OneEntry};
 
-use crate::adding::{end_at, is_unserved};
+use crate::adding::{end_at, end_of, is_unserved};
 use crate::classes::PathClass;
-use crate::ends::{EndKey, Reach};
+use crate::ends::Reach;
 use crate::kinds::{Kinds, TailKind};
 use crate::rows::{HeadKind, Rows, known_for};
 use crate::settled::are_among;
@@ -117,7 +117,7 @@ fn adds_nothing_at(rows: &mut Rows, met: &Met, numbers: &[usize], at: usize) -> 
 }
 
 /// Whether the path that goes on from the head by the tail of this number adds nothing to the table by what is filed,
-/// which is then kept in the head's row. Where it may add something, the tail's class is at hand.
+/// which is then kept in the head's row.
 fn adds_nothing(rows: &mut Rows, met: &Met, number: usize) -> bool
     requires reach { IsReach met.now.origin.book.now met.now.origin.at.now.place met.now.reach.now }
     requires row { IsRowAt rows.old.kept.items met.now.head.carrier met.now.head.first met.now.head.row }
@@ -128,42 +128,33 @@ fn adds_nothing(rows: &mut Rows, met: &Met, number: usize) -> bool
     let Some(kind) = met.kinds.of.as_slice().get(number) else {
         return false;
     };
+    if known_for(rows.masks(met.head.row), kind.class).is_some() {
+        return false;
+    }
     let classes = met.head.classes & kind.classes;
     let Some(class) = met.kinds.classes.as_slice().get(kind.class) else {
         return false;
     };
-    match filed_for(met, &met.head.joined(class), classes) {
+    match filed_for(met, &met.head.joined(class)) {
         Some(mask) => {
             rows.put(met.head.row, kind.class, mask);
             are_among(classes, mask)
         }
-        None => {
-            rows.take(kind.class, class);
-            false
-        }
+        None => false,
     }
 }
 
 /// For which classes of seats the paths of a class are done by what is filed: for all where the carrier of the first flight
-/// has no fare to the end or from it, and for none where none is asked about.
-fn filed_for(met: &Met, class: &PathClass, classes: u32) -> Option<u32>
+/// has no fare to the end or from it, and else for none.
+fn filed_for(met: &Met, class: &PathClass) -> Option<u32>
     requires reach { IsReach met.now.origin.book.now met.now.origin.at.now.place met.now.reach.now }
     ensures { IfSome result (λ mask. (table : Items OneEntry) → ClassDone met.now.origin.book.now met.now.origin.request.now met.now.origin.at.now (record { class = class.now; classes = mask }) table) }
 {
     met.origin.book.limits();
-    let at = met.reach.recall(key_of(class))?;
+    let at = met.reach.recall(end_of(class))?;
     if is_unserved(end_at(met.reach.ends.as_slice(), at)) {
-        return Some(u32::MAX);
-    }
-    if classes == 0 { Some(0) } else { None }
-}
-
-/// What the end of a class is asked for by.
-fn key_of(class: &PathClass) -> EndKey
-    ensures { result ≡ record { place = class.now.end; carrier = class.now.carrier } }
-{
-    EndKey {
-        place: class.end,
-        carrier: class.carrier,
+        Some(u32::MAX)
+    } else {
+        Some(0)
     }
 }

@@ -5,7 +5,7 @@ ghost use Rattle.component_table.specs.Markets.{AreMarkets};
 ghost use Rattle.component_table.specs.Masks.{AreMasks};
 ghost use Rattle.component_table.specs.Tables.{PutsIn};
 
-use crate::adding::add_path;
+use crate::adding::{add_joint, add_path};
 use crate::ends::Reach;
 use crate::growing::Growing;
 use crate::kinds::Kinds;
@@ -68,6 +68,19 @@ impl<'a, S: Scene> PathVisitor for Putting<'a, S> {
             &self.origin,
             path,
         )
+    }
+
+    fn visit_after(&mut self, head: &Path, number: usize, path: &Path) -> Result<(), Mem> {
+        match self.filling.rows.joint(self.kinds, head, number, path) {
+            Some(joint) => add_joint(
+                self.alloc,
+                &mut self.filling,
+                &mut self.reach,
+                &self.origin,
+                &joint,
+            ),
+            None => self.visit(path),
+        }
     }
 
     fn skips(&mut self, head: &Path, numbers: &[usize]) -> usize {

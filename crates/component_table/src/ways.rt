@@ -5,7 +5,7 @@ use crate::ends::End;
 use crate::filed::Filed;
 use crate::markets::Market;
 use fare_book::Book;
-use fare_law::{ArrayVec, Flight, Request};
+use fare_law::{Flight, Request};
 use flight_paths::{Path, Position};
 
 /// A position of a search: its book, its request, and where it stands.
@@ -25,13 +25,26 @@ pub struct Landed<'a> {
     pub classes: u32,
 }
 
-/// A path with its flights, and the classes that are open in every leg.
-#[derive(Drop)]
-pub struct Flown<'a> {
+/// A path of a head and a tail that are known: its class, the classes of seats that are open in every leg, and the row
+/// and the number of the class of tails by which it is known whether it is settled.
+#[derive(Clone, Copy)]
+pub struct Joint<'a> {
     pub path: &'a Path,
-    pub flights: ArrayVec<Flight, 4>,
     pub class: PathClass,
     pub classes: u32,
+    pub row: usize,
+    pub tail: usize,
+}
+
+/// A path with its flights, and the classes that are open in every leg.
+#[derive(Clone, Copy)]
+pub struct Flown<'a> {
+    pub path: &'a Path,
+    pub flights: &'a [Flight],
+    pub class: PathClass,
+    pub classes: u32,
+    /// The number of the block of its class.
+    pub block: usize,
 }
 
 /// A market whose fares are filed over a path, one way, and where the groups of the path's first carrier stand in it.

@@ -7,17 +7,12 @@ use Rattle.component_table.proofs.SettledFacts.{class_done, settled_added, settl
 use Rattle.fare_groups.proofs.Grouped.{each_in}
 use Rattle.component_table.proofs.adding.add_landed.Goals as goal
 
-pub returns-then-is_settled-clause-settled : goal.returns-then-is_settled-clause-settled
-returns-then-is_settled-clause-settled c =
-    let o = c.args.origin.now in
-    subst (λ kept. AreSettled o.book.now o.request.now o.at.now kept c.args.filling.now.table.entries.items) (sym c.is_settled.ensures.same) c.requires.settled
-
-pub returns-then-is_settled-clause-done : goal.returns-then-is_settled-clause-done
-returns-then-is_settled-clause-done c = λ p.
+pub returns-then-has-clause-done : goal.returns-then-has-clause-done
+returns-then-has-clause-done c = λ p.
     let o = c.args.origin.now in
     let l = c.args.landed.now in
     let old = c.args.filling.now.table.entries.items in
-    let h = c.is_settled.ensures.has c.if-is_settled.true in
+    let h = c.has.ensures.has c.if-has.true in
     settled_added o.book.now o.request.now o.at.now l.path.now h.0 l.classes old
     (each_in (λ (s : SettledClass). ClassDone o.book.now o.request.now o.at.now s old) c.args.filling.now.settled.kept.items h.0 c.requires.settled h.1)
     (λ fs m. subst (λ (k : PathClass). IsOfClass k l.path.now.after fs) (sym h.2) (c.requires.landed.class fs m)) c.requires.landed.classes h.3
@@ -25,63 +20,57 @@ returns-then-is_settled-clause-done c = λ p.
 pub returns-in_err-add_both-clause-settled : goal.returns-in_err-add_both-clause-settled
 returns-in_err-add_both-clause-settled c =
     let o = c.args.origin.now in
-    let kept = subst (λ k. AreSettled o.book.now o.request.now o.at.now k c.args.filling.now.table.entries.items) (sym c.is_settled.ensures.same) c.requires.settled in
-    settled_on o.book.now o.request.now o.at.now c.is_settled.new.settled.kept.items c.args.filling.now.table.entries.items c.add_both.new.table.entries.items c.in_err-add_both.ensures.covers kept
+    let old = c.args.filling.now.table.entries.items in
+    let kept = subst (λ k. AreSettled o.book.now o.request.now o.at.now k old) (sym c.has.ensures.same) c.requires.settled in
+    settled_on o.book.now o.request.now o.at.now c.has.new.self.kept.items old c.add_both.new.table.entries.items c.in_err-add_both.ensures.covers kept
 
-pub returns-in_err-settle-clause-settled : goal.returns-in_err-settle-clause-settled
-returns-in_err-settle-clause-settled c =
+pub returns-in_err-put-clause-settled : goal.returns-in_err-put-clause-settled
+returns-in_err-put-clause-settled c =
     let o = c.args.origin.now in
     let l = c.args.landed.now in
     let old = c.args.filling.now.table.entries.items in
     let new = c.add_both.new.table.entries.items in
-    let had = c.is_settled.new.settled.kept.items in
-    let kept = settled_on o.book.now o.request.now o.at.now had old new c.in_ok-add_both.ensures.covers (subst (λ k. AreSettled o.book.now o.request.now o.at.now k old) (sym c.is_settled.ensures.same) c.requires.settled) in
+    let had = c.has.new.self.kept.items in
+    let kept = settled_on o.book.now o.request.now o.at.now had old new c.in_ok-add_both.ensures.covers (subst (λ k. AreSettled o.book.now o.request.now o.at.now k old) (sym c.has.ensures.same) c.requires.settled) in
     let both = c.in_ok-add_both.ensures.settled c.if-branch.true in
     let done = class_done o.book.now o.request.now o.at.now c.args.markets.now l both.0 new c.requires.markets c.requires.limited c.requires.landed both.1 both.2 in
-    settled_more o.book.now o.request.now o.at.now had c.settle.new.settled.kept.items (record { class = l.class; classes = l.classes }) new kept done c.settle.ensures.settled
+    settled_more o.book.now o.request.now o.at.now had c.put.new.self.kept.items (record { class = l.class; classes = l.classes }) new kept done c.put.ensures
 
-pub returns-in_ok-settle-clause-settled : goal.returns-in_ok-settle-clause-settled
-returns-in_ok-settle-clause-settled c =
+pub returns-in_ok-put-clause-settled : goal.returns-in_ok-put-clause-settled
+returns-in_ok-put-clause-settled c =
     let o = c.args.origin.now in
     let l = c.args.landed.now in
     let old = c.args.filling.now.table.entries.items in
     let new = c.add_both.new.table.entries.items in
-    let had = c.is_settled.new.settled.kept.items in
-    let kept = settled_on o.book.now o.request.now o.at.now had old new c.in_ok-add_both.ensures.covers (subst (λ k. AreSettled o.book.now o.request.now o.at.now k old) (sym c.is_settled.ensures.same) c.requires.settled) in
+    let had = c.has.new.self.kept.items in
+    let kept = settled_on o.book.now o.request.now o.at.now had old new c.in_ok-add_both.ensures.covers (subst (λ k. AreSettled o.book.now o.request.now o.at.now k old) (sym c.has.ensures.same) c.requires.settled) in
     let both = c.in_ok-add_both.ensures.settled c.if-branch.true in
     let done = class_done o.book.now o.request.now o.at.now c.args.markets.now l both.0 new c.requires.markets c.requires.limited c.requires.landed both.1 both.2 in
-    settled_more o.book.now o.request.now o.at.now had c.settle.new.settled.kept.items (record { class = l.class; classes = l.classes }) new kept done c.settle.ensures.settled
+    settled_more o.book.now o.request.now o.at.now had c.put.new.self.kept.items (record { class = l.class; classes = l.classes }) new kept done c.put.ensures
 
 pub returns-else-branch-clause-settled : goal.returns-else-branch-clause-settled
 returns-else-branch-clause-settled c =
     let o = c.args.origin.now in
-    let kept = subst (λ k. AreSettled o.book.now o.request.now o.at.now k c.args.filling.now.table.entries.items) (sym c.is_settled.ensures.same) c.requires.settled in
-    settled_on o.book.now o.request.now o.at.now c.is_settled.new.settled.kept.items c.args.filling.now.table.entries.items c.add_both.new.table.entries.items c.in_ok-add_both.ensures.covers kept
+    let old = c.args.filling.now.table.entries.items in
+    let kept = subst (λ k. AreSettled o.book.now o.request.now o.at.now k old) (sym c.has.ensures.same) c.requires.settled in
+    settled_on o.book.now o.request.now o.at.now c.has.new.self.kept.items old c.add_both.new.table.entries.items c.in_ok-add_both.ensures.covers kept
 
 pub returns-in_err-add_both-clause-rows : goal.returns-in_err-add_both-clause-rows
-returns-in_err-add_both-clause-rows c = λ tails.
+returns-in_err-add_both-clause-rows c = λ tails has.
     let o = c.args.origin.now in
-    has_rows_on o.book.now o.request.now o.at.now tails c.args.filling.now.table.entries.items c.add_both.new.table.entries.items c.args.filling.now.rows c.in_err-add_both.ensures.covers
+    has_rows_on o.book.now o.request.now o.at.now tails c.args.filling.now.table.entries.items c.add_both.new.table.entries.items c.args.filling.now.rows c.in_err-add_both.ensures.covers has
 
-pub returns-in_err-settle-clause-rows : goal.returns-in_err-settle-clause-rows
-returns-in_err-settle-clause-rows c = λ tails has.
+pub returns-in_err-put-clause-rows : goal.returns-in_err-put-clause-rows
+returns-in_err-put-clause-rows c = λ tails has.
     let o = c.args.origin.now in
-    let l = c.args.landed.now in
-    let new = c.add_both.new.table.entries.items in
-    let both = c.in_ok-add_both.ensures.settled c.if-branch.true in
-    let done = class_done o.book.now o.request.now o.at.now c.args.markets.now l both.0 new c.requires.markets c.requires.limited c.requires.landed both.1 both.2 in
-    c.settle.ensures.rows o.book.now o.request.now o.at.now tails new done (has_rows_on o.book.now o.request.now o.at.now tails c.args.filling.now.table.entries.items new c.args.filling.now.rows c.in_ok-add_both.ensures.covers has)
+    has_rows_on o.book.now o.request.now o.at.now tails c.args.filling.now.table.entries.items c.add_both.new.table.entries.items c.args.filling.now.rows c.in_ok-add_both.ensures.covers has
 
-pub returns-in_ok-settle-clause-rows : goal.returns-in_ok-settle-clause-rows
-returns-in_ok-settle-clause-rows c = λ tails has.
+pub returns-in_ok-put-clause-rows : goal.returns-in_ok-put-clause-rows
+returns-in_ok-put-clause-rows c = λ tails has.
     let o = c.args.origin.now in
-    let l = c.args.landed.now in
-    let new = c.add_both.new.table.entries.items in
-    let both = c.in_ok-add_both.ensures.settled c.if-branch.true in
-    let done = class_done o.book.now o.request.now o.at.now c.args.markets.now l both.0 new c.requires.markets c.requires.limited c.requires.landed both.1 both.2 in
-    c.settle.ensures.rows o.book.now o.request.now o.at.now tails new done (has_rows_on o.book.now o.request.now o.at.now tails c.args.filling.now.table.entries.items new c.args.filling.now.rows c.in_ok-add_both.ensures.covers has)
+    has_rows_on o.book.now o.request.now o.at.now tails c.args.filling.now.table.entries.items c.add_both.new.table.entries.items c.args.filling.now.rows c.in_ok-add_both.ensures.covers has
 
 pub returns-else-branch-clause-rows : goal.returns-else-branch-clause-rows
-returns-else-branch-clause-rows c = λ tails.
+returns-else-branch-clause-rows c = λ tails has.
     let o = c.args.origin.now in
-    has_rows_on o.book.now o.request.now o.at.now tails c.args.filling.now.table.entries.items c.add_both.new.table.entries.items c.args.filling.now.rows c.in_ok-add_both.ensures.covers
+    has_rows_on o.book.now o.request.now o.at.now tails c.args.filling.now.table.entries.items c.add_both.new.table.entries.items c.args.filling.now.rows c.in_ok-add_both.ensures.covers has

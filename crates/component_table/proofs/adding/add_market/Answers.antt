@@ -1,5 +1,5 @@
-use Rattle.std.proofs.Common.{◌<◌, ap, length, slice_get, subst, ◌∙◌, arith}
-use Rattle.component_table.specs.Tables.{Covers, GoesOn}
+use Rattle.std.proofs.Common.{◌<◌, ap, length, slice_get, subst, sym, ◌∙◌, arith}
+use Rattle.component_table.specs.Blocks.{HasBlock}
 use Rattle.component_table.proofs.Lower.{covers_on, goes_self}
 use Rattle.component_table.proofs.PathFacts.{read_in}
 use Rattle.component_table.proofs.Served.{between_more, groups_apart, groups_between}
@@ -15,7 +15,7 @@ returns-then-to-from-clause-done c = λ p s.
     let old = c.args.table.now.entries.items in
     record {
       goes = goes_self b c.args.origin.now.request.now c.args.origin.now.at.now old;
-      has = groups_apart b flown.path.now flown.flights flown.classes serving.reverse old serving.market.now.groups s.carrier serving.filed c.requires.over.flown_is.count.0 s.first s.groups c.if-to-from.true;
+      has = groups_apart b flown.path.now flown.flights.now flown.classes serving.reverse old serving.market.now.groups s.carrier serving.filed c.requires.over.flown_is.count.0 s.first s.groups c.if-to-from.true;
     }
 
 pub add_group-requires-clause-group : goal.add_group-requires-clause-group
@@ -23,8 +23,14 @@ add_group-requires-clause-group c =
     let lt : c.loop-at.at < length c.as_slice-groups.result.now = omega (arith, c.loop-at-test.true, c.requires.within, ap length c.as_slice-groups.ensures) in
     subst (IsIn c.index-groups-at.result) c.as_slice-groups.ensures (read_in c.as_slice-groups.result.now c.loop-at.at _ c.index-groups-at.result lt c.index-groups-at.is)
 
+pub add_group-requires-clause-block : goal.add_group-requires-clause-block
+add_group-requires-clause-block c = subst (λ bs. HasBlock bs c.args.flown.now.class c.args.flown.now.block) (sym c.loop-at.invariant.blocks) c.requires.block
+
+pub returns-in_err-one-clause-blocks : goal.returns-in_err-one-clause-blocks
+returns-in_err-one-clause-blocks c = c.in_err-one.ensures.blocks ∙ c.loop-at.invariant.blocks
+
 pub returns-in_err-one-clause-covers : goal.returns-in_err-one-clause-covers
-returns-in_err-one-clause-covers c = subst (λ es. Covers es c.add_group.new.table.entries.items) c.class.ensures (covers_on c.class.new.self.entries.items c.loop-at.table.entries.items c.add_group.new.table.entries.items c.loop-at.invariant.covers c.in_err-one.ensures.covers)
+returns-in_err-one-clause-covers c = covers_on c.args.table.now.entries.items c.loop-at.table.entries.items c.add_group.new.table.entries.items c.loop-at.invariant.covers c.in_err-one.ensures.covers
 
 pub loop-at-preserved : goal.loop-at-preserved
 loop-at-preserved c =
@@ -33,10 +39,12 @@ loop-at-preserved c =
     let new = c.add_group.new.table.entries.items in
     let f = c.args.flown.now in
     record {
-      covers = covers_on c.class.new.self.entries.items mid new c.loop-at.invariant.covers c.in_ok-one.ensures.covers;
-      settled = λ all. let both = c.are_both-settled.ensures all in groups_next f.path.now.after f.flights f.classes c.args.serving.now.reverse mid new c.in_ok-one.ensures.covers c.as_slice-groups.result.now c.args.serving.now.filed.from c.loop-at.at _ c.index-groups-at.result lt c.index-groups-at.is (c.loop-at.invariant.settled both.0) (c.in_ok-one.ensures.settled both.1);
+      low = c.in_ok-one.ensures.low;
+      blocks = c.in_ok-one.ensures.blocks ∙ c.loop-at.invariant.blocks;
+      covers = covers_on c.args.table.now.entries.items mid new c.loop-at.invariant.covers c.in_ok-one.ensures.covers;
+      settled = λ all. let both = c.are_both-settled.ensures all in groups_next f.path.now.after f.flights.now f.classes c.args.serving.now.reverse mid new c.in_ok-one.ensures.covers c.as_slice-groups.result.now c.args.serving.now.filed.from c.loop-at.at _ c.index-groups-at.result lt c.index-groups-at.is (c.loop-at.invariant.settled both.0) (c.in_ok-one.ensures.settled both.1);
       done = λ p. between_more c.args.origin.now.book.now c.args.origin.now.request.now c.args.origin.now.at.now f c.args.serving.now.reverse c.as_slice-groups.result.now c.args.serving.now.filed.from c.loop-at.at _ c.index-groups-at.result
-          c.class.new.self.entries.items mid new lt c.index-groups-at.is (c.loop-at.invariant.done p) (c.in_ok-one.ensures.done p);
+          c.args.table.now.entries.items mid new lt c.index-groups-at.is (c.loop-at.invariant.done p) (c.in_ok-one.ensures.done p);
     }
 
 pub returns-clause-done : goal.returns-clause-done
@@ -47,7 +55,7 @@ returns-clause-done c = λ p s.
     let new = c.loop-at.table.entries.items in
     let put = c.loop-at.invariant.done p in
     record {
-      goes = subst (λ es. GoesOn b c.args.origin.now.request.now c.args.origin.now.at.now es new) c.class.ensures put.goes;
-      has = groups_between b flown.path.now flown.flights flown.classes serving.reverse new serving.market.now.groups s.carrier serving.filed c.requires.over.flown_is.count.0 s.first s.groups
+      goes = put.goes;
+      has = groups_between b flown.path.now flown.flights.now flown.classes serving.reverse new serving.market.now.groups s.carrier serving.filed c.requires.over.flown_is.count.0 s.first s.groups
           (λ i g got low high. put.has i g (ap (λ l. slice_get l i) c.as_slice-groups.ensures ∙ got) low (omega (arith, high, c.loop-at-test.false)));
     }

@@ -1,4 +1,5 @@
-use Rattle.std.proofs.Common.{IsTrue}
+use Rattle.std.proofs.Common.{◌≡◌, IsTrue}
+use Rattle.component_table.specs.Blocks.{IsLow}
 use Rattle.component_table.specs.Classes.{GroupsSettled}
 use Rattle.component_table.specs.Tables.{Covers, IsPathOver}
 use Rattle.component_table.proofs.Served.{BetweenIn}
@@ -6,7 +7,9 @@ use Rattle.component_table.proofs.adding.add_market.Given as goal
 
 abbrev pub invariant-loop-at : goal.invariant-loop-at
 invariant-loop-at l = record {
+  low : IsLow l.table;
+  blocks : l.table.blocks.items ≡ l.initial.table.blocks.items;
   covers : Covers l.initial.table.entries.items l.table.entries.items;
-  settled : IsTrue l.settled → GroupsSettled l.flown.path.now.after l.flown.flights l.flown.classes l.serving.reverse l.groups l.from l.at l.table.entries.items;
+  settled : IsTrue l.settled → GroupsSettled l.flown.path.now.after l.flown.flights.now l.flown.classes l.serving.reverse l.groups l.from l.at l.table.entries.items;
   done : IsPathOver l.origin.book.now l.origin.request.now l.origin.at.now l.flown l.serving.reverse l.serving.market.now → BetweenIn l.origin.book.now l.origin.request.now l.origin.at.now l.flown l.serving.reverse l.groups l.from l.at l.initial.table.entries.items l.table.entries.items;
 }

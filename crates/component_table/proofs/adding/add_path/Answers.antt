@@ -1,4 +1,4 @@
-use Rattle.std.proofs.Common.{◌≤◌, ap, length, slice_get, subst, sym, ◌∙◌, arith}
+use Rattle.std.proofs.Common.{ap, length, slice_get, subst, sym, ◌∙◌, arith}
 use Rattle.component_table.specs.declared.classes.PathClass.{PathClass}
 use Rattle.component_table.specs.declared.ends.EndKey.{EndKey}
 use Rattle.component_table.specs.Reaches.{IsEnd}
@@ -62,7 +62,6 @@ add_landed-requires-clause-landed c =
     let own = is.key_is ∙ c.key_of.ensures in
     record {
       end = subst (λ ms. IsEnd b c.args.origin.now.at.now.place ms e) (sym c.as_slice.ensures.value) is.end;
-      some = subst (λ l. 1 ≤ length l) c.as_slice-numbers.ensures.items c.in-Some-last_flight.ensures.some.0;
       classes = λ fs m. c.in_ok-classes.ensures.classes fs (subst (λ l. Numbers b l fs) (sym c.as_slice-numbers.ensures.items) m);
       class = λ fs m.
           let own = subst (λ l. Numbers b l fs) (sym c.as_slice-numbers.ensures.items) m in

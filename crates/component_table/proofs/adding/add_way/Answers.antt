@@ -30,7 +30,7 @@ returns-in-Some-clause-done c =
     (λ d path begins ends.
     let over : IsPathOver b q at flown r m = record {
       path = path;
-      market = market_over b q at flown r (record { from = end_from r p e.key.place; to = end_to r p e.key.place }) ms f.market m found.at c.market_at-market.ensures (path_over b q at flown.path.now.flights flown.flights flown.path.now.after e.key.place path ends r);
+      market = market_over b q at flown r (record { from = end_from r p e.key.place; to = end_to r p e.key.place }) ms f.market m found.at c.market_at-market.ensures (path_over b q at flown.path.now.flights flown.flights.now flown.path.now.after e.key.place path ends r);
     } in
     way_done b q at flown r m c.args.table.now.entries.items c.add_market.new.table.entries.items is over (d over (record { carrier = e.key.carrier; first = begins; groups = subst (λ (x : Market). StandBetween x.groups e.key.carrier f) same found.groups })))
     c.add_market.ensures.done
@@ -45,4 +45,4 @@ returns-in-None-clause-done c = λ path begins ends.
     let ms = c.args.markets.now in
     let flown = c.args.flown.now in
     let none = subst (λ o. MatchOption o (NoFare b (end_from r p e.key.place) (end_to r p e.key.place)) (FiledAt ms (record { from = end_from r p e.key.place; to = end_to r p e.key.place }) e.key.carrier)) (sym c.filed_of.ensures ∙ c.in-None.is) (end_found b p ms e r c.requires.end) in
-    none_done b c.args.origin.now.request.now at flown r (end_from r p e.key.place) (end_to r p e.key.place) c.args.table.now.entries.items (path_over b c.args.origin.now.request.now at flown.path.now.flights flown.flights flown.path.now.after e.key.place path ends r) none
+    none_done b c.args.origin.now.request.now at flown r (end_from r p e.key.place) (end_to r p e.key.place) c.args.table.now.entries.items (path_over b c.args.origin.now.request.now at flown.path.now.flights flown.flights.now flown.path.now.after e.key.place path ends r) none

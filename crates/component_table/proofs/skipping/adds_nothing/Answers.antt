@@ -40,13 +40,3 @@ returns-in-Some-filed_for-clause-nothing c = λ t table has head is tails kinds 
     let mask = c.in-Some-filed_for.mask in
     let done = subst (λ (k : PathClass). ClassDone b q at (record { class = k; classes = mask }) table) c.joined.ensures (c.in-Some-filed_for.ensures table) in
     tail_nothing b q at head m.head m.kinds.now.classes.items tail kind class mask table is (kinds c.args.number kind tail here got) stands done (c.are_among.ensures t)
-
-pub returns-in-None-clause-rows : goal.returns-in-None-clause-rows
-returns-in-None-clause-rows c = λ table has.
-    let m = c.args.met.now in
-    let kind = c.in-Some.kind.now in
-    let class = c.in-Some-get.class.now in
-    let all = c.as_slice-2.result.now in
-    let found = c.in-Some-get.ensures.lookup in
-    let stands = ap (λ xs. slice_get xs kind.class) (sym c.as_slice-2.ensures.value) ∙ slice_get_read all (length all) kind.class class refl found.3.0 found.1 in
-    c.take.ensures.rows m.origin.book.now m.origin.request.now m.origin.at.now m.kinds.now.classes.items table stands has

@@ -1,4 +1,4 @@
-use Rattle.std.proofs.Common.{◌≢◌, ◌∷◌, ◌++◌, [], get_or, refl, subst}
+use Rattle.std.proofs.Common.{◌≢◌, ◌∷◌, get_or, refl, subst}
 use Rattle.fare_law.specs.declared.names.Place.{Place}
 use Rattle.fare_law.specs.Lists.{Each}
 use Rattle.flight_paths.specs.Ways.{arrivals_of}

@@ -14,7 +14,6 @@ returns-then-row-len-clause-rows c = λ b q at classes table k known done has.
     record {
       each = rows_put rows c.args.row old new stands puts.carrier puts.first b q at classes table c.args.class c.args.mask k puts.masks known (done old stands) has.each;
       head = met_set rows c.args.row old new stands puts.carrier puts.first b q c.args.self.now.head has.head;
-      tail = has.tail;
     }
 
 pub returns-then-row-len-clause-stays : goal.returns-then-row-len-clause-stays

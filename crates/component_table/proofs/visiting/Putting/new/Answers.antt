@@ -13,6 +13,7 @@ invariant_of-result g c =
       reach = c.new.ensures;
       masks = c.requires.masks;
       kinds = c.requires.kinds;
+      low = c.new-2.ensures.low;
       settled = subst (λ ks. AreSettled o.book.now o.request.now o.at.now ks table) (sym c.new-3.ensures) tt;
       rows = c.new-4.ensures o.book.now o.request.now o.at.now c.args.kinds.now.classes.items table;
     }

@@ -16,6 +16,7 @@ invariant_of-self g c =
       reach = i.reach;
       masks = c.meet.ensures.masks;
       kinds = i.kinds;
+      low = i.low;
       settled = i.settled;
       rows = c.meet.ensures.rows s.origin.at.now s.kinds.now.classes.items s.filling.table.entries.items i.rows;
     }
@@ -32,6 +33,7 @@ invariant_of-self-2 g c =
       reach = i.reach;
       masks = c.meet.ensures.masks;
       kinds = i.kinds;
+      low = i.low;
       settled = i.settled;
       rows = c.skipped.ensures.rows es (c.meet.ensures.rows s.origin.at.now s.kinds.now.classes.items es i.rows);
     }

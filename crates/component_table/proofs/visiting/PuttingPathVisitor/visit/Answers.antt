@@ -28,6 +28,7 @@ invariant_of-self g c =
       reach = new.reach;
       masks = new.masks;
       kinds = i.kinds;
+      low = new.low;
       settled = new.settled;
       rows = new.rows s.kinds.now.classes.items i.rows;
     }
