@@ -44,6 +44,13 @@ impl Guesses {
         spread as usize & self.places.len().saturating_sub(1)
     }
 
+    /// The spot of a number in a group: those of one group lie side by side, so that numbers near each other share what is
+    /// loaded.
+    pub fn near_spot(&self, group: u32, number: usize) -> usize {
+        let spread = u64::from(group).wrapping_mul(0x9e3779b97f4a7c15) >> 32;
+        (spread as usize).wrapping_add(number) & self.places.len().saturating_sub(1)
+    }
+
     /// The spot to look at after this one.
     pub fn next_spot(&self, spot: usize) -> usize {
         spot.wrapping_add(1) & self.places.len().saturating_sub(1)

@@ -68,7 +68,7 @@ impl StepLists {
         if key.slot == 0 {
             return Ok(None);
         }
-        let spot = self.recent.spot_of(key.place, key.slot);
+        let spot = self.recent.near_spot(key.slot, key.place);
         let guess = self.recent.get(spot);
         if let Some(at) = unit_at(self.units.as_slice(), guess, &key) {
             return Ok(Some(at));
@@ -110,7 +110,7 @@ impl StepLists {
         self.unit_places.insert(key, at)?;
         // Few share a spot where there are four times as many.
         self.recent.widen(at.saturating_mul(4))?;
-        let spot = self.recent.spot_of(key.place, key.slot);
+        let spot = self.recent.near_spot(key.slot, key.place);
         self.recent.put(spot, at);
         self.units.push(steps)?;
         Ok(at)
