@@ -1,5 +1,5 @@
 -- Outcomes of a state, and what one step of the walk does to the rows.
-use Rattle.std.specs.Prelude.{◌≡◌, ◌↔◌, IsTrue, IfSome, option_map, ◌⊎◌, ℕ, suc, ◌+◌, ◌≤◌, Bool, true, nat_lt, if◌then◌else◌, List, [], ◌∷◌, slice_get, Option, Some, None}
+use Rattle.std.specs.Prelude.{◌≡◌, ◌↔◌, IsTrue, IfSome, option_map, ◌⊎◌, ℕ, suc, ◌+◌, ◌≤◌, Bool, nat_lt, if◌then◌else◌, List, [], ◌∷◌, Option, Some, None}
 use Rattle.fare_law.specs.Lists.{HasMany, AllDifferent, Each, IsIn}
 use Rattle.graph_walk.specs.declared.outcome.Outcome.{Outcome}
 use Rattle.graph_walk.specs.declared.faults.WalkFault.{WalkFault}
@@ -18,12 +18,6 @@ outcomes_of state (o ∷ os) = outcome_of state o ∷ outcomes_of state os
 abbrev pub rows_of : {K X : Type 0} → (K → X) → List (K × Option ℕ) → List (X × Option ℕ)
 rows_of state [] = []
 rows_of state (row ∷ rows) = (state row.0, row.1) ∷ rows_of state rows
-
--- the row of a key stands at this place
-pub record IsRowAt {K : Type 0} (eq : K → K → Bool) (rows : List (K × Option ℕ)) (place : ℕ) (key : K) : Type 0 where
-  pub row : K × Option ℕ
-  pub stands : slice_get rows place ≡ Some row
-  pub same : eq key row.0 ≡ true
 
 -- each key of the rows, and of the outcomes, stands for a state
 abbrev pub AreLive : {K : Type 0} → (K → Type 0) → List (K × Option ℕ) → Type 0

@@ -5,20 +5,19 @@ ghost use Rattle.graph_walk.specs.Walks.{AreLeast, AreReached, Costs, IsShort, L
 ghost use Rattle.graph_walk.specs.Steps.{AllAbove, AreLive, ExceedsIf, Good, KeepsStates, TellsStates, Walked, rows_of};
 
 use crate::faults::WalkFault;
-use crate::rows::{bound_of, bound_or_row, lesser, put};
+use crate::rows::{bound_or_row, lesser, put};
 use crate::source::Steps;
-use indexmap::IndexMap;
+use crate::table::{Rows, Spread};
 use std::alloc::Global;
-use std::hash::Hash;
 
 /// All states that are reached from the root's, each once, with the least price of a run from it.
-pub fn walk<K: Hash + Eq + Copy, C, S: Steps<K, C>>(
+pub fn walk<K: Eq + Copy, C, S: Steps<K, C>, N: Spread<K>>(
     alloc: Global,
     context: &C,
     root: K,
     budget: u32,
     steps: &mut S,
-) -> Result<IndexMap<K, Option<u64>>, WalkFault>
+) -> Result<Rows<K, N>, WalkFault>
     requires fits { S.fits context.now steps.old }
     requires live { S.live steps.old root }
     requires tells { TellsStates (S.live steps.old) (S.state steps.old) K.eq }
@@ -33,19 +32,19 @@ pub fn walk<K: Hash + Eq + Copy, C, S: Steps<K, C>>(
     ensures later { S.later steps.old steps.new }
     ensures large { IfErr result (ExceedsIf (Reached (S.leads context.now) (S.state steps.old root)) budget) }
 {
-    let mut rows = IndexMap::new(alloc);
+    let mut rows = Rows::new(alloc)?;
     least_from(alloc, context, root, budget, steps, &mut rows)?;
     Ok(rows)
 }
 
 /// The least price of a run from the key's state; each state that is reached from it has a row then.
-fn least_from<K: Hash + Eq + Copy, C, S: Steps<K, C>>(
+fn least_from<K: Eq + Copy, C, S: Steps<K, C>, N: Spread<K>>(
     alloc: Global,
     context: &C,
     key: K,
     budget: u32,
     steps: &mut S,
-    rows: &mut IndexMap<K, Option<u64>>,
+    rows: &mut Rows<K, N>,
 ) -> Result<Option<u64>, WalkFault>
     requires fits { S.fits context.now steps.old }
     requires live { S.live steps.old key }
@@ -66,13 +65,13 @@ fn least_from<K: Hash + Eq + Copy, C, S: Steps<K, C>>(
     ensures large { IfErr result (ExceedsIf (λ x. IsIn x (states (rows_of (S.state steps.old) rows.old.entries)) ⊎ Reached (S.leads context.now) (S.state steps.old key) x) budget) }
 {
     if rows.len() >= budget as usize {
-        return match bound_of(rows, key) {
+        return match rows.get(&key) {
             Some(known) => Ok(known),
             None => Err(WalkFault::TooLarge),
         };
     }
     let place = rows.len();
-    if let Some(bound) = bound_or_row(rows, key)? {
+    if let Some(bound) = bound_or_row(alloc, rows, key)? {
         return Ok(bound);
     }
     let outcomes = steps.outcomes(alloc, context, key)?;
@@ -84,6 +83,6 @@ fn least_from<K: Hash + Eq + Copy, C, S: Steps<K, C>>(
         };
         least = lesser(least, rest, outcome.price);
     }
-    put(rows, place, key, least)?;
+    put(alloc, rows, place, key, least)?;
     Ok(least)
 }

@@ -1,10 +1,10 @@
 //! The graph of a search.
-ghost use Rattle.std.specs.Prelude.{◌≡◌, ◌≤◌, ◌<◌, ◌^◌, Some, length, option_map, slice_get, IfErr, IfOk, OnOk};
+ghost use Rattle.std.specs.Prelude.{◌≡◌, ◌≤◌, ◌<◌, ◌^◌, Some, length, option_map, position, slice_get, IfErr, IfOk, OnOk};
 ghost use Rattle.fare_component.specs.Keys.{Asked, asked};
 ghost use Rattle.fare_law.specs.declared.market.OfferKey.{OfferKey};
 ghost use Rattle.fare_law.specs.Limits.{IsRequest};
 ghost use Rattle.graph_walk.specs.Steps.{AreLive, rows_of};
-ghost use Rattle.indexmap.specs.IndexMap.{index_of};
+ghost use Rattle.std.specs.Map.{keys_of};
 ghost use Rattle.pricing_graph.specs.Graphs.{IsGraph, IsTooLarge};
 ghost use Rattle.residual_keys.specs.AskedKeys.{Keys};
 ghost use Rattle.residual_keys.specs.Searches.{ReachesMoreThan};
@@ -15,16 +15,15 @@ use crate::GraphFault;
 use crate::rows::reached_rows;
 use crate::settling::settle_nodes;
 use fare_component::OfferSource;
-use indexmap::IndexMap;
 use residual_keys::{Residual, one_size};
 use residual_table::ResidualKey;
-use search_steps::SearchSteps;
+use search_steps::{ResidualRows, SearchSteps};
 use std::alloc::Global;
 
 /// The residuals that a search reaches, in order, each with the least price of a run from it.
 #[derive(Drop)]
 pub struct Graph {
-    pub(crate) rows: IndexMap<ResidualKey, Option<u64>>,
+    pub(crate) rows: ResidualRows,
     ghost small: { length rows.entries < 2 ^ 32 },
 }
 
@@ -77,17 +76,14 @@ impl Graph {
         requires { node < length self.now.rows.entries }
         ensures { option_map (λ row. row.1) (slice_get self.now.rows.entries node) ≡ Some result }
     {
-        match self.rows.get_index(node as usize) {
-            Some((_, bound)) => *bound,
-            None => unreachable!(),
-        }
+        self.rows.entries()[node as usize].1
     }
 
     /// The node of a key. None where it isn't one of the graph.
     pub(crate) fn node(&self, key: ResidualKey) -> Option<u64>
-        ensures { result ≡ index_of ⟦<ResidualKey as PartialEq>⟧.eq self.now.rows key }
+        ensures { result ≡ position (⟦<ResidualKey as PartialEq>⟧.eq key) (keys_of self.now.rows.entries) }
     {
-        match self.rows.get_index_of(&key) {
+        match self.rows.find(&key) {
             Some(node) => Some(node as u64),
             None => None,
         }
@@ -98,9 +94,6 @@ impl Graph {
         requires { node < length self.now.rows.entries }
         ensures { option_map (λ row. row.0) (slice_get self.now.rows.entries node) ≡ Some result }
     {
-        match self.rows.get_index(node as usize) {
-            Some((key, _)) => *key,
-            None => unreachable!(),
-        }
+        self.rows.entries()[node as usize].0
     }
 }

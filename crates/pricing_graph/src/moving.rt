@@ -1,8 +1,8 @@
 //! The steps of moves.
-ghost use Rattle.std.specs.Prelude.{◌≡◌, ◌<◌, ◌^◌, map, IfOk};
+ghost use Rattle.std.specs.Prelude.{◌≡◌, ◌<◌, ◌^◌, map, position, IfOk};
 ghost use Rattle.fare_law.specs.Codes.{move_code};
 ghost use Rattle.fare_law.specs.Lists.{Each};
-ghost use Rattle.indexmap.specs.IndexMap.{index_of};
+ghost use Rattle.std.specs.Map.{keys_of};
 ghost use Rattle.pricing_graph.specs.Givers.{step_as};
 
 use crate::Graph;
@@ -20,7 +20,7 @@ pub fn steps_of(
     least: &[LeastMove<ResidualKey>],
 ) -> Result<List<Step>, Mem>
     requires { Each (λ m. m.total < 2 ^ 64) least.now }
-    ensures { IfOk result (λ steps. steps ≡ map (step_as (index_of ⟦<ResidualKey as PartialEq>⟧.eq graph.now.rows)) least.now) }
+    ensures { IfOk result (λ steps. steps ≡ map (step_as (λ k. position (⟦<ResidualKey as PartialEq>⟧.eq k) (keys_of graph.now.rows.entries))) least.now) }
 {
     let mut steps = List::new(alloc);
     for mv in least {
@@ -33,7 +33,7 @@ pub fn steps_of(
 /// The step of a move: its code is the word.
 fn step_of(alloc: Global, graph: &Graph, least: &LeastMove<ResidualKey>) -> Result<Step, Mem>
     requires { least.now.total < 2 ^ 64 }
-    ensures { IfOk result (λ step. step ≡ step_as (index_of ⟦<ResidualKey as PartialEq>⟧.eq graph.now.rows) least.now) }
+    ensures { IfOk result (λ step. step ≡ step_as (λ k. position (⟦<ResidualKey as PartialEq>⟧.eq k) (keys_of graph.now.rows.entries)) least.now) }
 {
     let next = match least.next {
         None => None,

@@ -10,11 +10,10 @@ ghost use Rattle.search_steps.specs.Keys.{live, state};
 use crate::GraphFault;
 use fare_component::OfferSource;
 use graph_walk::WalkFault;
-use indexmap::IndexMap;
 use residual_keys::root;
 use residual_table::ResidualKey;
 use rule_route::limits_are_met;
-use search_steps::{SearchSteps, least_prices_are_least, reached_states_are_reached};
+use search_steps::{ResidualRows, SearchSteps, least_prices_are_least, reached_states_are_reached};
 use std::alloc::Global;
 
 /// What a search reaches, each once, with the least prices.
@@ -22,7 +21,7 @@ pub fn reached_rows<O: OfferSource>(
     alloc: Global,
     budget: u32,
     steps: &mut SearchSteps<O>,
-) -> Result<IndexMap<ResidualKey, Option<u64>>, GraphFault>
+) -> Result<ResidualRows, GraphFault>
     requires { IsRequest steps.old.case.request.now }
     ensures rows { IfOk result (λ rows. AreRows steps.old.case.book.now steps.old.case.request.now (rows_of (state steps.new) rows.entries)) }
     ensures live { IfOk result (λ rows. AreLive (live steps.new) rows.entries) }

@@ -1,5 +1,5 @@
 -- Rows that were taken in the order of their ranks are the rows, in that order.
-use Rattle.std.proofs.Common.{◌≡◌, ◌∙◌, ℕ, zero, suc, ◌+◌, ◌<◌, Bool, false, if◌then◌else◌, List, [], ◌∷◌, ◌++◌, map, length, get_or, slice_get, Option, Some, None, IsPermutation, refl, sym, ap, subst, arith}
+use Rattle.std.proofs.Common.{◌≡◌, ◌∙◌, ℕ, zero, suc, ◌+◌, ◌<◌, false, List, [], ◌∷◌, map, length, get_or, slice_get, Option, Some, None, IsPermutation, refl, sym, ap, subst, arith}
 use Rattle.std.specs.declared.cmp.Ordering.{Ordering}
 use Rattle.std.specs.declared.cmp.Ordering.TheVariants.{Less, Equal, Greater}
 use Rattle.std.specs.List.{IsDistinct}
@@ -7,9 +7,8 @@ use Rattle.std.specs.Map.{keys_of}
 use Rattle.std.specs.Ordering.{is_lt, nat_cmp, ordering_then}
 use Rattle.std.proofs.lemmas.List.{get_or-map}
 use Rattle.std.proofs.lemmas.List.Sorted.{IsPermutation-map}
-use Rattle.std.proofs.lemmas.Map.Keys.{IsDistinct-head, IsDistinct-tail, IsDistinct-IsPermutation}
+use Rattle.std.proofs.lemmas.Map.Keys.{IsDistinct-IsPermutation}
 use Rattle.fare_law.specs.Lists.{Each}
-use Rattle.indexmap.specs.IndexMap.{insert_all, insert_entry}
 use Rattle.residual_keys.proofs.SortedWords.{NoneLower}
 use Rattle.residual_keys.specs.contracts.parts.TicketPartOrd.TheImpl as part
 use Rattle.residual_table.specs.contracts.key.ResidualKeyPartialEq.TheImpl as key
@@ -26,31 +25,6 @@ use Rattle.search_steps.proofs.RowsInOrder.{still_each}
 
 abbrev Row : Type 0
 Row = ResidualKey × Option ℕ
-
--- keys that differ are added one after another
-module _ (eq : ResidualKey → ResidualKey → Bool) (flips : (k l : ResidualKey) → eq k l ≡ eq l k) where
-  to_middle : (P : ResidualKey → Type 0) (es : List Row) (r : Row) (rs : List Row) → Each P (keys_of (es ++ r ∷ rs)) → P r.0
-  to_middle P [] r rs h = h.0
-  to_middle P (e ∷ es) r rs h = to_middle P es r rs h.1
-
-  one_new : (es : List Row) (r : Row) (rs : List Row) → IsDistinct eq (keys_of (es ++ r ∷ rs)) → insert_entry eq es r.0 r.1 ≡ es ++ r ∷ []
-  one_new [] r rs d = refl
-  one_new (e ∷ es) r rs d =
-      let other : eq r.0 e.0 ≡ false = flips r.0 e.0 ∙ to_middle (λ k. eq e.0 k ≡ false) es r rs (IsDistinct-head eq e.0 (keys_of (es ++ r ∷ rs)) d) in
-      ap (λ b. if b then (e.0, r.1) ∷ es else e ∷ insert_entry eq es r.0 r.1) other ∙ ap (λ zs. e ∷ zs) (one_new es r rs (IsDistinct-tail eq e.0 (keys_of (es ++ r ∷ rs)) d))
-
-  further : (es : List Row) (r : Row) (rs : List Row) → (es ++ r ∷ []) ++ rs ≡ es ++ r ∷ rs
-  further [] r rs = refl
-  further (e ∷ es) r rs = ap (λ zs. e ∷ zs) (further es r rs)
-
-  all_new : (es rs : List Row) → IsDistinct eq (keys_of (es ++ rs)) → insert_all eq es rs ≡ es ++ rs
-  all_new es [] d = sym (no_more es)
-    where
-      no_more : (es : List Row) → es ++ [] ≡ es
-      no_more [] = refl
-      no_more (e ∷ es) = ap (λ zs. e ∷ zs) (no_more es)
-  all_new es (r ∷ rs) d =
-      ap (λ zs. insert_all eq zs rs) (one_new es r rs d) ∙ all_new (es ++ r ∷ []) rs (subst (λ zs. IsDistinct eq (keys_of zs)) (sym (further es r rs)) d) ∙ further es r rs
 
 -- what a ranked row is sorted by
 abbrev sort_key : RankedRow → SortKey
@@ -143,16 +117,13 @@ module _ (ranks : RankLists) (rows : List Row) where
               length_map [] = refl
               length_map (x ∷ xs) = ap suc (length_map xs)
 
--- rows in another order are still distinct, and added one after another they are those rows
+-- rows in another order are still distinct
 module _ (rows turned : List Row) (moves : IsPermutation rows turned) (distinct : IsDistinct key.ghosts.eq (keys_of rows)) where
   flips : (k l : ResidualKey) → key.ghosts.eq k l ≡ key.ghosts.eq l k
   flips k l = laws-law.symm k l
 
   pub still_distinct : IsDistinct key.ghosts.eq (keys_of turned)
   still_distinct = IsDistinct-IsPermutation key.ghosts.eq flips (keys_of rows) (keys_of turned) (IsPermutation-map (λ r. r.0) rows turned moves) distinct
-
-  pub all_inserted : insert_all key.ghosts.eq [] turned ≡ turned
-  all_inserted = all_new key.ghosts.eq flips [] turned still_distinct
 
 -- what stands where no row does
 pub no_row : Row

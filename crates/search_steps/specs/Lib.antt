@@ -10,3 +10,4 @@ pub mod Numbers
 pub mod Placed
 pub mod Settling
 pub mod RowOrder
+pub mod Spreading

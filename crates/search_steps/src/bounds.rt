@@ -1,12 +1,12 @@
 //! Bounds of residuals by their keys.
 ghost use Rattle.std.specs.Prelude.{◌≡◌, ℕ, Option as Maybe, option_and_then};
-ghost use Rattle.indexmap.specs.IndexMap.{get};
+ghost use Rattle.std.specs.Map.{lookup};
 ghost use Rattle.residual_table.specs.declared.key.ResidualKey.{ResidualKey as AnyKey};
 ghost use Rattle.residual_table.specs.Found.{key_at};
 
+use crate::ResidualRows;
 use cheap_moves::ResidualBounds;
 use flight_paths::Position;
-use indexmap::IndexMap;
 use open_unit::OpenUnit;
 use residual_keys::Residual;
 use residual_table::{ResidualKey, ResidualParts};
@@ -22,11 +22,11 @@ pub trait Bounds {
 }
 
 /// Rows of residuals, each with a bound or with none.
-impl Bounds for IndexMap<ResidualKey, Option<u64>> {
-    ghost bound = { λ rows key. option_and_then (λ bound. bound) (get ⟦<ResidualKey as PartialEq>⟧.eq rows key) };
+impl Bounds for ResidualRows {
+    ghost bound = { λ rows key. option_and_then (λ bound. bound) (lookup (⟦<ResidualKey as PartialEq>⟧.eq key) rows.entries) };
 
     fn bound_of(&self, key: ResidualKey) -> Option<u64> {
-        self.get(&key).copied().flatten()
+        self.get(&key).flatten()
     }
 }
 

@@ -8,7 +8,7 @@ ghost use Rattle.fare_law.specs.Codes.{move_code};
 ghost use Rattle.fare_law.specs.Lists.{EachPair, Less};
 ghost use Rattle.graph_walk.specs.Steps.{AreLive, AreOutcomes, ExceedsIf, LeadToLive, TellsStates, outcomes_of, rows_of};
 ghost use Rattle.graph_walk.specs.Walks.{AreLeast, AreReached, IsShort, Reached, states};
-ghost use Rattle.indexmap.specs.IndexMap.{get};
+ghost use Rattle.std.specs.Map.{lookup};
 ghost use Rattle.residual_keys.specs.AskedKeys.{KeyOf};
 ghost use Rattle.residual_keys.specs.Kept.{IsResidual};
 ghost use Rattle.residual_keys.specs.ResidualOrder.{StateBefore};
@@ -28,11 +28,10 @@ use crate::numbered::StepLists;
 use crate::row_order::put_rows_in_order;
 use crate::tables::Tables;
 use crate::taking::take_keys;
-use crate::{Bounds, Case, LeastMove};
+use crate::{Bounds, Case, LeastMove, ResidualRows};
 use fare_component::OfferSource;
 use fare_law::{List, Mem};
 use graph_walk::{Outcome, WalkFault, walk};
-use indexmap::IndexMap;
 use residual_keys::{Chosen, Residual};
 use residual_table::{ResidualKey, keys_found};
 use std::alloc::Global;
@@ -141,7 +140,7 @@ impl<'a> NumberedCase<'a> {
         alloc: Global,
         root: ResidualKey,
         budget: u32,
-    ) -> Result<IndexMap<ResidualKey, Option<u64>>, WalkFault>
+    ) -> Result<ResidualRows, WalkFault>
         requires request { IsRequest self.old.request.now }
         requires live { IsLive self.old.numbers root }
         requires short { IsShort (leads_of self.old.book.now self.old.request.now) level_of (residual_at self.old.numbers root) }
@@ -160,15 +159,11 @@ impl<'a> NumberedCase<'a> {
     }
 
     /// Puts rows into the order of their residuals.
-    pub fn put_in_order(
-        &self,
-        alloc: Global,
-        rows: &mut IndexMap<ResidualKey, Option<u64>>,
-    ) -> Result<(), Mem>
+    pub fn put_in_order(&self, alloc: Global, rows: &mut ResidualRows) -> Result<(), Mem>
         requires { AreLive (IsLive self.now.numbers) rows.old.entries }
         ensures order { OnOk result (EachPair (λ r s. StateBefore (residual_at self.now.numbers r.0) (residual_at self.now.numbers s.0)) rows.new.entries) }
         ensures same { OnOk result (IsPermutation rows.old.entries rows.new.entries) }
-        ensures found { OnOk result ((key : AnyKey) → get ⟦<ResidualKey as PartialEq>⟧.eq rows.new key ≡ get ⟦<ResidualKey as PartialEq>⟧.eq rows.old key) }
+        ensures found { OnOk result ((key : AnyKey) → lookup (⟦<ResidualKey as PartialEq>⟧.eq key) rows.new.entries ≡ lookup (⟦<ResidualKey as PartialEq>⟧.eq key) rows.old.entries) }
     {
         put_rows_in_order(alloc, &self.lists.numbers, rows)
     }

@@ -6,7 +6,7 @@ ghost use Rattle.fare_law.specs.Limits.{IsRequest};
 ghost use Rattle.fare_law.specs.Lists.{EachPair};
 ghost use Rattle.graph_walk.specs.Steps.{AreLive, AreOutcomes, ExceedsIf, KeepsStates, LeadToLive, TellsStates, outcomes_of, rows_of};
 ghost use Rattle.graph_walk.specs.Walks.{AreLeast, AreReached, IsShort, Reached, states};
-ghost use Rattle.indexmap.specs.IndexMap.{get};
+ghost use Rattle.std.specs.Map.{lookup};
 ghost use Rattle.residual_keys.specs.ResidualOrder.{StateBefore};
 ghost use Rattle.residual_table.specs.declared.key.ResidualKey.{ResidualKey as AnyKey};
 ghost use Rattle.search_steps.specs.Cases.{IsSameCase};
@@ -15,12 +15,11 @@ ghost use Rattle.search_steps.specs.Leads.{leads_of, level_of};
 ghost use Rattle.search_steps.specs.LeastMoves.{AreLeastMoves, BoundBy, LeaveLive, least_as};
 
 use crate::numbered_case::NumberedCase;
-use crate::{Bounds, Case, LeastMove};
+use crate::{Bounds, Case, LeastMove, ResidualRows};
 use fare_book::Book;
 use fare_component::OfferSource;
 use fare_law::{List, Mem, Request};
 use graph_walk::{Outcome, WalkFault};
-use indexmap::IndexMap;
 use residual_keys::{Residual, moves};
 use residual_table::ResidualKey;
 use std::alloc::Global;
@@ -132,7 +131,7 @@ impl<'a, O: OfferSource> SearchSteps<'a, O> {
         alloc: Global,
         root: ResidualKey,
         budget: u32,
-    ) -> Result<IndexMap<ResidualKey, Option<u64>>, WalkFault>
+    ) -> Result<ResidualRows, WalkFault>
         requires request { IsRequest self.old.case.request.now }
         requires live { live self.old root }
         requires short { IsShort (leads_of self.old.case.book.now self.old.case.request.now) level_of (state self.old root) }
@@ -150,15 +149,11 @@ impl<'a, O: OfferSource> SearchSteps<'a, O> {
     }
 
     /// Puts rows into the order of their residuals.
-    pub fn put_in_order(
-        &self,
-        alloc: Global,
-        rows: &mut IndexMap<ResidualKey, Option<u64>>,
-    ) -> Result<(), Mem>
+    pub fn put_in_order(&self, alloc: Global, rows: &mut ResidualRows) -> Result<(), Mem>
         requires { AreLive (live self.now) rows.old.entries }
         ensures order { OnOk result (EachPair (λ r s. StateBefore (state self.now r.0) (state self.now s.0)) rows.new.entries) }
         ensures same { OnOk result (IsPermutation rows.old.entries rows.new.entries) }
-        ensures found { OnOk result ((key : AnyKey) → get ⟦<ResidualKey as PartialEq>⟧.eq rows.new key ≡ get ⟦<ResidualKey as PartialEq>⟧.eq rows.old key) }
+        ensures found { OnOk result ((key : AnyKey) → lookup (⟦<ResidualKey as PartialEq>⟧.eq key) rows.new.entries ≡ lookup (⟦<ResidualKey as PartialEq>⟧.eq key) rows.old.entries) }
     {
         self.case.put_in_order(alloc, rows)
     }

@@ -161,7 +161,7 @@ least_from-requires g t c κs within =
     let short = short_after L g.S.Steps.level x y o.price l c.requires.short in
     let few = short.few y here in
     let high = above L g.S.Steps.level (known s0) (known s) x y r0 r done least up c.requires.above going in
-    (omega (arith, c.decreases, up, few), (within.0, (within.1.0, (within.1.1, (g.met.S.Steps.fitting c.args.context.now s0 s invariant.so_far c.requires.fits, (kept.0, (invariant.alive, (invariant.tells, (short, (going.once, (high, invariant.few)))))))))))
+    (omega (arith, c.decreases, up, few), (within.0, (within.1.0, (within.1.1.0, (within.1.1.1, (g.met.S.Steps.fitting c.args.context.now s0 s invariant.so_far c.requires.fits, (kept.0, (invariant.alive, (invariant.tells, (short, (going.once, (high, invariant.few))))))))))))
 
 pub returns-in_err-rest-in-Some-next-clause-large : goal.returns-in_err-rest-in-Some-next-clause-large
 returns-in_err-rest-in-Some-next-clause-large g t c =

@@ -1,18 +1,18 @@
-use Rattle.std.proofs.Common.{◌∙◌, IsPermutation, [], ap, subst, sym}
+use Rattle.std.proofs.Common.{IsPermutation, subst, sym}
 use Rattle.fare_law.specs.Lists.{EachPair}
-use Rattle.indexmap.specs.IndexMap.{insert_all}
-use Rattle.indexmap.proofs.MapLemmas.{reordered}
 use Rattle.residual_keys.specs.ResidualOrder.{StateBefore}
 use Rattle.residual_table.specs.contracts.key.ResidualKeyPartialEq.TheImpl as key
-use Rattle.residual_table.specs.contracts.key.ResidualKeyEq.TheImpl.Laws.{laws-law}
 use Rattle.residual_table.specs.contracts.key.SortKeyOrd.TheImpl as order
 use Rattle.residual_table.specs.Keys.{IsLive, residual_at}
 use Rattle.residual_table.specs.Ranks.{rank_of}
-use Rattle.search_steps.proofs.RankedRows.{all_inserted, still_distinct}
+use Rattle.search_steps.proofs.RankedRows.{still_distinct}
 use Rattle.search_steps.proofs.RowsByNumber.{tells_states}
 use Rattle.search_steps.proofs.RowsInOrder.{rows_ordered, still_each}
 use Rattle.search_steps.proofs.SortedKeys.{order_told}
 use Rattle.search_steps.proofs.row_order.put_rows_in_order.Goals as goal
+
+pub reorder-requires : goal.reorder-requires
+reorder-requires c = subst (λ rs. IsPermutation rs c.in_ok-sorted.sorted.items) c.entries.ensures.entries c.in_ok-sorted.ensures.same
 
 pub returns-clause-order : goal.returns-clause-order
 returns-clause-order c =
@@ -21,16 +21,11 @@ returns-clause-order c =
     let old = c.args.rows.now.entries in
     let turned = c.in_ok-sorted.sorted.items in
     let found = c.in_ok-sorted.ensures in
-    let is = c.in_ok-refill.ensures ∙ (ap (insert_all key.ghosts.eq []) c.as_slice.ensures.value ∙ all_inserted old turned found.same found.unique) in
-    subst (EachPair (λ r s. StateBefore (residual_at t r.0) (residual_at t s.0))) (sym is)
+    let same : IsPermutation old turned = subst (λ rs. IsPermutation rs turned) c.entries.ensures.entries found.same in
+    subst (EachPair (λ r s. StateBefore (residual_at t r.0) (residual_at t s.0))) (sym c.reorder.ensures.entries)
     (rows_ordered (IsLive t) (residual_at t) StateBefore (λ k l. order.ghosts.cmp (rank_of ranks k) (rank_of ranks l)) key.ghosts.eq
-    (order_told t ranks order.ghosts.cmp (λ k l x y h i. c.ranks_order.ensures t ranks k l x y c.in_ok-ranks.ensures h i)) (tells_states t key.ghosts.eq c.keys_tell.ensures) c.residual_order.ensures.order.total turned found.sorted (still_distinct old turned found.same found.unique)
-    (still_each (λ r. IsLive t r.0) old turned found.same c.requires))
+    (order_told t ranks order.ghosts.cmp (λ k l x y h i. c.ranks_order.ensures t ranks k l x y c.in_ok-ranks.ensures h i)) (tells_states t key.ghosts.eq c.keys_tell.ensures) c.residual_order.ensures.order.total turned found.sorted (still_distinct old turned same c.entries.ensures.differ)
+    (still_each (λ r. IsLive t r.0) old turned same c.requires))
 
 pub returns-clause-same : goal.returns-clause-same
-returns-clause-same c =
-    let old = c.args.rows.now.entries in
-    let turned = c.in_ok-sorted.sorted.items in
-    let found = c.in_ok-sorted.ensures in
-    let is = c.in_ok-refill.ensures ∙ (ap (insert_all key.ghosts.eq []) c.as_slice.ensures.value ∙ all_inserted old turned found.same found.unique) in
-    (reordered laws-law c.args.rows.now c.refill.new.rows found.unique (subst (IsPermutation old) (sym is) found.same)).0
+returns-clause-same c = subst (IsPermutation c.args.rows.now.entries) (sym c.reorder.ensures.entries) (subst (λ rs. IsPermutation rs c.in_ok-sorted.sorted.items) c.entries.ensures.entries c.in_ok-sorted.ensures.same)

@@ -1,9 +1,8 @@
-use Rattle.std.proofs.Common.{◌≡◌, ◌∙◌, ◌<◌, ◌^◌, map, option_and_then, refl, sym, ap, subst, arith}
-use Rattle.std.specs.Map.{lookup}
+use Rattle.std.proofs.Common.{◌≡◌, ◌∙◌, ◌<◌, ◌^◌, map, option_and_then, position, refl, sym, ap, subst, arith}
+use Rattle.std.specs.Map.{keys_of, lookup}
 use Rattle.std.proofs.lemmas.Result.{IfOk-weaker}
 use Rattle.best_steps.specs.Runs.{Sooner}
 use Rattle.fare_law.specs.Lists.{Each, KLeast}
-use Rattle.indexmap.specs.IndexMap.{index_of}
 use Rattle.residual_keys.specs.Written.{InLimits}
 use Rattle.residual_table.specs.contracts.key.ResidualKeyPartialEq.TheImpl as key
 use Rattle.residual_table.specs.declared.key.ResidualKey.{ResidualKey}
@@ -55,7 +54,7 @@ returns-clause-least g c =
     let nodes = nodes_of c.args.self.now in
     let limits : InLimits b = subst InLimits c.case.ensures.book c.book_limits.ensures in
     let different = c.node_steps_hold.ensures.once b q limits c.requires.ready.request nodes c.requires.ready.graph in
-    let node = λ (k : ResidualKey). index_of key.ghosts.eq c.args.self.now.graph.now.rows k in
+    let node = λ (k : ResidualKey). position (key.ghosts.eq k) (keys_of c.args.self.now.graph.now.rows.entries) in
     let least =
     least_steps b q (live old) (state old) key.ghosts.eq es c.requires.ready.alive c.keys_tell.ensures different c.args.node (state old c.key-key.result) (state_at (state old) es c.args.node c.key-key.result c.key-key.ensures) (live new) (state new)
     c.in_ok-least.ensures.keeps c.keys_tell-2.ensures c.args.wanted c.in_ok-least.least c.in_ok-least.ensures.live c.in_ok-least.ensures.least in
