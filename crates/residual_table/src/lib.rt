@@ -7,6 +7,7 @@ mod adding;
 mod finding;
 mod key;
 mod laws;
+mod likely;
 mod numbering;
 mod parts;
 mod ranking;

@@ -1,7 +1,8 @@
 //! What residuals consist of, by numbers.
-ghost use Rattle.std.specs.Prelude.{◌≡◌};
+ghost use Rattle.std.specs.Prelude.{◌≡◌, IfOk};
 ghost use Rattle.residual_table.specs.Keys.{AreTables, no_tables};
 
+use fare_law::Mem;
 use flight_paths::Position;
 use indexmap::IndexSet;
 use open_unit::OpenUnit;
@@ -34,6 +35,16 @@ impl ResidualParts {
             positions: IndexSet::new(alloc),
             units: IndexSet::new(alloc),
         }
+    }
+
+    /// The same parts by the same numbers.
+    pub fn copied(&self) -> Result<ResidualParts, Mem>
+        ensures { IfOk result (λ parts. parts ≡ self.now) }
+    {
+        Ok(ResidualParts {
+            positions: self.positions.clone()?,
+            units: self.units.clone()?,
+        })
     }
 
     /// What the type keeps of all tables.
