@@ -90,7 +90,7 @@ impl Graph {
     }
 
     /// The key of a node.
-    pub(crate) fn key(&self, node: u32) -> ResidualKey
+    pub fn key(&self, node: u32) -> ResidualKey
         requires { node < length self.now.rows.entries }
         ensures { option_map (λ row. row.0) (slice_get self.now.rows.entries node) ≡ Some result }
     {

@@ -78,6 +78,22 @@ impl StepLists {
         }
     }
 
+    /// None yet, over numbers that there are.
+    pub fn over(alloc: Global, numbers: ResidualParts) -> StepLists
+        ensures numbers { result.numbers ≡ numbers }
+        ensures positions { result.positions.items ≡ [] }
+        ensures units { result.units.items ≡ [] }
+    {
+        StepLists {
+            numbers,
+            positions: Vec::new(alloc),
+            places: Guesses::new(alloc),
+            units: Vec::new(alloc),
+            unit_places: IndexMap::new(alloc),
+            recent: Guesses::new(alloc),
+        }
+    }
+
     /// Lets go the lists. The numbers stay.
     pub fn let_go(&mut self, alloc: Global)
         ensures numbers { self.new.numbers ≡ self.old.numbers }

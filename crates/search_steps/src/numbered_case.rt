@@ -33,7 +33,7 @@ use fare_component::OfferSource;
 use fare_law::{List, Mem};
 use graph_walk::{Outcome, WalkFault, walk};
 use residual_keys::{Chosen, Residual};
-use residual_table::{ResidualKey, keys_found};
+use residual_table::{ResidualKey, ResidualParts, keys_found};
 use std::alloc::Global;
 use std::marker::Model;
 use ticket_order::order_laws;
@@ -69,6 +69,26 @@ impl<'a> NumberedCase<'a> {
             tables: Tables::new(alloc),
             lists: StepLists::new(alloc),
         }
+    }
+
+    /// The case without a table, over numbers that there are.
+    pub fn over(alloc: Global, case: Case<'a>, numbers: ResidualParts) -> NumberedCase<'a>
+        ensures book { result.book ≡ case.entry.book }
+        ensures request { result.request ≡ case.entry.request }
+        ensures numbers { result.numbers ≡ numbers }
+    {
+        NumberedCase {
+            case,
+            tables: Tables::new(alloc),
+            lists: StepLists::over(alloc, numbers),
+        }
+    }
+
+    /// The numbers that were given so far.
+    pub fn numbers(&self) -> &ResidualParts
+        ensures { result.now ≡ self.now.numbers }
+    {
+        &self.lists.numbers
     }
 
     /// Lets go the tables and the lists, which take most of the room. They are found anew where they are asked for again.

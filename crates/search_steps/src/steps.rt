@@ -21,7 +21,7 @@ use fare_component::OfferSource;
 use fare_law::{List, Mem, Request};
 use graph_walk::{Outcome, WalkFault};
 use residual_keys::{Residual, moves};
-use residual_table::ResidualKey;
+use residual_table::{ResidualKey, ResidualParts};
 use std::alloc::Global;
 
 /// The steps of one search: its book and request, and where it has its offers from. It names residuals
@@ -49,6 +49,33 @@ impl<'a, O: OfferSource> SearchSteps<'a, O> {
             case: NumberedCase::new(alloc, Case { book, request }),
             offers,
         }
+    }
+
+    /// The same, where residuals have numbers already.
+    pub fn over(
+        alloc: Global,
+        book: &'a Book,
+        request: &'a Request,
+        offers: &'a mut O,
+        numbers: ResidualParts,
+    ) -> SearchSteps<'a, O>
+        ensures same_offers { result.offers.ghost_name ≡ offers.entry.ghost_name }
+        ensures book { result.case.book.now ≡ book.now }
+        ensures request { result.case.request.now ≡ request.now }
+        ensures numbers { result.case.numbers ≡ numbers }
+        ensures offers { result.offers.now ≡ offers.old }
+    {
+        SearchSteps {
+            case: NumberedCase::over(alloc, Case { book, request }, numbers),
+            offers,
+        }
+    }
+
+    /// The numbers that keys are made of.
+    pub fn numbers(&self) -> &ResidualParts
+        ensures { result.now ≡ self.now.case.numbers }
+    {
+        self.case.numbers()
     }
 
     /// The source of offers, when the steps are done.
