@@ -13,3 +13,4 @@ pub mod OneWayChecks
 pub mod ByRuns
 pub mod OneWayFailures
 pub mod OneWayOf
+pub mod StandingRows

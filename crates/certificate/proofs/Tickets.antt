@@ -1,5 +1,5 @@
 -- The answers' tickets: their prices and codes are the answers', and so is their order.
-use Rattle.std.proofs.Common.{◌≡◌, ℕ, sym, ap, subst, inl, [], ◌∙◌}
+use Rattle.std.proofs.Common.{◌≡◌, ℕ, sym, ap, subst, inl}
 use Rattle.certificate.specs.declared.parts.CertAnswer.{CertAnswer}
 use Rattle.certificate.specs.AnswerCheck.{AnswerIs, AnswerBelow}
 use Rattle.certificate.proofs.Below.{never_cheaper}

@@ -7,3 +7,4 @@ pub mod RequestCheck
 pub mod Checks
 pub mod CertOf
 pub mod OneWay
+pub mod NumberedRows

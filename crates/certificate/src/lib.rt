@@ -4,9 +4,13 @@
 #![tactic(auto)]
 
 mod laws;
+mod numbered;
 mod parts;
+mod rows;
 mod worked;
 
 pub use laws::{one_failure, search_meets_checks, yes_is_best};
+pub use numbered::NumberedRow;
 pub use parts::{CertAnswer, CertRow, Certificate};
+pub use rows::{CertRows, RowNumbers};
 pub use worked::{one_way_fails, one_way_meets, one_way_of};

@@ -1,4 +1,5 @@
 //! The parts of a certificate.
+use crate::CertRows;
 use fare_law::{ArrayVec, List, Move, Request};
 use residual_keys::Residual;
 
@@ -26,5 +27,5 @@ pub struct Certificate {
     /// Ascending by price and code.
     pub answers: List<CertAnswer>,
     /// Ascending by residual.
-    pub rows: List<CertRow>,
+    pub rows: CertRows,
 }

@@ -12,7 +12,7 @@ each_push P (y ∷ ys) x h p = (h.0, each_push P ys x h.1 p)
 pub each_next : {X : Type 0} (P : X → Type 0) (xs : List X) (i : ℕ) (x : X) → i < length xs → x ≡ get_or xs i x → Each P (take i xs) → P x → Each P (take (i + 1) xs)
 each_next P xs i x lt is h p = subst (Each P) (sym (take_next xs i x lt is)) (each_push P (take i xs) x h p)
 
-got_again : {X : Type 0} (xs : List X) (i : ℕ) (d : X) → i < length xs → get_or xs i d ≡ get_or xs i (get_or xs i d)
+pub got_again : {X : Type 0} (xs : List X) (i : ℕ) (d : X) → i < length xs → get_or xs i d ≡ get_or xs i (get_or xs i d)
 got_again [] i d lt = absurd (omega (arith, lt))
 got_again (x ∷ xs) zero d lt = refl
 got_again (x ∷ xs) (suc i) d lt = got_again xs i d (omega (arith, lt))

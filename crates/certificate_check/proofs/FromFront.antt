@@ -25,7 +25,7 @@ split_last (w ∷ xs) (z ∷ zs) after x y e =
 pub all_none : {X : Type 0} (Right : List X → X → Type 0) → AllRight Right []
 all_none Right before x after e = absurd (no_middle before x after e)
 
-all_push : {X : Type 0} (Right : List X → X → Type 0) (xs : List X) (x : X) → AllRight Right xs → Right xs x → AllRight Right (xs ++ x ∷ [])
+pub all_push : {X : Type 0} (Right : List X → X → Type 0) (xs : List X) (x : X) → AllRight Right xs → Right xs x → AllRight Right (xs ++ x ∷ [])
 all_push Right xs x all r before y after e = elim (split_last xs before after x y e) [
   | inl s ↦ subst (λ z. Right z y) s.0 (subst (Right xs) s.1 r)
   | inr s ↦ all before y s.0 s.1

@@ -15,6 +15,6 @@ pub mod RootAt
 pub mod Onwards
 pub mod Begins
 pub mod AllowedRows
-pub mod NextRow
 pub mod Looked
 pub mod Judged
+pub mod ByNumbers

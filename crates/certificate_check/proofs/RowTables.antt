@@ -1,5 +1,5 @@
 -- The rows of a certificate by keys: what is found by a key is the row of the residual that it stands for.
-use Rattle.std.proofs.Common.{◌≡◌, ◌≢◌, ◌∙◌, ℕ, zero, suc, ◌<◌, Bool, true, false, cond, List, [], ◌∷◌, ◌++◌, length, map, get_or, Option, Some, None, sym, refl, ap, ap₂, subst, inl, inr, arith}
+use Rattle.std.proofs.Common.{◌≡◌, ◌≢◌, ◌∙◌, ℕ, zero, suc, ◌<◌, Bool, true, false, cond, List, [], ◌∷◌, length, map, get_or, Option, Some, None, sym, refl, ap, subst, inl, inr, arith}
 use Rattle.std.specs.List.{AllByRecursion, IsDistinct}
 use Rattle.std.specs.Map.{keys_of, lookup}
 use Rattle.certificate.specs.declared.parts.CertRow.{CertRow}
@@ -57,20 +57,6 @@ module _ (live : ResidualKey → Type 0) (state : ResidualKey → State) (same :
       by false t f (inr j) more = more f j
 
 module _ (live : ResidualKey → Type 0) (state : ResidualKey → State) where
-  -- one more row
-  pub live_push : (es : List Entry) (e : Entry) → AreLive live es → live e.0 → AreLive live (es ++ e ∷ [])
-  live_push [] e h l = (l, tt)
-  live_push (d ∷ es) e h l = (h.0, live_push es e h.1 l)
-
-  pub rows_push : (es : List Entry) (e : Entry) (rows : List CertRow) (row : CertRow) → rows_of state es ≡ map row_as rows → (state e.0, e.1) ≡ row_as row → rows_of state (es ++ e ∷ []) ≡ map row_as (rows ++ row ∷ [])
-  rows_push [] e [] row r s = ap (λ z. z ∷ []) s
-  rows_push [] e (z ∷ rows) row r s = absurd (cc)
-  rows_push (d ∷ es) e [] row r s = absurd (cc)
-  rows_push (d ∷ es) e (z ∷ rows) row r s =
-      let head : (state d.0, d.1) ≡ row_as z = cc in
-      let tail : rows_of state es ≡ map row_as rows = cc in
-      ap₂ (λ x xs. x ∷ xs) head (rows_push es e rows row tail s)
-
   -- the entry at a row's place has a key that stands for the row's residual
   pub entry_at : (es : List Entry) (rows : List CertRow) (i : ℕ) (e : Entry) (d : CertRow) → AreLive live es → rows_of state es ≡ map row_as rows → i < length rows → live (get_or es i e).0 × (state (get_or es i e).0 ≡ (get_or rows i d).residual)
   entry_at [] [] i e d h r lt = absurd (omega (arith, lt))

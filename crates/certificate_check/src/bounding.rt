@@ -26,14 +26,13 @@ pub fn bounds_fail(
     requires request { IsRequest steps.old.case.request.now }
     requires differ { AllDifferent (map (λ row. row.residual) table.now.rows.now) }
     requires few { length table.now.rows.now < 2 ^ 32 }
-    requires table { HasRows steps.old table.now.bounds.entries.items table.now.rows.now }
+    requires table { HasRows steps.old table.now.bounds table.now.rows.now }
     ensures fails { IfOk result (λ place. MatchOption place (BoundsHold steps.old.case.book.now steps.old.case.request.now table.now.rows.now)
         (BoundsFail steps.old.case.book.now steps.old.case.request.now table.now.rows.now)) }
     ensures later { IsLater steps.old steps.new }
 {
-    let entries = table.bounds.entries.as_slice();
     for i in 0..table.rows.len() {
-        if !is_right(alloc, steps, table, &table.rows[i], entries[i].0)? {
+        if !is_right(alloc, steps, table, &table.rows.row(i), table.bounds.key(i))? {
             return Ok(Some(i as u32 + 1));
         }
     }
@@ -50,7 +49,7 @@ fn is_right(
 ) -> Result<bool, Mem>
     requires request { IsRequest steps.old.case.request.now }
     requires differ { AllDifferent (map (λ row. row.residual) table.now.rows.now) }
-    requires table { HasRows steps.old table.now.bounds.entries.items table.now.rows.now }
+    requires table { HasRows steps.old table.now.bounds table.now.rows.now }
     requires live { live steps.old key }
     requires state { state steps.old key ≡ row.now.residual }
     ensures right { IfOk result (λ right. IsTrue right ↔ IsAllowed steps.old.case.book.now steps.old.case.request.now table.now.rows.now row.now) }
@@ -68,7 +67,7 @@ fn all_allow(
     outcomes: &[Outcome<ResidualKey>],
 ) -> bool
     requires differ { AllDifferent (map (λ row. row.residual) table.now.rows.now) }
-    requires table { HasRows steps.now table.now.bounds.entries.items table.now.rows.now }
+    requires table { HasRows steps.now table.now.bounds table.now.rows.now }
     requires live { LeadToLive (live steps.now) outcomes.now }
     ensures { IsTrue result ↔ Each (λ o. Allows table.now.rows.now row.now o.next o.price) (outcomes_of (state steps.now) outcomes.now) }
 {
@@ -88,7 +87,7 @@ fn allows(
     outcome: &Outcome<ResidualKey>,
 ) -> bool
     requires differ { AllDifferent (map (λ row. row.residual) table.now.rows.now) }
-    requires table { HasRows steps.now table.now.bounds.entries.items table.now.rows.now }
+    requires table { HasRows steps.now table.now.bounds table.now.rows.now }
     requires live { IfSome outcome.now.next (live steps.now) }
     ensures { IsTrue result ↔ Allows table.now.rows.now row.now (option_map (state steps.now) outcome.now.next) outcome.now.price }
 {

@@ -1,6 +1,7 @@
 //! The check of a certificate.
 ghost use Rattle.std.specs.Prelude.{◌≡◌, ◌<◌, ◌^◌, IfOk, length};
 ghost use Rattle.certificate.specs.RowCheck.{RowsHold};
+ghost use Rattle.certificate_check.specs.Tables.{HasRows, entries_of};
 ghost use Rattle.certificate_check.specs.Verdicts.{IsVerdict};
 ghost use Rattle.fare_law.specs.Limits.{IsRequest};
 
@@ -11,7 +12,7 @@ use crate::departing::departures_fail;
 use crate::requesting::request_fails;
 use crate::rows::rows_fail;
 use crate::table::table_of;
-use certificate::Certificate;
+use certificate::{Certificate, NumberedRow, RowNumbers};
 use fare_book::Book;
 use fare_component::Plain;
 use fare_law::{Mem, Request};
@@ -33,34 +34,35 @@ pub fn check(
     requires rows { length certificate.now.rows < 2 ^ 32 }
     ensures { IfOk result (IsVerdict certificate.now book.now request.now) }
 {
-    let rows = certificate.rows.as_slice();
-    if let Some(place) = rows_fail(book, request, rows) {
+    if let Some(place) = rows_fail(alloc, book, request, &certificate.rows)? {
         return Ok(Verdict::No { rule: 1, place });
     }
     let mut offers = Plain;
-    let mut steps = SearchSteps::new(alloc, book, request, &mut offers);
-    check_by(alloc, book, request, certificate, &mut steps)
+    let RowNumbers { parts, rows } = certificate.rows.by_number();
+    let mut steps = SearchSteps::over(alloc, book, request, &mut offers, parts.copied()?);
+    check_by(alloc, book, request, certificate, rows, &mut steps)
 }
 
-/// The verdict by the checks after that of the rows.
+/// The verdict by the checks after that of the rows, of which the steps have the numbers.
 fn check_by(
     alloc: Global,
     book: &Book,
     request: &Request,
     certificate: &Certificate,
+    numbered: &[NumberedRow],
     steps: &mut SearchSteps<Plain>,
 ) -> Result<Verdict, Mem>
     requires request { IsRequest request.now }
     requires rows { length certificate.now.rows < 2 ^ 32 }
     requires hold { RowsHold book.now request.now certificate.now.rows }
+    requires has { HasRows steps.old (entries_of numbered.now) certificate.now.rows }
     requires of_book { steps.old.case.book.now ≡ book.now }
     requires of_request { steps.old.case.request.now ≡ request.now }
     ensures { IfOk result (IsVerdict certificate.now book.now request.now) }
 {
     residual_order();
-    let rows = certificate.rows.as_slice();
     let answers = certificate.answers.as_slice();
-    let table = table_of(alloc, steps, rows)?;
+    let table = table_of(alloc, steps, &certificate.rows, numbered)?;
     if let Some(place) = bounds_fail(alloc, steps, &table)? {
         return Ok(Verdict::No { rule: 2, place });
     }

@@ -27,7 +27,7 @@ pub fn departures_fail(
 ) -> Result<Option<u32>, Mem>
     requires request { IsRequest steps.old.case.request.now }
     requires differ { AllDifferent (map (λ row. row.residual) table.now.rows.now) }
-    requires table { HasRows steps.old table.now.bounds.entries.items table.now.rows.now }
+    requires table { HasRows steps.old table.now.bounds table.now.rows.now }
     requires few { length answers.now < 2 ^ 32 }
     ensures fails { IfOk result (λ place. MatchOption place (DeparturesHold steps.old.case.book.now steps.old.case.request.now table.now.rows.now answers.now)
         (DeparturesFail steps.old.case.book.now steps.old.case.request.now table.now.rows.now answers.now)) }
@@ -61,7 +61,7 @@ fn answer_holds(
 ) -> Result<bool, Mem>
     requires request { IsRequest steps.old.case.request.now }
     requires differ { AllDifferent (map (λ row. row.residual) table.now.rows.now) }
-    requires table { HasRows steps.old table.now.bounds.entries.items table.now.rows.now }
+    requires table { HasRows steps.old table.now.bounds table.now.rows.now }
     requires there { i < length answers.now }
     requires before { Each (AnswerHolds steps.old.case.book.now steps.old.case.request.now table.now.rows.now answers.now) (take i answers.now) }
     ensures holds { IfOk result (λ holds. (a : AnyAnswer) → slice_get answers.now i ≡ Some a
@@ -106,7 +106,7 @@ fn later_holds(
 ) -> Result<bool, Mem>
     requires request { IsRequest steps.old.case.request.now }
     requires differ { AllDifferent (map (λ row. row.residual) table.now.rows.now) }
-    requires table { HasRows steps.old table.now.bounds.entries.items table.now.rows.now }
+    requires table { HasRows steps.old table.now.bounds table.now.rows.now }
     requires there { i < length answers.now }
     requires before { Each (AnswerHolds steps.old.case.book.now steps.old.case.request.now table.now.rows.now answers.now) (take i answers.now) }
     requires some { 1 ≤ length front.now.moves.now }

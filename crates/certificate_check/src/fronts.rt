@@ -38,7 +38,7 @@ pub fn front_holds(
 ) -> Result<bool, Mem>
     requires request { IsRequest steps.old.case.request.now }
     requires differ { AllDifferent (map (λ row. row.residual) table.now.rows.now) }
-    requires table { HasRows steps.old table.now.bounds.entries.items table.now.rows.now }
+    requires table { HasRows steps.old table.now.bounds table.now.rows.now }
     requires short { length front.now.moves.now < 18 }
     requires front { IsFront answers.now front.now.moves.now }
     requires leads { LeadsTo steps.old.case.book.now steps.old.case.request.now front.now.moves.now front.now.residual front.now.price }

@@ -1,5 +1,6 @@
-//! Where the entries of keys are likely to stand. The places of one position's keys lie together, since keys that are looked up
+//! Where the rows of keys are likely to stand. The places of one position's keys lie together, since keys that are looked up
 //! one after another mostly are of few positions. A place is a guess: whoever looks there compares.
+use certificate::NumberedRow;
 use fare_law::Mem;
 use residual_table::ResidualKey;
 use std::alloc::Global;
@@ -30,19 +31,19 @@ pub struct Walk {
 
 impl Places {
     /// The places of keys, in order.
-    pub fn of(alloc: Global, entries: &[(ResidualKey, Option<u64>)]) -> Result<Places, Mem> {
+    pub fn of(alloc: Global, rows: &[NumberedRow]) -> Result<Places, Mem> {
         let mut places = Places {
             runs: Vec::new(alloc),
-            slots: Vec::from_elem(alloc, 0, entries.len().saturating_mul(2))?,
+            slots: Vec::from_elem(alloc, 0, rows.len().saturating_mul(2))?,
         };
-        for (key, _) in entries {
-            places.count(key)?;
+        for row in rows {
+            places.count(&row.key())?;
         }
         places.lay_out();
         let mut place: u32 = 0;
-        for (key, _) in entries {
+        for row in rows {
             place = place.wrapping_add(1);
-            places.put(key, place);
+            places.put(&row.key(), place);
         }
         Ok(places)
     }

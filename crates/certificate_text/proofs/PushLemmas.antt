@@ -1,5 +1,7 @@
 -- Pieces that are added one after another.
-use Rattle.std.proofs.Common.{◌≡◌, ℕ, List, [], ◌∷◌, ◌++◌, flat_map, append_assoc, refl, ap, sym, subst, ◌∙◌}
+use Rattle.std.proofs.Common.{◌≡◌, ℕ, suc, ◌+◌, List, [], ◌∷◌, ◌++◌, flat_map, map, take, take-suc, slice_get, Some, append_assoc, append-nil, refl, ap, sym, subst, ◌∙◌, arith}
+use Rattle.std.proofs.lemmas.List.{map-append}
+use Rattle.std.proofs.lemmas.Option.{get_or_from_slice_get, slice_get_within}
 use Rattle.std.specs.Prelude.{codes}
 use Rattle.certificate.specs.declared.parts.Certificate.{Certificate}
 use Rattle.certificate_text.specs.CertText.{AddsCertText, CertText, IsRequestText, answer_lines, cert_lines, head_lines, row_lines, text_of}
@@ -36,3 +38,14 @@ cert_added c request t0 t1 t2 t3 t4 is e1 e2 e3 e4 = record {
 -- a text that was added to none is the whole
 pub cert_alone : (c : Certificate) (old new : List ℕ) → old ≡ [] → AddsCertText c old new → CertText c new
 cert_alone c old new e h = subst (CertText c) (sym (h.whole ∙ ap (λ t. t ++ h.added) e)) h.is
+
+-- one line more
+pub line_more : {X : Type 0} (line : X → List ℕ) (xs : List X) (i : ℕ) (x : X) (t0 t t' : List ℕ) → slice_get xs i ≡ Some x → t ≡ t0 ++ text_of (map line (take i xs))
+    → t' ≡ t ++ (line x ++ 10 ∷ []) → t' ≡ t0 ++ text_of (map line (take (i + 1) xs))
+line_more line xs i x t0 t t' e s n =
+    let next : suc i ≡ i + 1 = omega arith in
+    let end : List ℕ → List ℕ = λ l. l ++ 10 ∷ [] in
+    let front = take-suc xs i x (slice_get_within xs i x e) ∙ ap (λ z. take i xs ++ z ∷ []) (get_or_from_slice_get xs i x x e) in
+    let lines : text_of (map line (take (suc i) xs)) ≡ text_of (map line (take i xs)) ++ (line x ++ 10 ∷ []) =
+    ap (λ zs. text_of (map line zs)) front ∙ (ap text_of (map-append line (take i xs) (x ∷ [])) ∙ (flat_joined end (map line (take i xs)) (line x ∷ []) ∙ ap (λ z. text_of (map line (take i xs)) ++ z) (append-nil (line x ++ 10 ∷ [])))) in
+    n ∙ (ap (λ z. z ++ (line x ++ 10 ∷ [])) s ∙ (append_assoc t0 (text_of (map line (take i xs))) (line x ++ 10 ∷ []) ∙ ap (λ z. t0 ++ z) (sym lines ∙ ap (λ (n : ℕ). text_of (map line (take n xs))) next)))

@@ -8,7 +8,7 @@ ghost use Rattle.certificate_text.specs.Unread.{HasRoom, unread};
 
 use crate::CertFault;
 use crate::unread::Lines;
-use certificate::{CertAnswer, CertRow};
+use certificate::{CertAnswer, CertRows};
 use fare_law::List;
 use residual_keys::ResidualReader;
 use std::alloc::Global;
@@ -44,7 +44,7 @@ pub fn rows<'a>(
     alloc: Global,
     residuals: &mut ResidualReader,
     start: Lines<'a>,
-) -> Result<(List<CertRow>, Lines<'a>), CertFault>
+) -> Result<(CertRows, Lines<'a>), CertFault>
     requires { HasRoom (unread start) }
     ensures ok { IfOk result (λ x. Passed Due.RowCount (unread start.entry)
         (row_lines x.0) Due.End (unread x.1)) }
@@ -52,7 +52,7 @@ pub fn rows<'a>(
     ensures fault { IfErr result (FaultFrom Due.RowCount (unread start.entry)) }
 {
     let (count, first) = start.row_count()?;
-    let mut rows = List::new(alloc);
+    let mut rows = CertRows::new(alloc);
     let mut at = first;
     while rows.len() < count as usize {
         // not by `?`, which takes what was read by value in a form that has no proof
@@ -60,8 +60,7 @@ pub fn rows<'a>(
             Ok(found) => found,
             Err(fault) => return Err(fault),
         };
-        let residual = *residual;
-        rows.push(CertRow { residual, bound })?;
+        rows.push(residual, bound)?;
         at = next;
     }
     Ok((rows, at))

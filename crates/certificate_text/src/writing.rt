@@ -4,7 +4,7 @@ ghost use Rattle.certificate_text.specs.CertText.{AddsCertText, CertText, answer
 ghost use Rattle.fare_law.specs.Limits.{IsRequest};
 
 use crate::lines::{push_answer, push_number_line, push_row};
-use certificate::{CertAnswer, CertRow, Certificate};
+use certificate::{CertAnswer, CertRows, Certificate};
 use fare_law::{List, Mem};
 use request_text::request_text;
 use residual_keys::ResidualWriter;
@@ -32,7 +32,7 @@ pub fn push_cert_text(
     let request = request_text(alloc, &certificate.request)?;
     push_head(text, certificate.number, request.as_slice())?;
     push_answers(text, certificate.answers.as_slice())?;
-    push_rows(alloc, text, certificate.rows.as_slice())?;
+    push_rows(alloc, text, &certificate.rows)?;
     text.extend_from_slice(b"end\n")?;
     Ok(())
 }
@@ -60,13 +60,13 @@ fn push_answers(text: &mut Vec<u8>, answers: &[CertAnswer]) -> Result<(), Mem>
     Ok(())
 }
 
-fn push_rows(alloc: Global, text: &mut Vec<u8>, rows: &[CertRow]) -> Result<(), Mem>
+fn push_rows(alloc: Global, text: &mut Vec<u8>, rows: &CertRows) -> Result<(), Mem>
     ensures { OnOk result (text.new.items ≡ text.old.items ++ text_of (row_lines rows.now)) }
 {
     push_number_line(text, b"rows", rows.len() as u64)?;
     let mut residuals = ResidualWriter::new(alloc)?;
-    for row in rows {
-        push_row(text, &mut residuals, row)?;
+    for place in 0..rows.len() {
+        push_row(text, &mut residuals, &rows.row(place))?;
     }
     Ok(())
 }

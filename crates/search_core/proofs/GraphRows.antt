@@ -3,16 +3,20 @@ use Rattle.std.proofs.Common.{◌≡◌, ℕ, zero, suc, ◌+◌, ◌≤◌, Lis
 use Rattle.std.proofs.lemmas.List.{map-append}
 use Rattle.std.proofs.lemmas.Option.{get_or_from_slice_get, slice_get_within}
 use Rattle.certificate.specs.CertOf.{RowsAre}
+use Rattle.certificate.specs.declared.numbered.NumberedRow.{NumberedRow}
 use Rattle.certificate.specs.declared.parts.CertRow.{CertRow}
+use Rattle.certificate.specs.NumberedRows as Numbered
 use Rattle.fare_law.specs.declared.requests.Request.{Request}
 use Rattle.fare_law.specs.Book.{Book}
 use Rattle.fare_law.specs.Lists.{Each}
-use Rattle.graph_walk.specs.Steps.{rows_of}
+use Rattle.graph_walk.specs.Steps.{AreLive, rows_of}
 use Rattle.graph_walk.specs.Walks.{states}
 use Rattle.pricing_graph.specs.Graphs.{IsGraph}
 use Rattle.residual_keys.specs.ResidualOrder.{StateBefore}
 use Rattle.residual_keys.specs.Residuals.{State}
 use Rattle.residual_keys.specs.Searches.{AreNeeded, Least}
+use Rattle.residual_table.specs.declared.key.ResidualKey.{ResidualKey}
+use Rattle.residual_table.specs.Keys.{Tables, residual_at}
 use Rattle.search_core.specs.Answers.{node_of}
 
 node_at : {K : Type 0} (state : K → State) (entries : List (K × Option ℕ)) (i : ℕ) (row : CertRow)
@@ -28,7 +32,7 @@ node_at state (e ∷ es) (suc i) row a b = node_at state es i row a b
 take_next : {X : Type 0} (xs : List X) (i : ℕ) (x : X) → slice_get xs i ≡ Some x → take (suc i) xs ≡ take i xs ++ x ∷ []
 take_next xs i x e = take-suc xs i x (slice_get_within xs i x e) ∙ ap (λ z. take i xs ++ z ∷ []) (get_or_from_slice_get xs i x x e)
 
-pub rows_next : {K : Type 0} (state : K → State) (entries : List (K × Option ℕ)) (i : ℕ) (rows rows' : List CertRow) (row : CertRow)
+rows_next : {K : Type 0} (state : K → State) (entries : List (K × Option ℕ)) (i : ℕ) (rows rows' : List CertRow) (row : CertRow)
     → map node_of rows ≡ take i (rows_of state entries) → option_map (λ x. x.0) (slice_get (rows_of state entries) i) ≡ Some row.residual
     → option_map (λ x. x.1) (slice_get entries i) ≡ Some row.bound → rows' ≡ rows ++ row ∷ [] → map node_of rows' ≡ take (i + 1) (rows_of state entries)
 rows_next state entries i rows rows' row h a b e =
@@ -40,6 +44,25 @@ take_rows state [] zero h = refl
 take_rows state [] (suc n) h = refl
 take_rows state (e ∷ es) zero h = absurd (omega (arith, h))
 take_rows state (e ∷ es) (suc n) h = ap (λ z. (state e.0, e.1) ∷ z) (take_rows state es n (omega (arith, h)))
+
+-- the key at a place, as the residual that it stands for
+state_at : {K : Type 0} (state : K → State) (entries : List (K × Option ℕ)) (i : ℕ) (k : K) → option_map (λ x. x.0) (slice_get entries i) ≡ Some k → option_map (λ x. x.0) (slice_get (rows_of state entries) i) ≡ Some (state k)
+state_at state [] i k h = absurd (cc)
+state_at state (e ∷ es) zero k h = let s : e.0 ≡ k = cc in ap (λ z. Some (state z)) s
+state_at state (e ∷ es) (suc i) k h = state_at state es i k h
+
+pub live_at : {K : Type 0} (live : K → Type 0) (entries : List (K × Option ℕ)) (i : ℕ) (k : K) → option_map (λ x. x.0) (slice_get entries i) ≡ Some k → AreLive live entries → live k
+live_at live [] i k h l = absurd (cc)
+live_at live (e ∷ es) zero k h l = subst live (let s : e.0 ≡ k = cc in s) l.0
+live_at live (e ∷ es) (suc i) k h l = live_at live es i k h l.1
+
+-- one more row by numbers
+pub numbered_next : (t : Tables) (entries : List (ResidualKey × Option ℕ)) (i : ℕ) (ns ns' : List NumberedRow) (n : NumberedRow) (k : ResidualKey) (bound : Option ℕ)
+    → map node_of (Numbered.rows_of t ns) ≡ take i (rows_of (residual_at t) entries) → option_map (λ x. x.0) (slice_get entries i) ≡ Some k → option_map (λ x. x.1) (slice_get entries i) ≡ Some bound
+    → Numbered.key_of n ≡ k → Numbered.bound_of n ≡ bound → ns' ≡ ns ++ n ∷ [] → map node_of (Numbered.rows_of t ns') ≡ take (i + 1) (rows_of (residual_at t) entries)
+numbered_next t entries i ns ns' n k bound h a b p q e =
+    rows_next (residual_at t) entries i (Numbered.rows_of t ns) (Numbered.rows_of t ns') (Numbered.row_of t n) h
+    (state_at (residual_at t) entries i (Numbered.key_of n) (a ∙ ap (λ z. Some z) (sym p))) (b ∙ ap (λ z. Some z) (sym q)) (ap (Numbered.rows_of t) e ∙ map-append (Numbered.row_of t) ns (n ∷ []))
 
 pub rows_all : {K : Type 0} (state : K → State) (entries : List (K × Option ℕ)) (i : ℕ) (rows : List CertRow) → map node_of rows ≡ take i (rows_of state entries) → length entries ≤ i → map node_of rows ≡ rows_of state entries
 rows_all state entries i rows h le = h ∙ take_rows state entries i le

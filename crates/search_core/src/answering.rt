@@ -11,7 +11,7 @@ ghost use Rattle.search_core.specs.declared.outcome.Answer.{Answer as Found};
 use crate::Answer;
 use crate::schedules::schedule_of;
 use crate::ticketing::tickets_of;
-use certificate::{CertAnswer, CertRow, Certificate, search_meets_checks};
+use certificate::{CertAnswer, CertRows, Certificate, search_meets_checks};
 use fare_book::Book;
 use fare_law::{List, Mem, Request};
 use residual_keys::best_runs;
@@ -23,7 +23,7 @@ pub fn answer_of(
     book: &Book,
     request: &Request,
     runs: List<CertAnswer>,
-    rows: List<CertRow>,
+    rows: CertRows,
 ) -> Result<Answer, Mem>
     requires request { IsRequest request.now }
     requires runs { BestRuns book.now request.now request.now.best (map run_of runs) }

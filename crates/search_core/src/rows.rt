@@ -8,9 +8,9 @@ ghost use Rattle.pricing_graph.specs.Graphs.{IsGraph};
 ghost use Rattle.search_core.specs.Answers.{node_of};
 ghost use Rattle.search_steps.specs.Keys.{live, state};
 
-use certificate::CertRow;
+use certificate::{CertRows, NumberedRow};
 use fare_component::OfferSource;
-use fare_law::{List, Mem};
+use fare_law::Mem;
 use pricing_graph::Graph;
 use search_steps::SearchSteps;
 use std::alloc::Global;
@@ -20,16 +20,14 @@ pub fn rows_of<O: OfferSource>(
     alloc: Global,
     graph: &Graph,
     steps: &SearchSteps<O>,
-) -> Result<List<CertRow>, Mem>
+) -> Result<CertRows, Mem>
     requires { AreLive (live steps.now) graph.now.rows.entries }
     ensures nodes { IfOk result (λ rows. map node_of rows ≡ rows_of (state steps.now) graph.now.rows.entries) }
     ensures rows { IfOk result (λ rows. (b : Version) (q : Asking) → IsGraph b q (rows_of (state steps.now) graph.now.rows.entries) → RowsAre b q rows) }
 {
-    let mut rows = List::new(alloc);
+    let mut rows = Vec::with_capacity(alloc, graph.size() as usize)?;
     for node in 0..graph.size() {
-        let residual = graph.residual(steps, node);
-        let bound = graph.bound(node);
-        rows.push(CertRow { residual, bound })?;
+        rows.push(NumberedRow::new(&graph.key(node), graph.bound(node)))?;
     }
-    Ok(rows)
+    Ok(CertRows::of(steps.numbers().copied()?, rows))
 }

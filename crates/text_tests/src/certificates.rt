@@ -2,7 +2,7 @@
 ghost use Rattle.std.specs.Prelude.{IfOk};
 ghost use Rattle.fare_law.specs.Limits.{IsRequest};
 
-use certificate::{CertAnswer, CertRow, Certificate};
+use certificate::{CertAnswer, CertRows, Certificate};
 use certificate_text::{CertFault, read_cert};
 use fare_law::{ArrayVec, Basis, Carrier, List, Move, Place, Request, Role, Slice};
 use flight_paths::Position;
@@ -83,18 +83,15 @@ fn one_way(alloc: Global) -> Result<Certificate, AllocError>
         price: 20000,
         moves,
     })?;
-    let mut rows = Vec::new(alloc);
+    let mut rows = CertRows::new(alloc);
     if let Some(residual) = root() {
-        rows.push(CertRow {
-            residual,
-            bound: Some(20000),
-        })?;
+        rows.push(&residual, Some(20000))?;
     }
     Ok(Certificate {
         number: 1,
         request: request(),
         answers: List::from_vec(answers),
-        rows: List::from_vec(rows),
+        rows,
     })
 }
 

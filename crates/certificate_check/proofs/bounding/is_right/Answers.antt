@@ -5,7 +5,7 @@ use Rattle.search_steps.specs.Keys.{state}
 use Rattle.certificate_check.proofs.bounding.is_right.Goals as goal
 
 pub all_allow-requires-clause-table : goal.all_allow-requires-clause-table
-all_allow-requires-clause-table c = has_still c.args.steps.now c.outcomes.new.self c.in_ok-outcomes.ensures.keeps c.args.table.now.bounds.entries.items c.args.table.now.rows.now c.requires.table
+all_allow-requires-clause-table c = has_still c.args.steps.now c.outcomes.new.self c.in_ok-outcomes.ensures.keeps c.args.table.now.bounds c.args.table.now.rows.now c.requires.table
 
 pub returns-clause-right : goal.returns-clause-right
 returns-clause-right c =

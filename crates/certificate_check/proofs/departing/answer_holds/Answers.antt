@@ -167,4 +167,4 @@ returns-clause-holds c =
     λ a s. subst (AnswerHolds b q rows answers) (same_answer answers i x a c.requires.there c.index-answers-i.is s) (all_held b q rows answers x ms taken e c.loop-taken-test.false invariant.hold)
 
 pub later_holds-requires-clause-table : goal.later_holds-requires-clause-table
-later_holds-requires-clause-table c = has_still c.args.steps.now c.loop-taken.steps c.loop-taken.invariant.later.keeps c.args.table.now.bounds.entries.items c.args.table.now.rows.now c.requires.table
+later_holds-requires-clause-table c = has_still c.args.steps.now c.loop-taken.steps c.loop-taken.invariant.later.keeps c.args.table.now.bounds c.args.table.now.rows.now c.requires.table

@@ -55,4 +55,4 @@ returns-clause-fails c =
     all_hold b q rows answers root (each_done (AnswerHolds b q rows answers) answers c.loop-i.i c.loop-i-test.false c.loop-i.invariant.hold)
 
 pub answer_holds-requires-clause-table : goal.answer_holds-requires-clause-table
-answer_holds-requires-clause-table c = has_still c.args.steps.now c.loop-i.steps c.loop-i.invariant.later.keeps c.args.table.now.bounds.entries.items c.args.table.now.rows.now c.requires.table
+answer_holds-requires-clause-table c = has_still c.args.steps.now c.loop-i.steps c.loop-i.invariant.later.keeps c.args.table.now.bounds c.args.table.now.rows.now c.requires.table

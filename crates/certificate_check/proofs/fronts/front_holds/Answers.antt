@@ -8,7 +8,7 @@ use Rattle.certificate_check.proofs.fronts.front_holds.Goals as goal
 pub returns-in-Some-clause-holds : goal.returns-in-Some-clause-holds
 returns-in-Some-clause-holds c =
     let rows = c.args.table.now.rows.now in
-    let es = c.args.table.now.bounds.entries.items in
+    let es = c.args.table.now.bounds in
     let front = c.args.front.now in
     let keyed = c.key_of.new.self in
     let case = c.in_ok-key.ensures.case in
@@ -21,7 +21,7 @@ returns-in-Some-clause-holds c =
 pub returns-clause-holds : goal.returns-clause-holds
 returns-clause-holds c =
     let rows = c.args.table.now.rows.now in
-    let es = c.args.table.now.bounds.entries.items in
+    let es = c.args.table.now.bounds in
     let front = c.args.front.now in
     let keyed = c.key_of.new.self in
     let case = c.in_ok-key.ensures.case in

@@ -1,24 +1,27 @@
-use Rattle.std.proofs.Common.{◌≡◌, true, get_or}
+use Rattle.std.proofs.Common.{◌≡◌, ◌+◌, true, subst}
+use Rattle.certificate.specs.InOrder.{FirstWrong}
+use Rattle.certificate.specs.NumberedRows.{key_of, row_of}
 use Rattle.certificate.specs.RowCheck.{RowRight}
-use Rattle.certificate_check.proofs.FromFront.{all_next, all_none, wrong_at}
+use Rattle.certificate_check.proofs.ByNumbers.{all_mapped, no_row, wrong_mapped}
+use Rattle.certificate_check.proofs.EachSoFar.{got_in}
+use Rattle.certificate_check.proofs.FromFront.{all_none}
+use Rattle.residual_table.specs.Keys.{IsLive}
 use Rattle.certificate_check.proofs.rows.first_wrong.Goals as goal
 
 pub loop-i-init : goal.loop-i-init
 loop-i-init c = all_none (RowRight c.args.book.now c.args.request.now)
 
+pub is_right-requires-clause-row : goal.is_right-requires-clause-row
+is_right-requires-clause-row c = got_in (λ n. IsLive c.by_number.result.parts.now (key_of n)) c.by_number.result.rows.now c.loop-i.i no_row c.loop-i-test.true c.by_number.ensures.live
+
 pub returns-then-not-is_right : goal.returns-then-not-is_right
 returns-then-not-is_right c =
-    let rows = c.args.rows.now in
+    let right = RowRight c.args.book.now c.args.request.now in
     let i = c.loop-i.i in
-    let row = c.index-rows-i.result in
-    let is : row ≡ get_or rows i row = c.index-rows-i.is in
-    wrong_at (RowRight c.args.book.now c.args.request.now) rows i row c.loop-i-test.true is c.loop-i.invariant (λ r. let t = c.is_right.ensures.1 r in cc)
+    subst (λ rows. FirstWrong right rows (i + 1)) c.by_number.ensures.same
+    (wrong_mapped (row_of c.by_number.result.parts.now) right c.by_number.result.rows.now i no_row c.loop-i-test.true c.loop-i.invariant (λ r. let t = c.is_right.ensures.1 r in let denied = c.if-not-is_right.true in cc))
 
 pub loop-i-preserved : goal.loop-i-preserved
 loop-i-preserved c =
-    let rows = c.args.rows.now in
-    let i = c.loop-i.i in
-    let row = c.index-rows-i.result in
-    let is : row ≡ get_or rows i row = c.index-rows-i.is in
     let so : c.is_right.result ≡ true = cc in
-    all_next (RowRight c.args.book.now c.args.request.now) rows i row c.loop-i-test.true is c.loop-i.invariant (c.is_right.ensures.0 so)
+    all_mapped (row_of c.by_number.result.parts.now) (RowRight c.args.book.now c.args.request.now) c.by_number.result.rows.now c.loop-i.i no_row c.loop-i-test.true c.loop-i.invariant (c.is_right.ensures.0 so)

@@ -1,7 +1,7 @@
-use Rattle.std.proofs.Common.{◌<◌, [], ◌∷◌, length, ap, sym, subst, arith, refl, length-append}
+use Rattle.std.proofs.Common.{◌≡◌, ◌≤◌, ◌<◌, ◌-◌, List, map, [], ◌∷◌, length, ap, sym, subst, arith, refl, length-append}
 use Rattle.std.specs.Prelude.{codes}
 use Rattle.certificate.specs.declared.parts.CertRow.{CertRow}
-use Rattle.certificate_text.specs.Faults.{Row, RowCount, rows_due}
+use Rattle.certificate_text.specs.Faults.{Passed, Row, RowCount, rows_due}
 use Rattle.certificate_text.specs.Lines.{IsRow, row_line, number_line}
 use Rattle.certificate_text.specs.Unread.{unread}
 use Rattle.fare_law.specs.Lists.{Each}
@@ -17,6 +17,19 @@ pub returns-in-Err-clause-fault : goal.returns-in-Err-clause-fault
 returns-in-Err-clause-fault c =
     item_fault rows_due Row row_line due_after (rows_due c.in_ok-count.count) RowCount (unread c.args.start) (unread c.in_ok-count.first) (unread c.loop-at.at) c.in_ok-count.count
     (number_line (codes "rows") c.in_ok-count.count ∷ []) c.loop-at.rows c.in-Err.fault (omega (arith, c.len.ensures)) c.in_ok-count.ensures.ok c.loop-at.invariant.passed c.in-Err.ensures.fault
+
+pub loop-at-init : goal.loop-at-init
+loop-at-init c =
+    let count = c.in_ok-count.count in
+    let first = unread c.in_ok-count.first in
+    let none = sym c.new-rows.ensures in
+    let left : count ≡ count - 0 = omega arith in
+    record {
+      few = subst (λ (rs : List CertRow). length rs ≤ count) none (omega arith);
+      passed = subst (λ (rs : List CertRow). Passed (rows_due count) first (map row_line rs) (rows_due (count - length rs)) first) none (record { leads = ap rows_due left; taken = refl });
+      each = subst (Each IsRow) none tt;
+      room = room_all (unread c.args.start) first (number_line (codes "rows") count ∷ []) c.in_ok-count.ensures.ok.taken c.requires;
+    }
 
 pub loop-at-preserved : goal.loop-at-preserved
 loop-at-preserved c =

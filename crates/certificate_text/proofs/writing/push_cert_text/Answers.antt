@@ -1,7 +1,6 @@
 use Rattle.std.proofs.Common.{◌++◌, List, ap, ◌∙◌}
 use Rattle.certificate.specs.declared.parts.CertAnswer.{CertAnswer}
-use Rattle.certificate.specs.declared.parts.CertRow.{CertRow}
-use Rattle.certificate_text.specs.CertText.{answer_lines, head_lines, row_lines, text_of}
+use Rattle.certificate_text.specs.CertText.{answer_lines, head_lines, text_of}
 use Rattle.certificate_text.proofs.PushLemmas.{cert_added}
 use Rattle.certificate_text.proofs.writing.push_cert_text.Goals as goal
 
@@ -13,5 +12,5 @@ returns c =
     (record { compact = c.in_ok-request.ensures.text; read = c.in_ok-request.ensures.again })
     (c.in_ok-push_head.ensures ∙ ap (λ r. c.args.text.now.items ++ text_of (head_lines cert.number r)) c.as_slice.ensures)
     (c.in_ok-push_answers.ensures ∙ ap (λ (xs : List CertAnswer). c.push_head.new.text.items ++ text_of (answer_lines xs)) c.as_slice-2.ensures)
-    (c.in_ok-push_rows.ensures ∙ ap (λ (xs : List CertRow). c.push_answers.new.text.items ++ text_of (row_lines xs)) c.as_slice-3.ensures)
+    c.in_ok-push_rows.ensures
     c.in_ok-extend_from_slice.ensures.items

@@ -4,5 +4,5 @@ use Rattle.certificate_text.specs.Lines.{row_line}
 use Rattle.certificate_text.proofs.writing.push_rows.Given as goal
 
 -- the rows so far have been added
-abbrev pub invariant-loop-row : goal.invariant-loop-row
-invariant-loop-row l = l.text.items ≡ l.initial.text.items ++ text_of (map row_line (take l.row-index l.rows))
+abbrev pub invariant-loop-place : goal.invariant-loop-place
+invariant-loop-place l = l.text.items ≡ l.initial.text.items ++ text_of (map row_line (take l.place l.rows))
