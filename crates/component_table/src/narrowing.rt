@@ -82,7 +82,17 @@ pub fn fare_tails(
     ensures tails { IfOk result (λ numbers. (q : Asked) (slice : ℕ) → AreTailsOver book.now q.slices slice tails.now → AreTailsFrom book.now q from slice (chosen tails.now numbers)) }
 {
     let ends = fare_ends(alloc, book, from, ends)?;
-    tails_to(alloc, schedule_of(book), tails, &ends)
+    let numbers = tails_to(alloc, schedule_of(book), tails, &ends)?;
+    Ok(fitted(numbers))
+}
+
+/// The same numbers in no more room than they take, since a place keeps them for a whole search.
+fn fitted(numbers: List<usize>) -> List<usize>
+    ensures { result ≡ numbers }
+{
+    let mut numbers = numbers.into_vec();
+    numbers.shrink_to_fit();
+    List::from_vec(numbers)
 }
 
 /// Some ends, each with whether a fare is filed from a place to it or back.
