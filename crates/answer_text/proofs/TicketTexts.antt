@@ -1,5 +1,5 @@
 -- Texts of tickets, components and flights that are added one after another: for `answer_text`.
-use Rattle.std.proofs.Common.{◌≡◌, ◌<◌, ◌≤◌, ◌+◌, ◌∙◌, ℕ, zero, suc, List, [], ◌∷◌, ◌++◌, length, map, take, get_or, Some, IfSome, Result, Ok, Err, OnOk, refl, ap, sym, subst, add-one, take-suc, append_assoc, append-nil, arith}
+use Rattle.std.proofs.Common.{◌≡◌, ◌<◌, ◌≤◌, ◌+◌, ◌∙◌, ℕ, suc, List, [], ◌∷◌, ◌++◌, length, map, take, get_or, Some, IfSome, refl, ap, sym, subst, add-one, take-suc, append_assoc, append-nil, arith}
 use Rattle.std.specs.List.{concat}
 use Rattle.std.proofs.lemmas.List.{take_all}
 use Rattle.std.proofs.lemmas.List.Folds.{concat-append}
@@ -21,6 +21,8 @@ use Rattle.answer_text.specs.Answer.{MatchedFrom, FlightTexts, ComponentText, Ti
 use Rattle.answer_text.specs.Lines.{Adds, FlightLine, component_line, ticket_line, tickets_line}
 use Rattle.answer_text.specs.Said.{Says}
 use Rattle.answer_text.specs.declared.lines.ComponentLine.{ComponentLine}
+use Rattle.law_lemmas.proofs.EachOne.{each_at}
+use Rattle.law_lemmas.proofs.Lists.{front_length}
 
 -- texts of these elements, which are numbered from n on, were added
 pub record Added {X : Type 0} (n : ℕ) (Is : ℕ → X → List ℕ → Type 0) (xs : List X) (old new : List ℕ) : Type 0 where
@@ -40,11 +42,6 @@ from_more Is n (w ∷ xs) (t ∷ texts) x text h is =
 pub none_added : {X : Type 0} (Is : ℕ → X → List ℕ → Type 0) (old : List ℕ) → Added 1 Is [] old old
 none_added Is old = record { texts = []; each = tt; whole = sym (append-nil old) }
 
-front_length : {X : Type 0} (xs : List X) (n : ℕ) → n < length xs → length (take n xs) ≡ n
-front_length [] n lt = absurd (omega arith)
-front_length (x ∷ xs) zero lt = refl
-front_length (x ∷ xs) (suc n) lt = omega (arith, front_length xs n (omega (arith, lt)))
-
 -- one text more was added
 pub one_added : {X : Type 0} (Is : ℕ → X → List ℕ → Type 0) (xs : List X) (at : ℕ) (x d : X) (old mid new : List ℕ) → at < length xs → x ≡ get_or xs at d
     → Added 1 Is (take at xs) old mid → Adds (Is (at + 1) x) mid new → Added 1 Is (take (at + 1) xs) old new
@@ -61,11 +58,6 @@ one_added Is xs at x d old mid new lt e so_far more = record {
 
 pub all_of : {X : Type 0} (Is : ℕ → X → List ℕ → Type 0) (xs : List X) (at : ℕ) (old new : List ℕ) → length xs ≤ at → Added 1 Is (take at xs) old new → Added 1 Is xs old new
 all_of Is xs at old new le h = subst (λ ys. Added 1 Is ys old new) (take_all at xs le) h
-
--- what follows where a call went well
-pub whenever : {T E : Type 0} (r : Result T E) (P Q : Type 0) → (P → Q) → OnOk r P → OnOk r Q
-whenever (Ok x) P Q f h = f h
-whenever (Err e) P Q f h = tt
 
 -- flights
 
@@ -124,11 +116,6 @@ each_stands b q all (c ∷ cs) (part ∷ parts) m lawful units = (
   },
   each_stands b q all cs parts m.1 lawful.1 units.1,
 )
-
-each_at : {X : Type 0} (P : X → Type 0) (xs : List X) (at : ℕ) (d : X) → Each P xs → at < length xs → P (get_or xs at d)
-each_at P [] at d h lt = absurd (omega arith)
-each_at P (x ∷ xs) zero d h lt = h.0
-each_at P (x ∷ xs) (suc at) d h lt = each_at P xs at d h.1 (omega (arith, lt))
 
 pub each_there : {X : Type 0} (P : X → Type 0) (xs : List X) (at : ℕ) (x d : X) → Each P xs → at < length xs → x ≡ get_or xs at d → P x
 each_there P xs at x d h lt e = subst P (sym e) (each_at P xs at d h lt)

@@ -13,9 +13,10 @@ use Rattle.best_k.specs.Ways.{HasRank}
 use Rattle.best_k.specs.Tables.{drawn_of, count, IsDrawn, HeldBy, Held, IsDrawnTo}
 use Rattle.best_k.specs.Queues.{IsQueue}
 use Rattle.best_k.specs.Drawing.{IsStage, IsProgress, IsTable, IsTableOf, DrawsTo}
-use Rattle.best_k.proofs.Places.{nth_in, in_nth, nth_short, nth_here, get_here}
+use Rattle.best_k.proofs.Places.{nth_in, in_nth, nth_short, nth_here}
 use Rattle.best_k.proofs.Apart.{Inside, inside}
 use Rattle.best_k.proofs.Frontiers.{drawn_few}
+use Rattle.law_lemmas.proofs.Lists.{get_here}
 
 pub there : (t : List Progress) (u : ℕ) → u < length t → (x : Progress) × (slice_get t u ≡ Some x)
 there [] u h = absurd (omega arith)

@@ -5,7 +5,9 @@ use Rattle.fare_law.specs.Lists.{IsIn, Each, EachPair, KLeast}
 use Rattle.best_steps.specs.declared.steps.Step.{Step}
 use Rattle.best_steps.specs.Runs.{Sooner, IsAt, Same}
 use Rattle.best_k.specs.declared.lattice.Derivation.{Derivation}
-use Rattle.best_k.proofs.Orders.{less_total, under_never, under_trans}
+use Rattle.best_k.proofs.Orders.{under_never, under_trans}
+use Rattle.law_lemmas.proofs.EachOne.{each_in}
+use Rattle.law_lemmas.proofs.Words.{less_total}
 
 -- the order of steps is that of their totals and words
 key : Step → Derivation
@@ -35,11 +37,6 @@ sooner_total Has told s t a b =
         ]
       ]
     ]
-
-each_in : {X : Type 0} (P : X → Type 0) (xs : List X) (x : X) → Each P xs → IsIn x xs → P x
-each_in P [] x h i = absurd i
-each_in P (y ∷ ys) x h (inl e) = subst P (sym e) h.0
-each_in P (y ∷ ys) x h (inr i) = each_in P ys x h.1 i
 
 each_map : {X : Type 0} (P Q : X → Type 0) (f : (x : X) → P x → Q x) (xs : List X) → Each P xs → Each Q xs
 each_map P Q f [] h = tt

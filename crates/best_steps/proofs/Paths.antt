@@ -3,9 +3,7 @@ use Rattle.std.proofs.Common.{◌≡◌, ℕ, zero, suc, ◌<◌, ◌≤◌, ◌
 use Rattle.best_steps.specs.declared.steps.Step.{Step}
 use Rattle.best_steps.specs.Runs.{Leads, price_of, word_of, StepLaws}
 use Rattle.best_k.proofs.Orders.{cancel, fronts}
-
-some_one : (n m : ℕ) → Some n ≡ Some m → n ≡ m
-some_one n m e = cc
+use Rattle.law_lemmas.proofs.Options.{some_same}
 
 pub none_some : (n : ℕ) → ◌≡◌ {A = Option ℕ} None (Some n) → ⊥
 none_some n e = absurd (cc)
@@ -43,12 +41,12 @@ pub through : (Has : ℕ → Step → Type 0) (nodes : ℕ) (level : ℕ → ℕ
     → word_of run ≡ (word_of path ++ s.word) ++ x → Through Has path s run
 through Has nodes level laws from n [] s [] x h k l e = absurd (none_some n (sym l ∙ h))
 through Has nodes level laws from n [] s (u ∷ run) x h k l e =
-    let q = some_one l.0 n (sym l.1 ∙ h) in
+    let q = some_same l.0 n (sym l.1 ∙ h) in
     let same = same_step Has nodes level laws n u s (word_of run) x (subst (λ z. Has z u) q l.2) k e in
     record { rest = run; is = ap (λ z. z ∷ run) same; leads = subst (λ z. Leads Has z run None) (ap (λ z. z.next) same) l.3 }
 through Has nodes level laws from n (g ∷ path) s [] x h k l e = absurd (none_some h.0 (sym l ∙ h.1))
 through Has nodes level laws from n (g ∷ path) s (u ∷ run) x h k l e =
-    let q = some_one l.0 h.0 (sym l.1 ∙ h.1) in
+    let q = some_same l.0 h.0 (sym l.1 ∙ h.1) in
     let w : u.word ++ word_of run ≡ g.word ++ ((word_of path ++ s.word) ++ x) =
     e ∙ append_assoc (g.word ++ word_of path) s.word x ∙ append_assoc g.word (word_of path) (s.word ++ x) ∙ ap (λ z. g.word ++ z) (sym (append_assoc (word_of path) s.word x)) in
     let same = same_step Has nodes level laws h.0 u g (word_of run) ((word_of path ++ s.word) ++ x) (subst (λ z. Has z u) q l.2) h.2 w in

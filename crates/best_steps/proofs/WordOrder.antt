@@ -2,8 +2,9 @@
 use Rattle.std.proofs.Common.{◌≡◌, ℕ, ◌⊎◌, List, [], ◌∷◌, sym, refl, ap, inl, inr, ◌++◌, ◌∙◌, subst, length, take, append-nil}
 use Rattle.fare_law.specs.Lists.{IsPrefix}
 use Rattle.fare_law.specs.Lists.{Less}
-use Rattle.best_k.proofs.Orders.{less_behind, less_trans}
+use Rattle.best_k.proofs.Orders.{less_behind}
 use Rattle.best_steps.specs.Waiting.{Beats}
+use Rattle.law_lemmas.proofs.Words.{less_trans}
 
 -- no later than
 abbrev pub AtMost : List ℕ → List ℕ → Type 0

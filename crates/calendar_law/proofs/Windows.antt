@@ -15,6 +15,7 @@ use Rattle.fare_law.specs.declared.requests.Slice.{Slice}
 use Rattle.fare_law.specs.declared.tickets.Ticket.{Ticket}
 use Rattle.calendar_law.specs.Cells.{CellHas, CellsLeast, LeastPrice, in_days, over_days, two_slices}
 use Rattle.std.specs.Prelude.{Some}
+use Rattle.law_lemmas.proofs.Ends.{on_last}
 
 -- the day of a window on which something happens
 record OnDay (s : Slice) (days : ℕ) (P : Slice → Type 0) : Type 0 where
@@ -64,11 +65,6 @@ last_at Q P [] h = absurd h
 last_at Q P (x ∷ []) h = h
 last_at Q P (x ∷ y ∷ ys) h = last_at Q P (y ∷ ys) h
 
-last_more : {X : Type 0} (P R : X → Type 0) → ((x : X) → P x → R x) → (xs : List X) → OnLast P xs → OnLast R xs
-last_more P R f [] h = h
-last_more P R f (x ∷ []) h = f x h
-last_more P R f (x ∷ y ∷ ys) h = last_more P R f (y ∷ ys) h
-
 -- the last slice, after an arrival
 last_slice : (b : Book) (arrival : _) (t : Slice) (n : ℕ) (fs : List Flight) → FliesFrom b arrival (record t { days = n } ∷ []) fs
     → (j : ℕ) × (j < n) × FliesFrom b arrival (in_days t j 1 ∷ []) fs
@@ -86,7 +82,7 @@ journeys b (s ∷ []) outs backs fs two h = absurd (omega (arith, two))
 journeys b (s ∷ t ∷ []) outs backs fs two h =
     let day = on_a_day b s outs h.0 h.3 in
     let back = last_at (λ j. j < backs) (λ j f. FliesFrom b (Some f.arr) (in_days t j 1 ∷ []) h.1) h.0
-    (last_more _ _ (λ f k. last_slice b (Some f.arr) t backs h.1 k) h.0 h.5) in
+    (on_last _ _ (λ f k. last_slice b (Some f.arr) t backs h.1 k) h.0 h.5) in
     (day.later, back.0, day.within, back.1, (h.0, h.1, h.2, day.holds, h.4, back.2))
 journeys b (s ∷ t ∷ u ∷ more) outs backs fs two h = absurd (omega (arith, two))
 
@@ -96,7 +92,7 @@ pub journeys_back : (b : Book) (slices : List Slice) (outs backs i j : ℕ) (fs 
 journeys_back b [] outs backs i j fs two oi bj h = absurd (omega (arith, two))
 journeys_back b (s ∷ []) outs backs i j fs two oi bj h = absurd (omega (arith, two))
 journeys_back b (s ∷ t ∷ []) outs backs i j fs two oi bj h =
-    (h.0, h.1, h.2, in_the_window b s outs i h.0 oi h.3, h.4, last_more _ _ (λ f k. slice_back b (Some f.arr) t backs j h.1 bj k) h.0 h.5)
+    (h.0, h.1, h.2, in_the_window b s outs i h.0 oi h.3, h.4, on_last _ _ (λ f k. slice_back b (Some f.arr) t backs j h.1 bj k) h.0 h.5)
 journeys_back b (s ∷ t ∷ u ∷ more) outs backs i j fs two oi bj h = absurd (omega (arith, two))
 
 -- only the day of sale of a request is read of the parts of a ticket and of its price

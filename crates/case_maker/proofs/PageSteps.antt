@@ -1,11 +1,6 @@
 -- What is made one after another on a page, also for each number of a loop.
-use Rattle.std.proofs.Common.{◌≡◌, ◌≤◌, ◌+◌, ℕ, suc, List, append_assoc, append-nil, ap, sym, subst, ◌∙◌, Result, Ok, Err, OnOk, arith}
+use Rattle.std.proofs.Common.{◌≡◌, ◌≤◌, ◌+◌, ℕ, suc, List, append_assoc, append-nil, ap, sym, subst, ◌∙◌, arith}
 use Rattle.case_maker.specs.Drawing.{Made, Making, going_on, ◌before◌, each_below}
-
--- what follows where a call went well
-pub whenever : {T E : Type 0} (r : Result T E) (P Q : Type 0) → (P → Q) → OnOk r P → OnOk r Q
-whenever (Ok x) P Q f h = f h
-whenever (Err e) P Q f h = tt
 
 abbrev of : List ℕ → ℕ → Made
 of text last = record { text = text; last = last }

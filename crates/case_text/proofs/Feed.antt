@@ -10,6 +10,7 @@ use Rattle.case_text.specs.declared.lines.Line.{Line}
 use Rattle.case_text.specs.Lines.{shown}
 use Rattle.case_text.specs.Cut.{plain_byte, plain_line}
 use Rattle.case_text.specs.Readers.{Awaits, Follows, is_row, row_text}
+use Rattle.law_lemmas.proofs.Tests.{both_true}
 
 -- the rows' text from a place on
 abbrev pub text_from : ℕ → List Line → List ℕ
@@ -54,15 +55,11 @@ pub follows_here : {R : Type 0} (rem : R → Option (List ℕ)) (in_step : Bool)
     → Follows rem in_step reader (map shown (drop i lines)) → Follows rem in_step reader (shown (get_or lines i d) ∷ map shown (drop (i + 1) lines))
 follows_here rem in_step reader lines i d l h = λ t. subst (λ ls. Awaits rem reader (row_text (map shown ls))) (here lines i d l) (h t)
 
-both : (a b : Bool) → (a && b) ≡ true → (a ≡ true) × (b ≡ true)
-both true b h = (refl, h)
-both false b h = absurd (cc)
-
 low : (c : ℕ) → plain_byte c ≡ true → c < 128
 low c h = search (rules, tests)
 
 first_plain : (c : ℕ) (cs : List ℕ) → is_row (c ∷ cs) ≡ true → c < 128
-first_plain c cs h = low c (both (plain_byte c) (list_all plain_byte cs) (both (not (eqb (length (c ∷ cs)) 0)) (plain_line (c ∷ cs)) h).1).0
+first_plain c cs h = low c (both_true (plain_byte c) (list_all plain_byte cs) (both_true (not (eqb (length (c ∷ cs)) 0)) (plain_line (c ∷ cs)) h).1).0
 
 no_mark_first : (c : ℕ) (xs : List ℕ) → c < 128 → strip_bom (c ∷ xs) ≡ c ∷ xs
 unfolding strip_bom

@@ -4,7 +4,6 @@ use Rattle.std.proofs.lemmas.List.{drop_all}
 use Rattle.std.specs.List.{flat_map}
 use Rattle.fare_law.specs.declared.rows.TextLine.{TextLine}
 use Rattle.fare_law.specs.Limits.{IsFlightRow, IsPlaceRow, IsSeatRow}
-use Rattle.fare_law.specs.Lists.{Each}
 use Rattle.case_text.specs.declared.contents.Case.{Case}
 use Rattle.case_text.specs.declared.contents.Entry.{Entry}
 use Rattle.case_text.specs.declared.contents.Entry.TheVariants.{Opens, Place, Flight, Seat, Text}
@@ -19,6 +18,7 @@ use Rattle.case_text.specs.Contents.{case_with, added, after_header, end_after, 
 use Rattle.case_text.specs.Entries.{entries, judged, moved, is_over, at_start, case_read, ◌>>=◌}
 use Rattle.case_text.specs.Limits.{HasRows, KeepsLimits}
 use Rattle.case_text.specs.Lines.{shown}
+use Rattle.law_lemmas.proofs.EachOne.{each_more}
 
 -- a case with further entries, each at the end of its section
 abbrev pub joined : Case → List Entry → Case
@@ -80,10 +80,6 @@ added_first before (Flight row) found = rw (append_cons before.flights row (flat
 added_first before (Seat row) found = rw (append_cons before.seats row (flat_map seats_in found)) refl
 added_first before (Text header line) found = line_first before header line found
 
-each_push : {A : Type 0} (P : A → Type 0) (xs : List A) (x : A) → Each P xs → P x → Each P (xs ++ x ∷ [])
-each_push P [] x h p = (p, tt)
-each_push P (y ∷ ys) x h p = (h.0, each_push P ys x h.1 p)
-
 -- a header and a line of a section without rows add no row
 headed_rows : (before : Case) (header : Header) (line : ℕ) → HasRows before → HasRows (after_header before header line)
 headed_rows before Places line h = h
@@ -112,9 +108,9 @@ lined_rows before End line h = h
 -- one entry more, and all rows are still within their limits
 pub rows_added : (before : Case) (entry : Entry) → HasRows before → KeepsLimits entry → HasRows (added before entry)
 rows_added before (Opens header line) h k = headed_rows before header line h
-rows_added before (Place row) h k = record { places = each_push IsPlaceRow before.places row h.places k; flights = h.flights; seats = h.seats }
-rows_added before (Flight row) h k = record { places = h.places; flights = each_push IsFlightRow before.flights row h.flights k; seats = h.seats }
-rows_added before (Seat row) h k = record { places = h.places; flights = h.flights; seats = each_push IsSeatRow before.seats row h.seats k }
+rows_added before (Place row) h k = record { places = each_more IsPlaceRow before.places row h.places k; flights = h.flights; seats = h.seats }
+rows_added before (Flight row) h k = record { places = h.places; flights = each_more IsFlightRow before.flights row h.flights k; seats = h.seats }
+rows_added before (Seat row) h k = record { places = h.places; flights = h.flights; seats = each_more IsSeatRow before.seats row h.seats k }
 rows_added before (Text header line) h k = lined_rows before header line h
 
 -- a case before nothing

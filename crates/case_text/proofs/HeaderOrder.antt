@@ -7,6 +7,8 @@ use Rattle.case_text.specs.declared.headers.Header.TheVariants.{Places, Flights,
 use Rattle.case_text.specs.declared.kinds.CaseKind.{CaseKind}
 use Rattle.case_text.specs.declared.kinds.CaseKind.TheVariants.{Search, Check, Serve, Verdict}
 use Rattle.case_text.specs.Headers.{due, first_of, headers_of, is_named, name_of, next_of}
+use Rattle.law_lemmas.proofs.EachOne.{member_holds}
+use Rattle.law_lemmas.proofs.Options.{some_same}
 
 abbrev pub rank : Header → ℕ
 rank Places = 1
@@ -77,14 +79,6 @@ abbrev pub under_rank : Option Header → ℕ
 under_rank None = 0
 under_rank (Some h) = rank h
 
-in_each : {X : Type 0} (P : X → Type 0) (x : X) (xs : List X) → IsIn x xs → Each P xs → P x
-in_each P x [] i e = absurd i
-in_each P x (y ∷ ys) (inl s) e = subst P (sym s) e.0
-in_each P x (y ∷ ys) (inr i) e = in_each P x ys i e.1
-
-some_same : {A : Type 0} (a b : A) → Some a ≡ Some b → a ≡ b
-some_same a b e = cc
-
 -- the next one of headers in order
 module _ (old : Header) where
   first_later : (h : Header) (hs : List Header) → Each (λ g. rank h < rank g) hs → old ≡ h → (new : Header) → first_of hs ≡ Some new → rank old < rank new
@@ -108,7 +102,7 @@ module _ (old : Header) where
         lower h m s = let e : rank old ≡ rank mid = ap rank (s ∙ sym m) in omega (arith, before)
     first_passes h [] s a (inr m) new e = absurd m
     first_passes h (g ∷ gs) s a (inr (inl m)) new e = let same : rank new ≡ rank mid = ap rank (sym (some_same g new e) ∙ sym m) in omega arith
-    first_passes h (g ∷ gs) s a (inr (inr m)) new e = let lt : rank g < rank mid = in_each (λ x. rank g < rank x) mid gs m a.0 in let same : rank g ≡ rank new = ap rank (some_same g new e) in omega arith
+    first_passes h (g ∷ gs) s a (inr (inr m)) new e = let lt : rank g < rank mid = member_holds (λ x. rank g < rank x) mid gs m a.0 in let same : rank g ≡ rank new = ap rank (some_same g new e) in omega arith
 
     -- the one that is asked for stands first, and the old one after it
     skipped : (h : Header) → mid ≡ h → (hs : List Header) → Each (λ g. rank h < rank g) hs → (new : Header) → next_of old hs ≡ Some new → rank new ≤ rank mid

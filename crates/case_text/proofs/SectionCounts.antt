@@ -24,6 +24,7 @@ use Rattle.case_text.specs.Limits.{HasCounts, HasRows, IsCase, MayAsk}
 use Rattle.case_text.specs.Gives.{Told}
 use Rattle.case_text.specs.Rows.{place_row, flight_row, seat_row}
 use Rattle.case_text.proofs.HeaderOrder.{rank, same_rank, same_named, under_rank, rank_some, due_later, due_asks}
+use Rattle.law_lemmas.proofs.Options.{ok_same}
 
 -- ---- what a line is where it stands
 -- the entry stands in the section of this header
@@ -46,9 +47,6 @@ record Listing (kind : CaseKind) (st : Standing) (entry : Entry) : Type 0 where
   under : st.under ≡ Some header
   is_of : IsOf header entry
   room : has_room (limit kind header) st.count ≡ true
-
-ok_same : {A E : Type 0} (a b : A) → ◌≡◌ {A = Result A E} (Ok a) (Ok b) → a ≡ b
-ok_same a b e = cc
 
 row_is : {A : Type 0} (h : Header) (make : A → Entry) → ((a : A) → IsOf h (make a)) → (l : TextLine) (r : Result A ℕ) (entry : Entry) → row_judged make l r ≡ Ok entry → IsOf h entry
 row_is h make k l (Ok a) entry e = subst (IsOf h) (ok_same (make a) entry e) (k a)

@@ -8,7 +8,7 @@ use Rattle.certificate.proofs.Below.{fare_units}
 use Rattle.residual_keys.proofs.NothingLost.{run_ticket, ticket_run}
 use Rattle.residual_keys.proofs.OneTicket.{ticket_one}
 use Rattle.residual_keys.proofs.RunsBest.{best_tickets}
-use Rattle.certificate.proofs.ListFacts.{each_from, each_map, length_map, map_in, matched_map, matched_right, pairs_map}
+use Rattle.certificate.proofs.ListFacts.{map_in, matched_map, matched_right, pairs_map}
 use Rattle.certificate.proofs.MeetsChecks.{answers_ascend, answers_few, comes_after}
 use Rattle.certificate.proofs.Tickets.{costs_one}
 use Rattle.fare_law.specs.declared.requests.Request.{Request}
@@ -19,6 +19,8 @@ use Rattle.fare_law.specs.Best.{Best, Costs}
 use Rattle.fare_law.specs.Flights.{Ascending}
 use Rattle.residual_keys.specs.Residuals.{RunFromRoot}
 use Rattle.residual_keys.specs.Searches.{BestRuns, Drawn, DrawnBefore, IsDrawn, TicketOf}
+use Rattle.law_lemmas.proofs.EachOne.{each_from, each_map}
+use Rattle.law_lemmas.proofs.Lists.{map_length}
 
 module _ (b : Book) (q : Request) (asc : Ascending b.timetable.flights) (c : Certificate) (of : CertOf b q c) where
   is_drawn : (a : CertAnswer) → IsIn a c.answers → IsDrawn b q (run_of a)
@@ -41,10 +43,10 @@ module _ (b : Book) (q : Request) (asc : Ascending b.timetable.flights) (c : Cer
   best_runs = record {
     ascending = pairs_map run_of DrawnBefore c.answers (answers_ascend b q c of);
     each = each_map run_of (IsDrawn b q) c.answers (each_from (λ a. IsDrawn b q (run_of a)) c.answers is_drawn);
-    few = subst (λ n. n ≤ q.best) (sym (length_map run_of c.answers)) (answers_few b q c of);
+    few = subst (λ n. n ≤ q.best) (sym (map_length run_of c.answers)) (answers_few b q c of);
     rest = λ d run out.
         let k = comes_after b q c of asc d.moves d.price run (λ a i e. out (same_run d run a i e)) in
-        (each_map run_of (λ y. DrawnBefore y d) c.answers k.0, length_map run_of c.answers ∙ k.1);
+        (each_map run_of (λ y. DrawnBefore y d) c.answers k.0, map_length run_of c.answers ∙ k.1);
   }
 
 pub from_runs : (b : Book) (q : Request) → ((ds : List Drawn) → BestRuns b q q.best ds → (ts : List Ticket) × Matched (TicketOf b q) ds ts × Best b q ts) → (c : Certificate) → CertOfRuns b q c → CertOf b q c

@@ -2,29 +2,17 @@
 use Rattle.std.proofs.Common.{◌≡◌, ℕ, suc, ◌+◌, ◌≤◌, ◌<◌, List, [], ◌∷◌, ◌++◌, length, map, sym, refl, ap, subst, inl, inr, arith}
 use Rattle.certificate.specs.InOrder.{AllRight, IfLast}
 use Rattle.fare_law.specs.Lists.{Each, EachPair, IsIn, Matched, OnLast}
+use Rattle.law_lemmas.proofs.Members.{in_middle}
 
 pub each_in : {X : Type 0} (P : X → Type 0) (xs : List X) → Each P xs → (x : X) → IsIn x xs → P x
 each_in P [] h x i = absurd i
 each_in P (y ∷ xs) h x (inl e) = subst P (sym e) h.0
 each_in P (y ∷ xs) h x (inr i) = each_in P xs h.1 x i
 
-pub each_from : {X : Type 0} (P : X → Type 0) (xs : List X) → ((x : X) → IsIn x xs → P x) → Each P xs
-each_from P [] f = tt
-each_from P (x ∷ xs) f = (f x (inl refl), each_from P xs (λ y i. f y (inr i)))
-
-pub each_front : {X : Type 0} (P : X → Type 0) (xs ys : List X) → Each P (xs ++ ys) → Each P xs
-each_front P [] ys h = tt
-each_front P (x ∷ xs) ys h = (h.0, each_front P xs ys h.1)
-
 pub each_last : {X : Type 0} (P : X → Type 0) (xs : List X) → 1 ≤ length xs → Each P xs → OnLast P xs
 each_last P [] le h = absurd (omega arith)
 each_last P (x ∷ []) le h = h.0
 each_last P (x ∷ y ∷ xs) le h = each_last P (y ∷ xs) (omega arith) h.1
-
-pub on_last : {X : Type 0} (P Q : X → Type 0) → ((y : X) → P y → Q y) → (xs : List X) → OnLast P xs → OnLast Q xs
-on_last P Q f [] h = h
-on_last P Q f (y ∷ []) h = f y h
-on_last P Q f (y ∷ z ∷ xs) h = on_last P Q f (z ∷ xs) h
 
 -- from the front: each is right after those before it
 
@@ -52,10 +40,6 @@ all_few Right k n f (x ∷ xs) h le =
 
 -- from element to element: what is before one
 
-pub in_middle : {X : Type 0} (before : List X) (x : X) (after : List X) → IsIn x (before ++ x ∷ after)
-in_middle [] x after = inl refl
-in_middle (y ∷ before) x after = inr (in_middle before x after)
-
 pub is_in : {X : Type 0} (xs before : List X) (x : X) (after : List X) → xs ≡ before ++ x ∷ after → IsIn x xs
 is_in xs before x after e = subst (λ z. IsIn x z) (sym e) (in_middle before x after)
 
@@ -66,10 +50,6 @@ last_of_pairs R (y ∷ z ∷ zs) x after h = last_of_pairs R (z ∷ zs) x after 
 
 pub pair_last : {X : Type 0} (R : X → X → Type 0) (xs before : List X) (x : X) (after : List X) → EachPair R xs → xs ≡ before ++ x ∷ after → IfLast (λ l. R l x) before
 pair_last R xs before x after h e = last_of_pairs R before x after (subst (EachPair R) e h)
-
-pub length_middle : {X : Type 0} (before : List X) (x : X) (after : List X) → length before < length (before ++ x ∷ after)
-length_middle [] x after = omega arith
-length_middle (y ∷ before) x after = omega (arith, length_middle before x after)
 
 -- lists that match
 
@@ -89,12 +69,6 @@ matched_left R [] (z ∷ ys) m y i = absurd m
 matched_left R (x ∷ xs) [] m y i = absurd m
 matched_left R (x ∷ xs) (z ∷ ys) m y (inl e) = (x, inl refl, subst (R x) (sym e) m.0)
 matched_left R (x ∷ xs) (z ∷ ys) m y (inr i) = let r = matched_left R xs ys m.1 y i in (r.0, inr r.1, r.2)
-
-pub matched_length : {X Y : Type 0} (R : X → Y → Type 0) (xs : List X) (ys : List Y) → Matched R xs ys → length ys ≡ length xs
-matched_length R [] [] m = refl
-matched_length R [] (y ∷ ys) m = absurd m
-matched_length R (x ∷ xs) [] m = absurd m
-matched_length R (x ∷ xs) (y ∷ ys) m = ap suc (matched_length R xs ys m.1)
 
 pub matched_each : {X Y : Type 0} (R : X → Y → Type 0) (P : Y → Type 0) → ((x : X) (y : Y) → R x y → P y) → (xs : List X) (ys : List Y) → Matched R xs ys → Each P ys
 matched_each R P f [] [] m = tt
@@ -152,16 +126,8 @@ pairs_map f R [] h = tt
 pairs_map f R (x ∷ []) h = tt
 pairs_map f R (x ∷ y ∷ ys) h = (h.0, pairs_map f R (y ∷ ys) h.1)
 
-pub each_map : {X Y : Type 0} (f : X → Y) (P : Y → Type 0) (xs : List X) → Each (λ x. P (f x)) xs → Each P (map f xs)
-each_map f P [] h = tt
-each_map f P (x ∷ xs) h = (h.0, each_map f P xs h.1)
-
 pub matched_map : {X Y Z : Type 0} (f : X → Y) (R : Y → Z → Type 0) (xs : List X) (zs : List Z) → Matched R (map f xs) zs → Matched (λ x z. R (f x) z) xs zs
 matched_map f R [] [] m = tt
 matched_map f R [] (z ∷ zs) m = absurd m
 matched_map f R (x ∷ xs) [] m = absurd m
 matched_map f R (x ∷ xs) (z ∷ zs) m = (m.0, matched_map f R xs zs m.1)
-
-pub length_map : {X Y : Type 0} (f : X → Y) (xs : List X) → length (map f xs) ≡ length xs
-length_map f [] = refl
-length_map f (x ∷ xs) = ap suc (length_map f xs)

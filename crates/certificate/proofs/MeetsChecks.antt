@@ -11,7 +11,7 @@ use Rattle.residual_keys.proofs.NothingLost.{run_ticket, ticket_run}
 use Rattle.residual_keys.proofs.OneNext.{run_has_keys}
 use Rattle.ticket_order.proofs.Codes.{code_front, codes_joined}
 use Rattle.ticket_order.proofs.Words.{less_cut}
-use Rattle.certificate.proofs.ListFacts.{each_in, each_from, each_front, each_last, is_in, length_middle, matched_back, matched_left, matched_length, matched_pairs, matched_right, matched_turn, pair_last}
+use Rattle.certificate.proofs.ListFacts.{each_in, each_last, is_in, matched_back, matched_left, matched_pairs, matched_right, matched_turn, pair_last}
 use Rattle.certificate.proofs.SearchRows.{bounds_hold, least, rows_hold, run_at, run_more}
 use Rattle.certificate.proofs.Tickets.{below}
 use Rattle.fare_law.specs.declared.moves.Move.{Move}
@@ -26,6 +26,9 @@ use Rattle.fare_law.specs.Parts.{price_of}
 use Rattle.fare_law.specs.Flights.{Ascending}
 use Rattle.residual_keys.specs.Residuals.{State, Run, RunFromRoot, no_part}
 use Rattle.ticket_order.specs.Coding.{Coded}
+use Rattle.law_lemmas.proofs.EachOne.{each_from, each_left}
+use Rattle.law_lemmas.proofs.Lists.{length_middle}
+use Rattle.law_lemmas.proofs.Pairs.{matched_long}
 
 leads_price : (b : Book) (q : Request) (r x : State) (front ms : List Move) (price further : ℕ) → LeadsFor b q r front x price → Run b q x ms further → Run b q r (front ++ ms) (price + further)
 leads_price b q r x [] ms price further h run = subst (λ n. Run b q r ms n) (sums price h.1) (subst (λ z. Run b q z ms further) h.0 run)
@@ -43,7 +46,7 @@ module _ (b : Book) (q : Request) (c : Certificate) (of : CertOf b q c) where
   answers_ascend = matched_pairs (λ t a. AnswerIs b q a t) (Cheaper b q) AnswerBelow (λ t u a d. below b q a d t u) of.tickets c.answers (matched_turn (AnswerIs b q) c.answers of.tickets of.answers) of.best.ascending
 
   pub answers_few : length c.answers ≤ q.best
-  answers_few = omega (arith, of.best.few, matched_length (AnswerIs b q) c.answers of.tickets of.answers)
+  answers_few = omega (arith, of.best.few, matched_long (AnswerIs b q) c.answers of.tickets of.answers)
 
   answers_hold : AnswersHold b q c.answers
   answers_hold before a after split =
@@ -63,7 +66,7 @@ module _ (b : Book) (q : Request) (c : Certificate) (of : CertOf b q c) where
         let e : CertAnswer = record { price = price; moves = ms } in
         let k = of.best.rest t.0 t.1 (λ i. let a = matched_left (AnswerIs b q) c.answers of.tickets of.answers t.0 i in none a.0 a.1 (sym a.2.1 ∙ t.2)) in (
           matched_back (AnswerIs b q) (λ a. AnswerBelow a e) (λ u. Cheaper b q u t.0) (λ a u h w. below b q a e u t.0 h (t.1, t.2, t.3) w) c.answers of.tickets of.answers k.0,
-          sym (matched_length (AnswerIs b q) c.answers of.tickets of.answers) ∙ k.1,
+          sym (matched_long (AnswerIs b q) c.answers of.tickets of.answers) ∙ k.1,
         )
 
     counts_run : (x : State) (m : Move) (last : ℕ) → CountsFor b q c.rows x m last → (rest : List Move) × Run b q x (m ∷ rest) last
@@ -100,7 +103,7 @@ module _ (b : Book) (q : Request) (c : Certificate) (of : CertOf b q c) where
           | inl less ↦ inr (e, less)
           | inr p ↦
               let f = code_front (front ++ m ∷ []) a.moves p.0
-              (each_front Coded (front ++ m ∷ []) rest (subst (Each Coded) (sym (append_assoc front (m ∷ []) rest)) coded))
+              (each_left Coded (front ++ m ∷ []) rest (subst (Each Coded) (sym (append_assoc front (m ∷ []) rest)) coded))
               (answer_coded keys a i) p.1 in
               absurd (d.none_takes a f.0 i (f.1 ∙ append_assoc front (m ∷ []) f.0))
         ]

@@ -1,5 +1,5 @@
 -- The worked case: with a bound up to the least price the certificate meets the checks, and with a greater one the bound check fails.
-use Rattle.std.proofs.Common.{◌≡◌, ℕ, ◌≤◌, ◌<◌, true, false, List, [], ◌∷◌, ◌++◌, length, Some, None, slice_get, sym, refl, ap, ◌∙◌, subst, inl, inr, arith}
+use Rattle.std.proofs.Common.{◌≡◌, ℕ, ◌≤◌, ◌<◌, List, [], ◌∷◌, ◌++◌, Some, None, slice_get, sym, refl, ap, ◌∙◌, subst, inl, inr, arith}
 use Rattle.certificate.specs.AnswerCheck.{AnswerRight, AnswersHold}
 use Rattle.certificate.specs.BoundCheck.{BoundRight, BoundWithin, BoundsHold}
 use Rattle.certificate.specs.Checks.{Checks, FirstFailure}
@@ -8,15 +8,13 @@ use Rattle.certificate.specs.InOrder.{AllRight}
 use Rattle.certificate.specs.OneWay.{flight, one_way_answer, one_way_book, one_way_certificate, one_way_move, one_way_request, one_way_root, one_way_row}
 use Rattle.certificate.specs.RowCheck.{IsRoot, RowRight, RowsHold}
 use Rattle.residual_keys.specs.NothingLost.{RunsAreTickets}
-use Rattle.certificate.proofs.ListFacts.{length_middle}
 use Rattle.certificate.proofs.OneWayMoves.{one_way_piece, only_move, root_move}
 use Rattle.fare_law.specs.declared.moves.Move.{Move}
 use Rattle.flight_paths.specs.declared.positions.Position.{Position}
 use Rattle.flight_paths.specs.Positions.{before_slice}
 use Rattle.residual_keys.specs.Residuals.{Moves, State, no_part}
-
-pub no_middle : {X : Type 0} (before : List X) (x : X) (after : List X) → [] ≡ before ++ x ∷ after → ⊥
-no_middle before x after e = omega (arith, ap length e, length_middle before x after)
+use Rattle.law_lemmas.proofs.Lists.{no_middle}
+use Rattle.law_lemmas.proofs.Tests.{false_true}
 
 -- a list of one has one middle
 single : {X : Type 0} (x : X) (before : List X) (y : X) (after : List X) → x ∷ [] ≡ before ++ y ∷ after → (before ≡ []) × (y ≡ x)
@@ -35,14 +33,11 @@ root_one r h = h.2 ∙ ap (λ z. let x : State = record { at = z; units = []; pa
     same : (at : Position) → Some one_way_root.at ≡ Some at → at ≡ one_way_root.at
     same at e = cc
 
-no_via : false ≡ true → ⊥
-no_via e = cc
-
 pub rows_hold : (bound : ℕ) → RowsHold one_way_book one_way_request (one_way_row bound ∷ [])
 rows_hold bound = (
   one_right (RowRight one_way_book one_way_request) (one_way_row bound) (record {
     greater = tt;
-    fits = record { slice = omega arith; leg = omega arith; via = (λ h. absurd (no_via h), λ e. absurd (omega (arith, e))); range = omega arith; known = omega arith };
+    fits = record { slice = omega arith; leg = omega arith; via = (λ h. absurd (false_true h), λ e. absurd (omega (arith, e))); range = omega arith; known = omega arith };
   }),
   (one_way_row bound, inl refl, (one_way_root.at, starts, refl)),
 )

@@ -4,7 +4,7 @@ use Rattle.certificate.specs.Checks.{FirstFailure}
 use Rattle.certificate.specs.OneWay.{flight, one_way_answer, one_way_book, one_way_certificate, one_way_move, one_way_request, one_way_root, one_way_row}
 use Rattle.certificate.proofs.Below.{fare_units}
 use Rattle.residual_keys.proofs.NothingLost.{run_ticket, ticket_run}
-use Rattle.certificate.proofs.OneWayChecks.{answers_hold, bounds_hold, departures_hold, no_middle, root_one, rows_hold, starts}
+use Rattle.certificate.proofs.OneWayChecks.{answers_hold, bounds_hold, departures_hold, root_one, rows_hold, starts}
 use Rattle.certificate.proofs.OneWayMoves.{one_way_piece, only_move, root_move}
 use Rattle.certificate.proofs.Tickets.{costs_one}
 use Rattle.fare_law.specs.declared.moves.Move.{Move}
@@ -15,6 +15,7 @@ use Rattle.fare_law.specs.Codes.{run_code}
 use Rattle.fare_law.specs.Best.{Before, Costs}
 use Rattle.residual_keys.specs.ResidualOrder.{StateBefore}
 use Rattle.residual_keys.specs.Residuals.{Run, RunFromRoot, no_part}
+use Rattle.law_lemmas.proofs.Lists.{no_middle}
 
 pub no_row : FirstFailure (record (one_way_certificate 20000) { rows = [] }) one_way_book one_way_request 1 0
 no_row = inl (refl, inr ((λ before x after e. absurd (no_middle before x after e)), (λ root. root.1), refl))

@@ -1,4 +1,4 @@
--- No certificate is left out: where none of the checks is the first that fails, they hold.
+-- No certificate is left out: where none of the checks is the first that fails, they hold. Given on to the crates above.
 use Rattle.std.proofs.Common.{◌≡◌, ◌⊎◌, ℕ, zero, suc, ◌<◌, List, [], ◌∷◌, ◌++◌, length, sym, refl, ap, ◌∙◌, subst, inl, inr, arith}
 use Rattle.std.proofs.lemmas.Bool.{cases_eq}
 use Rattle.certificate.specs.declared.parts.CertAnswer.{CertAnswer}
@@ -12,13 +12,13 @@ use Rattle.certificate.specs.InOrder.{AllRight, FirstWrong}
 use Rattle.certificate.specs.RequestCheck.{IsOf, IsOfAnother}
 use Rattle.certificate.specs.RowCheck.{RowRight, RowsFail, RowsHold}
 use Rattle.certificate.proofs.Decided.{front_decided}
-use Rattle.certificate.proofs.ListFacts.{length_middle}
 use Rattle.fare_law.specs.declared.moves.Move.{Move}
 use Rattle.fare_law.specs.declared.requests.Request.{Request}
 use Rattle.fare_law.specs.Book.{Book}
 use Rattle.fare_law.specs.Lists.{Each, IsIn, OnLast}
 use Rattle.fare_law.specs.Codes.{run_code}
 use Rattle.fare_law.specs.Best.{Before}
+use Rattle.law_lemmas.proofs.Lists.{length_middle}
 
 -- lists that are read from the front
 
@@ -29,7 +29,7 @@ all_more Right x xs r all (z ∷ zs) y after e =
     let rest : xs ≡ zs ++ y ∷ after = cc in
     subst (λ w. Right (w ∷ zs) y) same (all zs y after rest)
 
-all_none : {X : Type 0} (Right : List X → X → Type 0) → AllRight Right []
+pub all_none : {X : Type 0} (Right : List X → X → Type 0) → AllRight Right []
 all_none Right before x after e = absurd (omega (arith, ap length e, length_middle before x after))
 
 first_or_all : {X : Type 0} (Right : List X → X → Type 0) (xs : List X) → (AllRight Right xs → ⊥) → ((place : ℕ) → FirstWrong Right xs place → ⊥) → ⊥

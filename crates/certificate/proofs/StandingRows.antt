@@ -1,19 +1,10 @@
 -- Rows by numbers: what they stand for stays while tables grow. Needed by the rows of a certificate. `stood_for` and `one_live` are given on to those above.
-use Rattle.std.proofs.Common.{◌≡◌, ◌∙◌, ℕ, zero, suc, ◌+◌, Bool, true, false, ◌&&◌, List, [], ◌∷◌, ◌++◌, drop, slice_get, Some, refl, sym, ap, ap₂, unwrap_or, arith}
+use Rattle.std.proofs.Common.{◌≡◌, ◌∙◌, ℕ, zero, suc, ◌+◌, Bool, true, false, ◌&&◌, List, [], ◌∷◌, ◌++◌, drop, slice_get, Some, refl, sym, ap, ap₂, arith}
 use Rattle.std.specs.Cmp.Lexicographic.{pointwise}
 use Rattle.certificate.specs.declared.numbered.NumberedRow.{NumberedRow}
 use Rattle.certificate.specs.NumberedRows.{AreLive, bound_of, key_of, row_of, rows_of}
-use Rattle.residual_keys.specs.Residuals.{State}
-use Rattle.residual_table.specs.declared.key.ResidualKey.{ResidualKey}
-use Rattle.residual_table.specs.Keys.{IsLive, KeepsResiduals, StandsFor, Tables, nowhere, residual_at}
-
--- the residual that the key of one gives
-pub stood_for : (t : Tables) (k : ResidualKey) (x : State) → StandsFor t k x → residual_at t k ≡ x
-stood_for t k x s =
-    let at = ap (λ o. unwrap_or o nowhere) s.at in
-    let units = ap (λ o. unwrap_or o []) s.units in
-    let part = s.part in
-    λ j. record { at = at j; units = units j; part = part j }
+use Rattle.residual_table.specs.Keys.{IsLive, KeepsResiduals, Tables}
+use Rattle.residual_table.proofs.KeyFacts.{residual_is}
 
 module _ (old new : Tables) (keeps : KeepsResiduals old new) where
   pub still_live : (rs : List NumberedRow) → AreLive old rs → AreLive new rs
@@ -22,7 +13,7 @@ module _ (old new : Tables) (keeps : KeepsResiduals old new) where
 
   same_row : (r : NumberedRow) → IsLive old (key_of r) → row_of new r ≡ row_of old r
   same_row r l =
-      let at = stood_for new (key_of r) l.0 (keeps (key_of r) l.0 l.1) ∙ sym (stood_for old (key_of r) l.0 l.1) in
+      let at = residual_is new (key_of r) l.0 (keeps (key_of r) l.0 l.1) ∙ sym (residual_is old (key_of r) l.0 l.1) in
       λ j. record { residual = at j; bound = bound_of r }
 
   pub same_rows : (rs : List NumberedRow) → AreLive old rs → rows_of new rs ≡ rows_of old rs

@@ -1,5 +1,5 @@
--- A certificate whose checks hold has the best tickets as its answers.
-use Rattle.std.proofs.Common.{◌≡◌, ℕ, ◌+◌, ◌≤◌, List, [], ◌∷◌, ◌++◌, length, slice_get, Option, Some, None, sym, refl, ap, ◌∙◌, subst, inl, inr, arith, append_assoc}
+-- A certificate whose checks hold has the best tickets as its answers. Given on to the crates above.
+use Rattle.std.proofs.Common.{◌≡◌, ℕ, ◌+◌, ◌≤◌, List, [], ◌∷◌, ◌++◌, length, slice_get, Some, None, sym, refl, ap, ◌∙◌, subst, inl, inr, arith, append_assoc}
 use Rattle.certificate.specs.declared.parts.CertAnswer.{CertAnswer}
 use Rattle.certificate.specs.AnswerCheck.{AnswerIs, AnswerBelow, AnswerRight}
 use Rattle.certificate.specs.BoundCheck.{state_after, BoundRight, EndsHold, StepsHold}
@@ -15,7 +15,7 @@ use Rattle.residual_keys.proofs.OneNext.{moves_one, run_leads}
 use Rattle.residual_keys.proofs.OneTicket.{ticket_one}
 use Rattle.ticket_order.proofs.Codes.{codes_joined}
 use Rattle.ticket_order.proofs.Words.{before_more, before_trans}
-use Rattle.certificate.proofs.ListFacts.{each_in, on_last, all_each, all_pairs, all_few, matched_some, matched_right, matched_length, matched_each, matched_both, matched_pairs}
+use Rattle.certificate.proofs.ListFacts.{each_in, all_each, all_pairs, all_few, matched_some, matched_right, matched_each, matched_both, matched_pairs}
 use Rattle.certificate.proofs.Tickets.{answer_code, cheaper}
 use Rattle.fare_law.specs.declared.flights.Flight.{Flight}
 use Rattle.fare_law.specs.declared.moves.Move.{Move}
@@ -33,6 +33,9 @@ use Rattle.flight_paths.specs.declared.positions.Position.{Position}
 use Rattle.flight_paths.specs.Positions.{before_slice}
 use Rattle.open_unit.specs.declared.units.OpenUnit.{OpenUnit}
 use Rattle.residual_keys.specs.Residuals.{State, no_part, Moves, Run, LeadsFrom}
+use Rattle.law_lemmas.proofs.Ends.{on_last}
+use Rattle.law_lemmas.proofs.Options.{some_one}
+use Rattle.law_lemmas.proofs.Pairs.{matched_long}
 
 -- A row's bound is at most the price of each run from it, and where there is a run it has one.
 lower : (b : Book) (q : Request) (rows : List CertRow) → Each (EndsHold b q) rows → Each (StepsHold b q rows) rows → (ms : List Move) (row : CertRow) (price : ℕ) → IsIn row rows → Run b q row.residual ms price
@@ -59,10 +62,7 @@ leads_push b q r x [] price m fs p at us h mv = go r h.0
 leads_push b q r x (k ∷ ms) price m fs p at us (gs, p', at', us', rest, mv', h, e) mv =
     (gs, p', at', us', rest + price_of fs p, mv', leads_push b q (state_after r k p' at' us') x ms rest m fs p at us h mv, omega (arith, e))
 
-some_one : {X : Type 0} (o : Option X) (x y : X) → o ≡ Some x → o ≡ Some y → x ≡ y
-some_one o x y h k = cc
-
-root_same : (b : Book) (q : Request) (r s : State) → IsRoot b q r → IsRoot b q s → r ≡ s
+pub root_same : (b : Book) (q : Request) (r s : State) → IsRoot b q r → IsRoot b q s → r ≡ s
 root_same b q r s h k = h.2 ∙ ap (λ z. let x : State = record { at = z; units = []; part = no_part } in x) (some_one (before_slice b 0 (slice_get q.slices 0) None) h.0 k.0 h.1 k.1) ∙ sym k.2
 
 -- What the checks say of the rows and the answers, with the answers' tickets.
@@ -159,7 +159,7 @@ module _ (b : Book) (q : Request) (rows : List CertRow) (answers : List CertAnsw
   told_best = record {
     ascending = matched_pairs (AnswerIs b q) AnswerBelow (Cheaper b q) (cheaper b q) answers tickets c.right c.ascending;
     each = matched_each (AnswerIs b q) (λ t. Lawful t b q) (λ a t h. h.0) answers tickets c.right;
-    few = subst (λ n. n ≤ q.best) (sym (matched_length (AnswerIs b q) answers tickets c.right)) c.few;
+    few = subst (λ n. n ≤ q.best) (sym (matched_long (AnswerIs b q) answers tickets c.right)) c.few;
     rest = λ t law out.
         let run = ticket_run fare_units b q t law in
         let root : State = record { at = run.1.0; units = []; part = no_part } in
@@ -170,7 +170,7 @@ module _ (b : Book) (q : Request) (rows : List CertRow) (answers : List CertAnsw
           matched_both (AnswerIs b q) (λ a. Before a.price (run_code a.moves) run.0 (code t)) (λ u. Cheaper b q u t)
               (λ a u h l. (a.price, run.0, h.2, run.2, subst (λ z. Before a.price z run.0 (code t)) (sym (answer_code b q a u h)) l))
               answers tickets c.right (after_each run.0 (code t) answers c.ascending w),
-          matched_length (AnswerIs b q) answers tickets c.right ∙ d.0,
+          matched_long (AnswerIs b q) answers tickets c.right ∙ d.0,
         );
   }
     where

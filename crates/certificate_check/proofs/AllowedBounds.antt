@@ -14,13 +14,12 @@ use Rattle.flight_paths.specs.declared.positions.Position.{Position}
 use Rattle.graph_walk.specs.declared.outcome.Outcome.{Outcome}
 use Rattle.graph_walk.specs.Steps.{AreOutcomes, outcomes_of}
 use Rattle.open_unit.specs.declared.units.OpenUnit.{OpenUnit}
-use Rattle.residual_keys.specs.declared.residual.Next.TheVariants.{At, Done}
 use Rattle.residual_keys.specs.Residuals.{Moves, State, begins, part_with}
 use Rattle.residual_keys.specs.Steps.{left_at}
-use Rattle.residual_keys.proofs.LeastOne.{in_each, weaken}
 use Rattle.residual_table.specs.declared.key.ResidualKey.{ResidualKey}
 use Rattle.search_steps.specs.Leads.{leads_of, next_of}
-use Rattle.search_steps.proofs.Bridge.{move_ends, move_on}
+use Rattle.search_steps.proofs.Bridge.{move_ends, move_on, not_at, not_done, same_at}
+use Rattle.law_lemmas.proofs.EachOne.{each_member, each_weaker}
 
 within_more : (row : CertRow) (price more : ℕ) → price ≤ more → BoundWithin row price → BoundWithin row more
 within_more row price more le h = let l = h.2 in (h.0, h.1, omega (arith, l, le))
@@ -28,15 +27,6 @@ within_more row price more le h = let l = h.2 in (h.0, h.1, omega (arith, l, le)
 allows_more : (rows : List CertRow) (row : CertRow) (left : Option State) (price more : ℕ) → price ≤ more → Allows rows row left price → Allows rows row left more
 allows_more rows row None price more le h = within_more row price more le h
 allows_more rows row (Some x) price more le h = (h.0, h.1, h.2, λ further f. within_more row (price + further) (more + further) (omega (arith, le)) (h.3 further f))
-
-not_at : (x : State) → Done ≡ At x → ⊥
-not_at x e = cc
-
-not_done : (x : State) → At x ≡ Done → ⊥
-not_done x e = cc
-
-same_at : (x y : State) → At x ≡ At y → x ≡ y
-same_at x y e = cc
 
 module _ (b : Book) (q : Request) (rows : List CertRow) (row : CertRow) where
   pub allowed_right : (before : List CertRow) → IsAllowed b q rows row → BoundRight b q rows before row
@@ -61,10 +51,10 @@ module _ (b : Book) (q : Request) (rows : List CertRow) (row : CertRow) where
   pub each_allowed : (os : List (Outcome State)) → AreOutcomes (leads_of b q) row.residual os → Each (λ o. Allows rows row o.next o.price) os → IsAllowed b q rows row
   each_allowed os are h left price l =
       let c = are.covered left price l in
-      allows_more rows row left c.0.price price c.3 (subst (λ n. Allows rows row n c.0.price) c.2 (in_each (λ o. Allows rows row o.next o.price) c.0 os h c.1))
+      allows_more rows row left c.0.price price c.3 (subst (λ n. Allows rows row n c.0.price) c.2 (each_member (λ o. Allows rows row o.next o.price) c.0 os h c.1))
 
   pub allowed_each : (os : List (Outcome State)) → AreOutcomes (leads_of b q) row.residual os → IsAllowed b q rows row → Each (λ o. Allows rows row o.next o.price) os
-  allowed_each os are h = weaken (λ o. leads_of b q row.residual o.next o.price) (λ o. Allows rows row o.next o.price) (λ o l. h o.next o.price l) os are.attained
+  allowed_each os are h = each_weaker (λ o. leads_of b q row.residual o.next o.price) (λ o. Allows rows row o.next o.price) (λ o l. h o.next o.price l) os are.attained
 
 -- what the outcomes of a row's key tell
 pub allowed_told : (state : ResidualKey → State) (b c : Book) (q r : Request) (rows : List CertRow) (row : CertRow) (x : State) (os ps : List (Outcome ResidualKey)) (result : Bool) → c ≡ b → r ≡ q → x ≡ row.residual → ps ≡ os

@@ -10,9 +10,7 @@ use Rattle.fare_law.specs.Lists.{AllDifferent}
 use Rattle.graph_walk.specs.Steps.{AreLive, TellsStates, rows_of}
 use Rattle.residual_keys.specs.Residuals.{State}
 use Rattle.residual_table.specs.declared.key.ResidualKey.{ResidualKey}
-
-some_bound : (a b : ℕ) → Some a ≡ Some b → a ≡ b
-some_bound a b e = cc
+use Rattle.law_lemmas.proofs.Options.{some_same}
 
 none_bound : (b : ℕ) → None ≡ Some b → ⊥
 none_bound b e = cc
@@ -23,7 +21,7 @@ module _ (live : ResidualKey → Type 0) (state : ResidualKey → State) (same :
   allows_told further price result n l f told =
       let r = found live state same tells es rows key (Some further) alive are l f in
       subst (λ z. IsTrue result ↔ Allows rows row (option_map state z) price) (sym n) (
-        λ t. (r.0, r.1, r.2, λ more e. subst (λ z. BoundWithin row (price + z)) (some_bound further more (sym r.3 ∙ e)) (told.0 t)),
+        λ t. (r.0, r.1, r.2, λ more e. subst (λ z. BoundWithin row (price + z)) (some_same further more (sym r.3 ∙ e)) (told.0 t)),
         λ h. told.1 (h.3 further (ap (λ z. z.bound) (one_row rows differ_all h.0 r.0 h.1 r.1 (h.2 ∙ sym r.2)) ∙ r.3)),
       )
 

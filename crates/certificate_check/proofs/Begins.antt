@@ -7,6 +7,7 @@ use Rattle.certificate_check.specs.Fronts.{CountsBeginning}
 use Rattle.certificate_check.proofs.FromFront.{split_at}
 use Rattle.fare_law.specs.declared.moves.Move.{Move}
 use Rattle.fare_law.specs.Lists.{OnLast}
+use Rattle.law_lemmas.proofs.Options.{some_same}
 
 pub front_taken : (front ms : List Move) (m : Move) (rest : List Move) → ms ≡ front ++ m ∷ rest → take (length front) ms ≡ front
 front_taken [] ms m rest e = refl
@@ -25,11 +26,6 @@ pub some_at : {X : Type 0} (xs : List X) (i : ℕ) → i < length xs → (x : X)
 some_at [] i lt = absurd (omega (arith, lt))
 some_at (y ∷ ys) zero lt = (y, refl)
 some_at (y ∷ ys) (suc i) lt = some_at ys i (omega (arith, lt))
-
-pub got_at : {X : Type 0} (xs : List X) (i : ℕ) (x : X) → i < length xs → x ≡ get_or xs i x → slice_get xs i ≡ Some x
-got_at [] i x lt is = absurd (omega (arith, lt))
-got_at (y ∷ ys) zero x lt is = ap (λ z. Some z) (sym is)
-got_at (y ∷ ys) (suc i) x lt is = got_at ys i x (omega (arith, lt)) is
 
 -- the test of the first moves tells
 pub begins_told : (a : CertAnswer) (ms front : List Move) (result : Bool) → ms ≡ a.moves → length front < length ms → IsTrue result ↔ (take (length front) ms ≡ front) → IsTrue result ↔ BeginsWith a front
@@ -52,18 +48,15 @@ count_none front (a ∷ xs) x n (inr (never, c)) other = inr (never, count_none 
 
 -- the last of a list
 
-same_item : {X : Type 0} (x y : X) → Some x ≡ Some y → x ≡ y
-same_item x y e = cc
-
 shift : (i : ℕ) → suc (suc i) - 1 ≡ suc (suc i - 1)
 shift i = omega arith
 
 pub if_last : {X : Type 0} (P : X → Type 0) (xs : List X) (x : X) → slice_get xs (length xs - 1) ≡ Some x → IfLast P xs ↔ P x
 if_last P [] x e = absurd (cc)
-if_last P (y ∷ []) x e = (λ h. subst P (same_item y x e) h, λ h. subst P (sym (same_item y x e)) h)
+if_last P (y ∷ []) x e = (λ h. subst P (some_same y x e) h, λ h. subst P (sym (some_same y x e)) h)
 if_last P (y ∷ z ∷ zs) x e = if_last P (z ∷ zs) x (sym (ap (slice_get (y ∷ z ∷ zs)) (shift (length zs))) ∙ e)
 
 pub on_last_is : {X : Type 0} (P : X → Type 0) (xs : List X) (x : X) → slice_get xs (length xs - 1) ≡ Some x → OnLast P xs ↔ P x
 on_last_is P [] x e = absurd (cc)
-on_last_is P (y ∷ []) x e = (λ h. subst P (same_item y x e) h, λ h. subst P (sym (same_item y x e)) h)
+on_last_is P (y ∷ []) x e = (λ h. subst P (some_same y x e) h, λ h. subst P (sym (some_same y x e)) h)
 on_last_is P (y ∷ z ∷ zs) x e = on_last_is P (z ∷ zs) x (sym (ap (slice_get (y ∷ z ∷ zs)) (shift (length zs))) ∙ e)

@@ -6,16 +6,17 @@ use Rattle.certificate.specs.declared.parts.CertRow.{CertRow}
 use Rattle.certificate.specs.InOrder.{AllRight, FirstWrong, IfLast}
 use Rattle.certificate.specs.NumberedRows as Numbered
 use Rattle.certificate.specs.NumberedRows.{bound_of, key_of}
-use Rattle.certificate.proofs.StandingRows.{stood_for}
 use Rattle.certificate_check.specs.Tables.{HasRows, entries_of, row_as}
 use Rattle.certificate_check.proofs.EachSoFar.{got_again}
-use Rattle.certificate_check.proofs.FromFront.{all_push, split_at, take_length, take_next}
+use Rattle.certificate_check.proofs.FromFront.{all_push, split_at, take_length}
 use Rattle.certificate_check.proofs.RowTables.{Entry}
 use Rattle.open_unit.specs.declared.marks.CarrierMark.TheVariants.{NotYet}
 use Rattle.graph_walk.specs.Steps.{AreLive, rows_of}
 use Rattle.residual_table.specs.declared.key.ResidualKey.{ResidualKey}
 use Rattle.residual_table.specs.Keys.{IsLive, StandsFor, Tables, residual_at}
 use Rattle.search_steps.specs.declared.steps.SearchSteps.{SearchSteps}
+use Rattle.law_lemmas.proofs.Lists.{front_is, map_length}
+use Rattle.residual_table.proofs.KeyFacts.{residual_is}
 
 -- the entries of rows have the rows
 entries_live : (t : Tables) (ns : List NumberedRow) → Numbered.AreLive t ns → AreLive (IsLive t) (entries_of ns)
@@ -51,18 +52,14 @@ last_mapped f P (x ∷ y ∷ ys) = last_mapped f P (y ∷ ys)
 
 -- a live key stands for its residual
 pub stands : (t : Tables) (k : ResidualKey) → IsLive t k → StandsFor t k (residual_at t k)
-stands t k l = subst (StandsFor t k) (sym (stood_for t k l.0 l.1)) l.1
-
-pub as_long : {X Y : Type 0} (f : X → Y) (xs : List X) → length (map f xs) ≡ length xs
-as_long f [] = refl
-as_long f (x ∷ xs) = ap suc (as_long f xs)
+stands t k l = subst (StandsFor t k) (sym (residual_is t k l.0 l.1)) l.1
 
 module _ {X Y : Type 0} (f : X → Y) (Right : List Y → Y → Type 0) (xs : List X) (i : ℕ) where
   -- one more is right
   pub all_mapped : (d : X) → i < length xs → AllRight Right (map f (take i xs)) → Right (map f (take i xs)) (f (get_or xs i d)) → AllRight Right (map f (take (i + 1) xs))
   all_mapped d h all r =
       let x = get_or xs i d in
-      subst (AllRight Right) (sym (ap (map f) (take_next xs i x h (got_again xs i d h)) ∙ map-append f (take i xs) (x ∷ []))) (all_push Right (map f (take i xs)) (f x) all r)
+      subst (AllRight Right) (sym (ap (map f) (front_is xs i x h (got_again xs i d h)) ∙ map-append f (take i xs) (x ∷ []))) (all_push Right (map f (take i xs)) (f x) all r)
 
   -- this is the first that is wrong
   pub wrong_mapped : (d : X) → i < length xs → AllRight Right (map f (take i xs)) → (Right (map f (take i xs)) (f (get_or xs i d)) → ⊥) → FirstWrong Right (map f xs) (i + 1)
@@ -72,7 +69,7 @@ module _ {X Y : Type 0} (f : X → Y) (Right : List Y → Y → Type 0) (xs : Li
         wrong = f x;
         after = map f (drop (suc i) xs);
         whole = ap (map f) (split_at xs i x h (got_again xs i d h)) ∙ map-append f (take i xs) (x ∷ drop (suc i) xs);
-        counted = let l = take_length xs i (omega (arith, h)) in let m = as_long f (take i xs) in omega (arith, l, m);
+        counted = let l = take_length xs i (omega (arith, h)) in let m = map_length f (take i xs) in omega (arith, l, m);
         earlier = all;
         fails = denied;
       }

@@ -1,16 +1,14 @@
 -- Lists that are read from the front, each element by itself.
 use Rattle.std.proofs.Common.{◌≡◌, ℕ, zero, suc, ◌+◌, ◌≤◌, ◌<◌, List, [], ◌∷◌, ◌++◌, ◌⊎◌, take, length, get_or, refl, sym, subst, inl, inr, arith}
-use Rattle.certificate_check.proofs.FromFront.{take_next, take_whole}
+use Rattle.certificate_check.proofs.FromFront.{take_whole}
 use Rattle.fare_law.specs.Lists.{Each, IsIn}
 use Rattle.graph_walk.specs.declared.outcome.Outcome.{Outcome}
 use Rattle.graph_walk.specs.Steps.{outcome_of, outcomes_of}
-
-pub each_push : {X : Type 0} (P : X → Type 0) (xs : List X) (x : X) → Each P xs → P x → Each P (xs ++ x ∷ [])
-each_push P [] x h p = (p, tt)
-each_push P (y ∷ ys) x h p = (h.0, each_push P ys x h.1 p)
+use Rattle.law_lemmas.proofs.EachOne.{each_more}
+use Rattle.law_lemmas.proofs.Lists.{front_is}
 
 pub each_next : {X : Type 0} (P : X → Type 0) (xs : List X) (i : ℕ) (x : X) → i < length xs → x ≡ get_or xs i x → Each P (take i xs) → P x → Each P (take (i + 1) xs)
-each_next P xs i x lt is h p = subst (Each P) (sym (take_next xs i x lt is)) (each_push P (take i xs) x h p)
+each_next P xs i x lt is h p = subst (Each P) (sym (front_is xs i x lt is)) (each_more P (take i xs) x h p)
 
 pub got_again : {X : Type 0} (xs : List X) (i : ℕ) (d : X) → i < length xs → get_or xs i d ≡ get_or xs i (get_or xs i d)
 got_again [] i d lt = absurd (omega (arith, lt))
@@ -21,11 +19,6 @@ got_again (x ∷ xs) (suc i) d lt = got_again xs i d (omega (arith, lt))
 pub each_got : {X : Type 0} (P : X → Type 0) (xs : List X) (i : ℕ) (d : X) → i < length xs → Each P (take i xs) → P (get_or xs i d) → Each P (take (i + 1) xs)
 each_got P xs i d lt h p = each_next P xs i (get_or xs i d) lt (got_again xs i d lt) h p
 
-pub got_in : {X : Type 0} (P : X → Type 0) (xs : List X) (i : ℕ) (d : X) → i < length xs → Each P xs → P (get_or xs i d)
-got_in P [] i d lt h = absurd (omega (arith, lt))
-got_in P (x ∷ xs) zero d lt h = h.0
-got_in P (x ∷ xs) (suc i) d lt h = got_in P xs i d (omega (arith, lt)) h.1
-
 pub each_done : {X : Type 0} (P : X → Type 0) (xs : List X) (i : ℕ) → length xs ≤ i → Each P (take i xs) → Each P xs
 each_done P xs i le h = subst (Each P) (take_whole xs i le) h
 
@@ -35,7 +28,7 @@ in_at (y ∷ ys) zero x lt is = inl is
 in_at (y ∷ ys) (suc i) x lt is = inr (in_at ys i x (omega (arith, lt)) is)
 
 pub in_next : {X : Type 0} (xs : List X) (i : ℕ) (x y : X) → i < length xs → x ≡ get_or xs i x → IsIn y (take (i + 1) xs) → IsIn y (take i xs) ⊎ (y ≡ x)
-in_next xs i x y lt is h = last_or (take i xs) (subst (IsIn y) (take_next xs i x lt is) h)
+in_next xs i x y lt is h = last_or (take i xs) (subst (IsIn y) (front_is xs i x lt is) h)
   where
     last_or : (zs : List _) → IsIn y (zs ++ x ∷ []) → IsIn y zs ⊎ (y ≡ x)
     last_or [] (inl e) = inr e

@@ -14,15 +14,17 @@ use Rattle.fare_law.specs.Lists.{AllDifferent, EachPair, IsIn}
 use Rattle.graph_walk.specs.Steps.{AreLive, TellsStates, rows_of}
 use Rattle.residual_keys.specs.ResidualOrder.{IsStrictOrder, StateBefore}
 use Rattle.residual_keys.specs.Residuals.{State}
-use Rattle.residual_keys.proofs.LeastOne.{below_all, pairs_rest, weaken}
+use Rattle.residual_keys.proofs.LeastOne.{below_all, pairs_rest}
 use Rattle.residual_table.specs.declared.key.ResidualKey.{ResidualKey}
 use Rattle.search_steps.specs.LeastMoves.{BoundBy}
+use Rattle.law_lemmas.proofs.EachOne.{each_weaker}
+use Rattle.law_lemmas.proofs.Options.{some_same}
 
 -- what stands in a strict order differs
 all_differ : (xs : List State) → IsStrictOrder StateBefore → EachPair StateBefore xs → AllDifferent xs
 all_differ [] order h = tt
 all_differ (x ∷ xs) order h = (
-  weaken (StateBefore x) (λ y. x ≢ y) (λ y r e. order.never x (subst (StateBefore x) (sym e) r)) xs (below_all StateBefore order.trans x xs h),
+  each_weaker (StateBefore x) (λ y. x ≢ y) (λ y r e. order.never x (subst (StateBefore x) (sym e) r)) xs (below_all StateBefore order.trans x xs h),
   all_differ xs order (pairs_rest StateBefore x xs h),
 )
 
@@ -33,9 +35,6 @@ rows_differ order b q rows h =
 
 no_some : (b : ℕ) → None ≡ Some b → ⊥
 no_some b e = cc
-
-some_one : (a b : ℕ) → Some a ≡ Some b → a ≡ b
-some_one a b e = cc
 
 -- the key of a row
 key_there : (live : ResidualKey → Type 0) (state : ResidualKey → State) (es : List (ResidualKey × Option ℕ)) (rows : List CertRow) → AreLive live es → rows_of state es ≡ map row_as rows → (row : CertRow) → IsIn row rows
@@ -76,4 +75,4 @@ module _ (live : ResidualKey → Type 0) (state : ResidualKey → State) (same :
   one_bound x m n h k =
       let r = (bounds_are x m).0 h in
       let s = (bounds_are x n).0 k in
-      some_one m n (sym r.3 ∙ ap (λ z. z.bound) (one_row rows differ_all r.0 s.0 r.1 s.1 (r.2 ∙ sym s.2)) ∙ s.3)
+      some_same m n (sym r.3 ∙ ap (λ z. z.bound) (one_row rows differ_all r.0 s.0 r.1 s.1 (r.2 ∙ sym s.2)) ∙ s.3)

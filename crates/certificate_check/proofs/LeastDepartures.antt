@@ -14,60 +14,41 @@ use Rattle.fare_law.specs.declared.tickets.Piece.{Piece}
 use Rattle.fare_law.specs.Best.{Before}
 use Rattle.fare_law.specs.Book.{Book}
 use Rattle.fare_law.specs.Codes.{move_code, run_code}
-use Rattle.fare_law.specs.Lists.{AllDifferent, Each, EachPair, IsIn, KLeast, OnLast}
+use Rattle.fare_law.specs.Lists.{AllDifferent, Each, EachPair, IsIn, KLeast}
 use Rattle.fare_law.specs.Parts.{price_of}
 use Rattle.flight_paths.specs.declared.positions.Position.{Position}
-use Rattle.flight_paths.specs.Positions.{before_slice}
 use Rattle.open_unit.specs.declared.units.OpenUnit.{OpenUnit}
-use Rattle.residual_keys.specs.declared.residual.Next.TheVariants.{At, Done}
-use Rattle.residual_keys.specs.Residuals.{Moves, State, begins, no_part, part_with}
+use Rattle.residual_keys.specs.Residuals.{Moves, State, begins, part_with}
 use Rattle.residual_keys.specs.Steps.{left_at}
-use Rattle.residual_keys.proofs.LeastOne.{below_all, in_each, pairs_rest}
-use Rattle.residual_keys.proofs.OneNext.{moves_one, some_one}
+use Rattle.residual_keys.proofs.LeastOne.{below_all, pairs_rest}
+use Rattle.residual_keys.proofs.OneNext.{moves_one}
 use Rattle.search_steps.specs.declared.least.LeastMove.{LeastMove}
 use Rattle.search_steps.specs.Leads.{next_of}
 use Rattle.search_steps.specs.LeastMoves.{Counts, IsSooner, RestIs}
 use Rattle.ticket_order.proofs.Codes.{codes_joined}
 use Rattle.ticket_order.proofs.Words.{before_never, before_second, before_total, before_trans}
-
-not_at : (x : State) → Done ≡ At x → ⊥
-not_at x e = cc
-
-not_done : (x : State) → At x ≡ Done → ⊥
-not_done x e = cc
-
-same_at : (x y : State) → At x ≡ At y → x ≡ y
-same_at x y e = cc
-
-some_position : (at at' : Position) → Some at ≡ Some at' → at ≡ at'
-some_position at at' e = cc
+use Rattle.certificate.proofs.YesIsBest.{root_same}
+use Rattle.flight_paths.proofs.Skipping.{some_same}
+use Rattle.law_lemmas.proofs.EachOne.{each_member}
+use Rattle.law_lemmas.proofs.Ends.{on_last}
+use Rattle.law_lemmas.proofs.Lists.{append_none}
+use Rattle.law_lemmas.proofs.Members.{in_middle}
+use Rattle.search_steps.proofs.Bridge.{not_at, not_done, same_at}
 
 -- the state and the price to which moves lead are one
 pub leads_one : (b : Book) (q : Request) (ms : List Move) (r x y : State) (price other : ℕ) → LeadsFor b q r ms x price → LeadsFor b q r ms y other → (x ≡ y) × (price ≡ other)
 leads_one b q [] r x y price other h k = (h.0 ∙ sym k.0, h.1 ∙ sym k.1)
 leads_one b q (m ∷ ms) r x y price other (fs, p, at, us, rest, mv, h, e) (gs, p', at', us', rest', mv', k, f) =
     let o = moves_one b q r m fs gs p p' (Some at) (Some at') us us' mv mv' in
-    let a = some_position at at' o.2 in
+    let a = some_same at at' o.2 in
     let s : state_after r m p' at' us' ≡ state_after r m p at us = λ i. record { at = sym a i; units = sym o.3 i; part = part_with r.part (begins m.role) (sym o.1 i) } in
     let w = leads_one b q ms (state_after r m p at us) x y rest rest' h (subst (λ z. LeadsFor b q z ms y rest') s k) in
     let c : price_of fs p ≡ price_of gs p' = ap (λ z. price_of z p) o.0 ∙ ap (price_of gs) o.1 in
     let d = w.1 in
     (w.0, omega (arith, e, f, c, d))
 
-pub root_one : (b : Book) (q : Request) (r s : State) → IsRoot b q r → IsRoot b q s → r ≡ s
-root_one b q r s h k = h.2 ∙ ap (λ z. let x : State = record { at = z; units = []; part = no_part } in x) (some_one (before_slice b 0 _ None) h.0 k.0 h.1 k.1) ∙ sym k.2
-
-append_none : (w : List ℕ) → w ++ [] ≡ w
-append_none [] = refl
-append_none (n ∷ w) = ap (λ z. n ∷ z) (append_none w)
-
 code_more : (front : List Move) (m : Move) → run_code (front ++ m ∷ []) ≡ run_code front ++ move_code m
 code_more front m = codes_joined front (m ∷ []) ∙ ap (λ z. run_code front ++ z) (append_none (move_code m))
-
-on_last : {X : Type 0} (P Q : X → Type 0) → ((y : X) → P y → Q y) → (xs : List X) → OnLast P xs → OnLast Q xs
-on_last P Q f [] h = h
-on_last P Q f (y ∷ []) h = f y h
-on_last P Q f (y ∷ z ∷ xs) h = on_last P Q f (z ∷ xs) h
 
 -- what comes no sooner than what comes after comes after
 after_more : (q : Request) (answers : List CertAnswer) (front : List Move) (m n : Move) (price total other : ℕ) → ComesAfter q answers (front ++ m ∷ []) (price + total)
@@ -86,10 +67,6 @@ after_more q answers front m n price total other h (inr (t, c)) = (
       (λ a w. subst (λ z. Before a.price (run_code a.moves) (price + z) (run_code (front ++ n ∷ []))) t (subst (λ z. Before a.price (run_code a.moves) (price + total) z) (code_more front m ∙ ap (λ z. run_code front ++ z) c ∙ sym (code_more front n)) w))
       answers h.1,
 )
-
-in_middle : {X : Type 0} (before : List X) (x : X) (after : List X) → IsIn x (before ++ x ∷ after)
-in_middle [] x after = inl refl
-in_middle (y ∷ before) x after = inr (in_middle before x after)
 
 pairs_drop : {X : Type 0} (R : X → X → Type 0) (before : List X) (x : X) (after : List X) → EachPair R (before ++ x ∷ after) → EachPair R (x ∷ after)
 pairs_drop R [] x after h = h
@@ -171,7 +148,7 @@ module _ (b : Book) (q : Request) (rows : List CertRow) (Bound : State → ℕ �
     -- each departure is a move that counts here
     counted : (m : Move) (least : ℕ) → Departs b q rows answers front m least → (lm : LeastMove State) × Counts b q Bound x lm × (lm.mv ≡ m) × (least ≡ price + lm.total)
     counted m least d =
-        let r = root_one b q root d.root is_root d.is_root in
+        let r = root_same b q root d.root is_root d.is_root in
         let o = leads_one b q front root x d.there price d.price leads (subst (λ z. LeadsFor b q z front d.there d.price) (sym r) d.leads) in
         let c = counts_more x m d.last (subst (λ z. CountsFor b q rows z m d.last) (sym o.0) d.counts) in
         let w = d.whole in
@@ -186,7 +163,7 @@ module _ (b : Book) (q : Request) (rows : List CertRow) (Bound : State → ℕ �
     all_taken n ms c k t m least d =
         let lm = counted m least d in
         let few = few_taken answers front n ms c (moves_differ x ms k.each k.ascending) t in
-        let many = (k.rest lm.0 lm.1 (λ i. not_taken m lm.0.mv d.none_takes lm.2 (in_each (λ z. IsTaken answers front z.mv) lm.0 ms t i))).1 in
+        let many = (k.rest lm.0 lm.1 (λ i. not_taken m lm.0.mv d.none_takes lm.2 (each_member (λ z. IsTaken answers front z.mv) lm.0 ms t i))).1 in
         absurd (omega (arith, few, many))
 
     pub least_holds : (wanted : ℕ) (ms : List (LeastMove State)) (u : LeastMove State) → KLeast (Counts b q Bound x) IsSooner wanted ms → UntakenFirst answers front ms u
@@ -207,10 +184,10 @@ module _ (b : Book) (q : Request) (rows : List CertRow) (Bound : State → ℕ �
 
         out : (l : LeastMove State) → (IsTaken answers front l.mv → ⊥) → IsSooner l u → IsIn l ms → ⊥
         out l denied s i = elim (split_in l f.before u f.after (subst (IsIn l) f.whole i)) [
-          | inl j ↦ denied (in_each (λ z. IsTaken answers front z.mv) l f.before f.taken j)
+          | inl j ↦ denied (each_member (λ z. IsTaken answers front z.mv) l f.before f.taken j)
           | inr o ↦ elim o [
             | inl e ↦ never u (subst (λ z. IsSooner z u) e s)
-            | inr j ↦ never l (sooner_trans l u l s (in_each (IsSooner u) l f.after (below_all IsSooner sooner_trans u f.after onwards) j))
+            | inr j ↦ never l (sooner_trans l u l s (each_member (IsSooner u) l f.after (below_all IsSooner sooner_trans u f.after onwards) j))
           ]
         ]
 
@@ -219,7 +196,7 @@ module _ (b : Book) (q : Request) (rows : List CertRow) (Bound : State → ℕ �
           | inl s ↦ inl s
           | inr o ↦ elim o [
             | inl e ↦ inr e
-            | inr s ↦ absurd (never u (sooner_trans u l u (in_each (λ y. IsSooner y l) u ms (k.rest l c (out l denied s)).0 there) s))
+            | inr s ↦ absurd (never u (sooner_trans u l u (each_member (λ y. IsSooner y l) u ms (k.rest l c (out l denied s)).0 there) s))
           ]
         ]
 
@@ -237,7 +214,7 @@ module _ (b : Book) (q : Request) (rows : List CertRow) (Bound : State → ℕ �
         leads = leads;
         is_front = is_front;
         none_takes = λ a rest i e. f.untaken (a, i, (rest, e));
-        counts = counts_for x u (in_each (Counts b q Bound x) u ms k.each (subst (IsIn u) (sym f.whole) (in_middle f.before u f.after)));
+        counts = counts_for x u (each_member (Counts b q Bound x) u ms k.each (subst (IsIn u) (sym f.whole) (in_middle f.before u f.after)));
         whole = refl;
       };
       fails = denied;

@@ -14,24 +14,22 @@ use Rattle.open_unit.specs.declared.units.OpenUnit.{OpenUnit}
 use Rattle.residual_keys.specs.Residuals.{Moves, State, closes}
 use Rattle.residual_keys.proofs.OneNext.{direction, filed_ends, first_one, last_one}
 use Rattle.residual_keys.proofs.Runs.{flies_numbers}
+use Rattle.law_lemmas.proofs.Options.{some_same}
 
 some_flight : (o : Option Flight) (f g : Flight) → o ≡ Some f → o ≡ Some g → f ≡ g
 some_flight o f g h k = cc
-
-some_number : (m n : ℕ) → Some m ≡ Some n → m ≡ n
-some_number m n e = cc
 
 first_is : (b : Book) (ns : List ℕ) (fs : List Flight) (n : ℕ) (f : Flight) → Numbers b ns fs → slice_get ns 0 ≡ Some n → slice_get b.timetable.flights n ≡ Some f → OnFirst (λ g. g ≡ f) fs
 first_is b [] [] n f h e s = cc
 first_is b [] (g ∷ fs) n f h e s = absurd h
 first_is b (m ∷ ns) [] n f h e s = absurd h
-first_is b (m ∷ ns) (g ∷ fs) n f h e s = some_flight (slice_get b.timetable.flights m) g f h.0 (ap (slice_get b.timetable.flights) (some_number m n e) ∙ s)
+first_is b (m ∷ ns) (g ∷ fs) n f h e s = some_flight (slice_get b.timetable.flights m) g f h.0 (ap (slice_get b.timetable.flights) (some_same m n e) ∙ s)
 
 last_is : (b : Book) (ns : List ℕ) (fs : List Flight) (n : ℕ) (f : Flight) → Numbers b ns fs → slice_get ns (length ns - 1) ≡ Some n → slice_get b.timetable.flights n ≡ Some f → OnLast (λ g. g ≡ f) fs
 last_is b [] [] n f h e s = cc
 last_is b [] (g ∷ fs) n f h e s = absurd h
 last_is b (m ∷ ns) [] n f h e s = absurd h
-last_is b (m ∷ []) (g ∷ []) n f h e s = some_flight (slice_get b.timetable.flights m) g f h.0 (ap (slice_get b.timetable.flights) (some_number m n e) ∙ s)
+last_is b (m ∷ []) (g ∷ []) n f h e s = some_flight (slice_get b.timetable.flights m) g f h.0 (ap (slice_get b.timetable.flights) (some_same m n e) ∙ s)
 last_is b (m ∷ []) (g ∷ k ∷ fs) n f h e s = absurd h.1
 last_is b (m ∷ l ∷ ns) (g ∷ []) n f h e s = absurd h.1
 last_is b (m ∷ l ∷ ns) (g ∷ k ∷ fs) n f h e s = last_is b (l ∷ ns) (k ∷ fs) n f h.1 (sym (ap (slice_get (m ∷ l ∷ ns)) (shift (length ns))) ∙ e) s

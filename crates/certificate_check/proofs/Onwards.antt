@@ -16,6 +16,8 @@ use Rattle.residual_keys.specs.Residuals.{Moves, State, begins, part_with}
 use Rattle.residual_keys.specs.Steps.{StepsTo, left_at}
 use Rattle.search_steps.specs.Leads.{state_of}
 use Rattle.residual_keys.proofs.OneNext.{moves_one}
+use Rattle.law_lemmas.proofs.Options.{some_same}
+use Rattle.search_steps.proofs.Bridge.{not_at, not_done, same_at}
 
 -- The move leads from the one state to the other, at this price.
 pub record GoesOn (b : Book) (q : Request) (x : State) (m : Move) (y : State) (price : ℕ) : Type 0 where
@@ -26,18 +28,6 @@ pub record GoesOn (b : Book) (q : Request) (x : State) (m : Move) (y : State) (p
   pub moves : Moves b q x m flights piece (Some at) units
   pub left : y ≡ state_after x m piece at units
   pub costs : price ≡ price_of flights piece
-
-not_done : (x : State) → At x ≡ Done → ⊥
-not_done x e = cc
-
-not_at : (x : State) → Done ≡ At x → ⊥
-not_at x e = cc
-
-same_at : (x y : State) → At x ≡ At y → x ≡ y
-same_at x y e = cc
-
-some_price : (m n : ℕ) → Some m ≡ Some n → m ≡ n
-some_price m n e = cc
 
 no_price : (m : ℕ) → None ≡ Some m → ⊥
 no_price m e = cc
@@ -54,7 +44,7 @@ goes_to b q x m y price (cost, h) told = by h.after h.moves h.left
       units = h.units;
       moves = mv;
       left = same_at y _ e;
-      costs = some_price price (price_of h.flights h.piece) (told q x h.flights h.piece (Some at) h.units mv);
+      costs = some_same price (price_of h.flights h.piece) (told q x h.flights h.piece (Some at) h.units mv);
     }
 
 pub steps_on : (b : Book) (q : Request) (x : State) (m : Move) (y : State) (price : ℕ) → GoesOn b q x m y price → StepsTo b q x m (At y)

@@ -5,37 +5,7 @@ use Rattle.certificate_check.specs.Fronts.{CountsBeginning, IsTaken, TakenByAny}
 use Rattle.fare_law.specs.declared.moves.Move.{Move}
 use Rattle.fare_law.specs.Lists.{AllDifferent, Each, IsIn}
 use Rattle.search_steps.specs.declared.least.LeastMove.{LeastMove}
-
--- the others of these, without x
-record Others {X : Type 0} (x : X) (ys : List X) : Type 0 where
-  pub rest : List X
-  pub many : length ys ≡ suc (length rest)
-  pub among : (z : X) → IsIn z ys → x ≢ z → IsIn z rest
-
-take_out : {X : Type 0} (x : X) (ys : List X) → IsIn x ys → Others x ys
-take_out x [] i = absurd i
-take_out x (y ∷ ys) (inl e) = record { rest = ys; many = refl; among = among }
-  where
-    among : (z : _) → IsIn z (y ∷ ys) → x ≢ z → IsIn z ys
-    among z (inl f) ne = absurd (ne (e ∙ sym f))
-    among z (inr j) ne = j
-take_out x (y ∷ ys) (inr i) = let r = take_out x ys i in record { rest = y ∷ r.rest; many = ap suc r.many; among = among r }
-  where
-    among : (r : Others x ys) (z : _) → IsIn z (y ∷ ys) → x ≢ z → IsIn z (y ∷ r.rest)
-    among r z (inl f) ne = inl f
-    among r z (inr j) ne = inr (r.among z j ne)
-
-both_in : {X : Type 0} (x : X) (ys rest : List X) (xs : List X) → ((z : X) → IsIn z ys → x ≢ z → IsIn z rest) → Each (λ z. IsIn z ys) xs → Each (λ z. x ≢ z) xs → Each (λ z. IsIn z rest) xs
-both_in x ys rest [] to h k = tt
-both_in x ys rest (z ∷ xs) to h k = (to z h.0 k.0, both_in x ys rest xs to h.1 k.1)
-
--- different elements of a list are no more than it has
-no_more : {X : Type 0} (xs ys : List X) → AllDifferent xs → Each (λ x. IsIn x ys) xs → length xs ≤ length ys
-no_more [] ys d h = omega arith
-no_more (x ∷ xs) ys d h =
-    let o = take_out x ys h.0 in
-    let n = no_more xs o.rest d.1 (both_in x ys o.rest xs o.among h.1 d.0) in
-    omega (arith, n, o.many)
+use Rattle.residual_keys.proofs.Sizes.{no_more}
 
 same_after : (front : List Move) (m n : Move) (rest more : List Move) → front ++ m ∷ rest ≡ front ++ n ∷ more → m ≡ n
 same_after [] m n rest more e = cc

@@ -6,23 +6,21 @@ use Rattle.certificate.specs.declared.parts.CertAnswer.{CertAnswer}
 use Rattle.certificate.specs.declared.parts.CertRow.{CertRow}
 use Rattle.certificate.specs.DepartureCheck.{BeginsWith, ComesAfter, Departs, DeparturesFail, DeparturesHold, FrontAt, IsFront, LeadsFor}
 use Rattle.certificate_check.specs.Fronts.{AnswerFails, AnswerHolds, FrontFails, FrontHolds, IsHad, LeadsTo}
-use Rattle.certificate_check.proofs.LeastDepartures.{root_one}
 use Rattle.certificate_check.proofs.Onwards.{GoesOn}
 use Rattle.certificate_check.proofs.Begins.{front_shorter, front_taken, some_at}
 use Rattle.certificate_check.proofs.EachSoFar.{in_at}
-use Rattle.certificate_check.proofs.FromFront.{split_at, take_next}
+use Rattle.certificate_check.proofs.FromFront.{split_at}
 use Rattle.fare_law.specs.declared.moves.Move.{Move}
 use Rattle.fare_law.specs.declared.requests.Request.{Request}
 use Rattle.fare_law.specs.Book.{Book}
 use Rattle.fare_law.specs.Lists.{Each, IsIn}
 use Rattle.fare_law.specs.Parts.{price_of}
-use Rattle.flight_paths.specs.declared.positions.Position.{Position}
 use Rattle.residual_keys.specs.Residuals.{Moves, State, begins, part_with}
-use Rattle.residual_keys.proofs.LeastOne.{in_each}
 use Rattle.residual_keys.proofs.OneNext.{moves_one}
-
-some_position : (at at' : Position) → Some at ≡ Some at' → at ≡ at'
-some_position at at' e = cc
+use Rattle.certificate.proofs.YesIsBest.{root_same}
+use Rattle.flight_paths.proofs.Skipping.{some_same}
+use Rattle.law_lemmas.proofs.EachOne.{each_member}
+use Rattle.law_lemmas.proofs.Lists.{front_is}
 
 -- one move more
 leads_push : (b : Book) (q : Request) (ms : List Move) (r x y : State) (price more : ℕ) (m : Move) → LeadsFor b q r ms x price → GoesOn b q x m y more → LeadsFor b q r (ms ++ m ∷ []) y (price + more)
@@ -34,7 +32,7 @@ leads_push b q (k ∷ ms) r x y price more m (fs, p, at, us, rest, mv, h, e) g =
     (fs, p, at, us, rest + more, mv, leads_push b q ms (state_after r k p at us) x y rest more m h g, omega (arith, e))
 
 pub leads_next : (b : Book) (q : Request) (ms : List Move) (k : ℕ) (x y : State) (price more : ℕ) (m : Move) → k < length ms → m ≡ get_or ms k m → LeadsTo b q (take k ms) x price → GoesOn b q x m y more → LeadsTo b q (take (k + 1) ms) y (price + more)
-leads_next b q ms k x y price more m lt is h g = (h.0, h.1, subst (λ z. LeadsFor b q h.0 z y (price + more)) (sym (take_next ms k m lt is)) (leads_push b q (take k ms) h.0 x y price more m h.2 g))
+leads_next b q ms k x y price more m lt is h g = (h.0, h.1, subst (λ z. LeadsFor b q h.0 z y (price + more)) (sym (front_is ms k m lt is)) (leads_push b q (take k ms) h.0 x y price more m h.2 g))
 
 -- where a move doesn't go on, no longer front leads on
 stops_from : (b : Book) (q : Request) (ms : List Move) (k n : ℕ) (r x y : State) (price other : ℕ) (m : Move) → k < length ms → m ≡ get_or ms k m → LeadsFor b q r (take k ms) x price → ((z : State) (c : ℕ) → GoesOn b q x m z c → ⊥)
@@ -46,7 +44,7 @@ stops_from b q (z ∷ zs) zero (suc n) r x y price other m lt is h denied more (
 stops_from b q (z ∷ zs) (suc k) zero r x y price other m lt is h denied more l = omega (arith, more)
 stops_from b q (z ∷ zs) (suc k) (suc n) r x y price other m lt is (fs, p, at, us, rest, mv, h, e) denied more (gs, p', at', us', rest', mv', l, f) =
     let o = moves_one b q r z fs gs p p' (Some at) (Some at') us us' mv mv' in
-    let a = some_position at at' o.2 in
+    let a = some_same at at' o.2 in
     let s : state_after r z p' at' us' ≡ state_after r z p at us = λ i. record { at = sym a i; units = sym o.3 i; part = part_with r.part (begins z.role) (sym o.1 i) } in
     stops_from b q zs k n (state_after r z p at us) x y rest rest' m (omega (arith, lt)) is h denied (omega (arith, more)) (subst (λ w. LeadsFor b q w (take n zs) y rest') s l)
 
@@ -86,7 +84,7 @@ answer_false b c q r rows answers a result eb eq so h =
 module _ (b : Book) (q : Request) (rows : List CertRow) (answers : List CertAnswer) where
   pub stops : (ms : List Move) (k n : ℕ) (x : State) (price : ℕ) (m : Move) → k < length ms → m ≡ get_or ms k m → LeadsTo b q (take k ms) x price → ((z : State) (c : ℕ) → GoesOn b q x m z c → ⊥) → k < n → FrontHolds b q rows answers (take n ms)
   stops ms k n x price m lt is h denied more mv least d =
-      absurd (stops_from b q ms k n h.0 x d.there price d.price m lt is h.2 denied more (subst (λ z. LeadsFor b q z (take n ms) d.there d.price) (root_one b q d.root h.0 d.is_root h.1) d.leads))
+      absurd (stops_from b q ms k n h.0 x d.there price d.price m lt is h.2 denied more (subst (λ z. LeadsFor b q z (take n ms) d.there d.price) (root_same b q d.root h.0 d.is_root h.1) d.leads))
 
   some_long : (front : List Move) → front ≢ [] → 1 ≤ length front
   some_long [] ne = absurd (ne refl)
@@ -140,7 +138,7 @@ module _ (b : Book) (q : Request) (rows : List CertRow) (answers : List CertAnsw
   fails_there a ms n e le lt f = record { front = take n ms; some = take_some ms n le lt; begins = begins_moves a ms n e lt; fails = f }
 
   pub had_holds : (i : ℕ) (front : List Move) → 1 ≤ length front → Each (AnswerHolds b q rows answers) (take i answers) → IsHad (take i answers) front → FrontHolds b q rows answers front
-  had_holds i front le all (a, j, begins) = in_each (AnswerHolds b q rows answers) a (take i answers) all j front (λ e. let l = ap length e in omega (arith, le, l)) begins
+  had_holds i front le all (a, j, begins) = each_member (AnswerHolds b q rows answers) a (take i answers) all j front (λ e. let l = ap length e in omega (arith, le, l)) begins
 
   pub root_fails : FrontFails b q rows answers [] → DeparturesFail b q rows answers 0
   root_fails f = record { front = []; move = f.move; least = f.least; departs = f.departs; at = inl (refl, refl); fails = f.fails; earlier = λ front m price place d at lt. absurd (omega (arith, lt)) }
@@ -151,7 +149,7 @@ module _ (b : Book) (q : Request) (rows : List CertRow) (answers : List CertAnsw
       by : (front : List Move) → Departs b q rows answers front m least → IsFront answers front → ComesAfter q answers (front ++ m ∷ []) least
       by [] d f = root m least d
       by (k ∷ front) d (inl e) = absurd (cc)
-      by (k ∷ front) d (inr (a, i, begins)) = in_each (AnswerHolds b q rows answers) a answers all i (k ∷ front) (λ e. cc) begins m least d
+      by (k ∷ front) d (inr (a, i, begins)) = each_member (AnswerHolds b q rows answers) a answers all i (k ∷ front) (λ e. cc) begins m least d
 
   middle_taken : (xs before : List CertAnswer) (a : CertAnswer) (after : List CertAnswer) (i : ℕ) → xs ≡ before ++ a ∷ after → length before < i → IsIn a (take i xs)
   middle_taken xs before a after zero e lt = absurd (omega (arith, lt))
@@ -184,4 +182,4 @@ module _ (b : Book) (q : Request) (rows : List CertRow) (answers : List CertAnsw
       earlier : (front : List Move) (m : Move) (price place : ℕ) → Departs b q rows answers front m price → FrontAt answers front place → place < i + 1 → ComesAfter q answers (front ++ m ∷ []) price
       earlier front m price place d (inl (e, z)) below = subst (FrontHolds b q rows answers) (sym e) root m price d
       earlier front m price place d (inr (ne, before, c, after, whole, none, begins, counted)) below =
-          in_each (AnswerHolds b q rows answers) c (take i answers) all (middle_taken answers before c after i whole (omega (arith, counted, below))) front ne begins m price d
+          each_member (AnswerHolds b q rows answers) c (take i answers) all (middle_taken answers before c after i whole (omega (arith, counted, below))) front ne begins m price d

@@ -9,7 +9,7 @@ use Rattle.certificate_text.specs.Lines.{IsAnswer, IsRow, answer_line, row_line}
 use Rattle.certificate_text.specs.Readings.{IsOfCert, IsRead, NoFault, OneCertificate, OneFault}
 use Rattle.certificate_text.specs.Unread.{Unread, Text, Numbered, TakesAll, IsOver}
 use Rattle.certificate_text.proofs.JsonFeeds.{request_free}
-use Rattle.certificate_text.proofs.LineFeeds.{each_append, free_answer, free_known, free_more, free_number, free_row}
+use Rattle.certificate_text.proofs.LineFeeds.{free_answer, free_known, free_more, free_number, free_row}
 use Rattle.certificate_text.proofs.LineWords.{Numbers}
 use Rattle.certificate_text.proofs.OneReading.{Whole, no_fault, one_fault, whole_one}
 use Rattle.certificate_text.proofs.SameLines.{OneResidual, certificate_leads, certificate_same}
@@ -18,6 +18,7 @@ use Rattle.fare_law.specs.Lists.{Each}
 use Rattle.residual_keys.proofs.WordFacts.{Words}
 use Rattle.word_text.specs.Laws.{LastCutTells}
 use Rattle.word_text.specs.Words.{IsFreeOf}
+use Rattle.law_lemmas.proofs.EachOne.{each_append}
 
 listed_free : {X : Type 0} (Is : X → Type 0) (f : X → List ℕ) → ((x : X) → Is x → IsFreeOf 10 (f x)) → (xs : List X) → Each Is xs → Each (IsFreeOf 10) (map f xs)
 listed_free Is f free [] h = tt

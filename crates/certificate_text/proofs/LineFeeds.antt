@@ -7,7 +7,7 @@ use Rattle.std.proofs.lemmas.Bool.Decides.{nat_tests}
 use Rattle.certificate.specs.declared.parts.CertAnswer.{CertAnswer}
 use Rattle.certificate.specs.declared.parts.CertRow.{CertRow}
 use Rattle.certificate_text.specs.Lines.{spaced, number_line, move_words, answer_line, bound_word, row_line, IsMove, IsAnswer, IsRow}
-use Rattle.certificate_text.proofs.LineWords.{both, free_each, role_small}
+use Rattle.certificate_text.proofs.LineWords.{role_small}
 use Rattle.fare_law.specs.declared.moves.Move.{Move}
 use Rattle.fare_law.specs.Lists.{Each}
 use Rattle.fare_law.specs.Codes.{role_code}
@@ -18,17 +18,15 @@ use Rattle.residual_keys.specs.declared.parts.TicketPart.{TicketPart}
 use Rattle.residual_keys.specs.Kept.{PartKept}
 use Rattle.residual_keys.specs.Residuals.{State}
 use Rattle.residual_keys.specs.ResidualText.{AreCarriers, IsNamed, IsWritten, carriers_word, position_words, part_text, residual_text, residual_words, unit_text, units_text}
-use Rattle.residual_keys.proofs.WordFacts.{Separates, Words, free_carriers, free_decimal, free_joined, free_place, free_unit, free_via}
+use Rattle.residual_keys.proofs.WordFacts.{Separates, Words, free_carriers, free_decimal, free_joined, free_place, free_unit, free_via, free_each}
 use Rattle.word_text.specs.Words.{IsFreeOf}
+use Rattle.law_lemmas.proofs.EachOne.{each_append}
+use Rattle.law_lemmas.proofs.Tests.{both_true}
 
 pub line_feed : Separates 10
 line_feed = record { digit = λ b h e. omega (arith, h, e); capital = λ b h e. omega (arith, h, e); dash = λ e. omega (arith, e); star = λ e. omega (arith, e) }
 
 -- ---- pieces of a line
-
-pub each_append : {X : Type 0} (P : X → Type 0) (xs ys : List X) → Each P xs → Each P ys → Each P (xs ++ ys)
-each_append P [] ys h k = k
-each_append P (x ∷ xs) ys h k = (h.0, each_append P xs ys h.1 k)
 
 pub free_more : (xs ys : List ℕ) → IsFreeOf 10 xs → IsFreeOf 10 ys → IsFreeOf 10 (xs ++ ys)
 free_more [] ys h k = k
@@ -40,7 +38,7 @@ other_byte b e = grind (arith, nat_tests)
 -- bytes that are known
 pub free_known : (xs : List ℕ) → list_all (λ b. not (b == 10)) xs ≡ true → IsFreeOf 10 xs
 free_known [] e = tt
-free_known (x ∷ xs) e = let h = both (not (x == 10)) (list_all (λ b. not (b == 10)) xs) e in (other_byte x h.0, free_known xs h.1)
+free_known (x ∷ xs) e = let h = both_true (not (x == 10)) (list_all (λ b. not (b == 10)) xs) e in (other_byte x h.0, free_known xs h.1)
 
 pub free_spaced : (ws : List (List ℕ)) → Each (IsFreeOf 10) ws → IsFreeOf 10 (spaced ws)
 free_spaced [] h = tt

@@ -7,13 +7,14 @@ use Rattle.certificate.specs.declared.parts.CertAnswer.{CertAnswer}
 use Rattle.certificate.specs.declared.parts.CertRow.{CertRow}
 use Rattle.certificate_text.specs.LineReading.{after_label, word_at, bound_in, moves_in, answer_in}
 use Rattle.certificate_text.specs.Lines.{spaced, move_words, answer_line, bound_word, IsAnswer, SpellsAnswer, SpellsRow}
-use Rattle.certificate_text.proofs.LineWords.{Numbers, digits_free, from_step, bound_again, bound_read, bound_free}
+use Rattle.certificate_text.proofs.LineWords.{Numbers, digits_free, bound_again, bound_read, bound_free}
 use Rattle.certificate_text.proofs.MoveLemmas.{moves_again, moves_read, spaced_ends}
 use Rattle.certificate_text.proofs.WordLemmas.{label_again, label_read, word_again, word_read}
 use Rattle.residual_keys.specs.ResidualText.{Spells, residual_text}
 use Rattle.residual_keys.specs.Residuals.{State}
 use Rattle.word_text.specs.Laws.{LastCutTells}
 use Rattle.word_text.specs.Words.{cut_last_at, number_in}
+use Rattle.law_lemmas.proofs.Options.{from_step}
 
 pub answer_again : Numbers → (a : CertAnswer) → IsAnswer a → answer_in (answer_line a) ≡ Some a
 unfolding answer_in

@@ -4,7 +4,7 @@ use Rattle.std.specs.Fmt.{decimal}
 use Rattle.std.proofs.lemmas.Option.{same_Some}
 use Rattle.certificate_text.specs.LineReading.{word_at, role_in, flights_in, count_in, move_in, moves_in}
 use Rattle.certificate_text.specs.Lines.{spaced, move_words, IsMove}
-use Rattle.certificate_text.proofs.LineWords.{Numbers, digits_free, names_free, carrier_again, basis_again, carrier_read, basis_read, from_step, role_again, role_small, role_read}
+use Rattle.certificate_text.proofs.LineWords.{Numbers, digits_free, names_free, basis_read, role_again, role_small, role_read}
 use Rattle.certificate_text.proofs.WordLemmas.{Ends, word_again, word_read}
 use Rattle.fare_law.specs.declared.moves.Move.{Move}
 use Rattle.fare_law.specs.declared.moves.Role.{Role}
@@ -14,6 +14,9 @@ use Rattle.fare_law.specs.Lists.{Each}
 use Rattle.fare_law.specs.Codes.{role_code}
 use Rattle.name_text.specs.Names.{basis_of, carrier_of}
 use Rattle.word_text.specs.Words.{number_in}
+use Rattle.law_lemmas.proofs.Options.{from_step}
+use Rattle.name_text.proofs.TextLemmas.{basis_again, carrier_again}
+use Rattle.residual_keys.proofs.WordsAgain.{carrier_read}
 
 -- what follows the words of moves begins with a space, or is nothing
 pub spaced_ends : (ws : List (List ℕ)) → Ends (spaced ws)

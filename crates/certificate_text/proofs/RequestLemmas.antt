@@ -1,5 +1,5 @@
 -- The text of a request is one, and read as it.
-use Rattle.std.proofs.Common.{◌≡◌, ◌↔◌, ℕ, ℤ, List, [], ◌∷◌, Option, Some, None, Result, Ok, refl, ap, ap₂, sym, ◌∙◌, subst}
+use Rattle.std.proofs.Common.{◌≡◌, ◌↔◌, ℕ, ℤ, List, [], ◌∷◌, Option, Some, None, Ok, refl, ap, ap₂, sym, ◌∙◌, subst}
 use Rattle.std.specs.Prelude.{codes}
 use Rattle.std.proofs.lemmas.Option.{same_Some}
 use Rattle.serde_json.specs.Data.{Data, Items, no_items, item, array}
@@ -14,6 +14,7 @@ use Rattle.market_time.specs.Dates.{day_spelled}
 use Rattle.request_text.specs.declared.fault.RequestFault.{RequestFault}
 use Rattle.request_text.specs.Reading.{request_of}
 use Rattle.request_text.specs.Text.{request_members, slice_members, WritesSlices, WritesRequest, Writes}
+use Rattle.law_lemmas.proofs.Options.{ok_same}
 
 abbrev pub OneDate : Type 0
 OneDate = (one other : List ℕ) (day : ℤ) → day_spelled one ≡ Some day → day_spelled other ≡ Some day → one ≡ other
@@ -34,9 +35,6 @@ one_written k q d e h g =
 
 one_text : OneDate → (q : Request) (t u : List ℕ) → Writes q t → Writes q u → t ≡ u
 one_text k q t u h g = h.compact ∙ ap compact_text (one_written k q h.json g.json h.request g.request) ∙ sym g.compact
-
-pub same_ok : {A E : Type 0} (x y : A) → ◌≡◌ {A = Result A E} (Ok x) (Ok y) → x ≡ y
-same_ok x y e = cc
 
 spelled_text : (line : List ℕ) (q : Request) (s : SpellsRequest line q) → after_label (codes "request ") line ≡ Some s.text
 spelled_text line q s = ap (after_label (codes "request ")) s.written ∙ label_again (codes "request ") s.text
@@ -62,7 +60,7 @@ pub other_text : OneDate → (line text written : List ℕ) (request : Request) 
     → (written ≡ text → ⊥) → RequestIs line None
 other_text k line text written request e read writes other = none_is line (λ q s.
     let h = read_as line text e q s in
-    let same : q ≡ request = same_ok {E = RequestFault} q request (sym h.1 ∙ read) in
+    let same : q ≡ request = ok_same {E = RequestFault} q request (sym h.1 ∙ read) in
     let compact : Writes request text = subst (λ (x : Request). Writes x text) same (subst (Writes q) h.0 s.request.compact) in
     other (one_text k request written text writes compact))
 
@@ -77,5 +75,5 @@ whole_request line text written request e read is writes same q = (
         request = record { compact = subst (Writes request) same writes; read = read };
         written = label_read (codes "request ") line text e;
       }),
-  λ s. ap Some (same_ok {E = RequestFault} request q (sym read ∙ (read_as line text e q s).1)),
+  λ s. ap Some (ok_same {E = RequestFault} request q (sym read ∙ (read_as line text e q s).1)),
 )

@@ -12,7 +12,6 @@ use Rattle.certificate_text.specs.Lines.{IsAnswer, IsRow, answer_line, bound_wor
 use Rattle.certificate_text.proofs.LineLemmas.{answer_again, row_parts}
 use Rattle.certificate_text.proofs.LineWords.{Numbers, bound_again, number_again}
 use Rattle.certificate_text.proofs.ListLemmas.{DueAfter}
-use Rattle.certificate_text.proofs.RequestLemmas.{same_ok}
 use Rattle.certificate_text.proofs.WordLemmas.{label_again}
 use Rattle.fare_law.specs.Lists.{Each}
 use Rattle.request_text.specs.declared.fault.RequestFault.{RequestFault}
@@ -20,6 +19,7 @@ use Rattle.request_text.specs.Reading.{request_of}
 use Rattle.residual_keys.specs.Residuals.{State}
 use Rattle.residual_keys.specs.ResidualText.{IsWritten, residual_text}
 use Rattle.word_text.specs.Laws.{LastCutTells}
+use Rattle.law_lemmas.proofs.Options.{ok_same}
 
 abbrev pub OneResidual : Type 0
 OneResidual = (x y : State) → IsWritten x → IsWritten y → residual_text x ≡ residual_text y → x ≡ y
@@ -61,7 +61,7 @@ certificate_same cuts one k c d request other h g q r e =
     let line : ℕ → List (List ℕ) → List ℕ = λ n ls. get_or ls n [] in
     let number = number_same k (codes "version") c.number d.number h.number g.number (ap (line 1) e) in
     let text : request ≡ other = same_Some request other (sym (label_again (codes "request ") request) ∙ ap (λ ls. after_label (codes "request ") (line 2 ls)) e ∙ label_again (codes "request ") other) in
-    let asked = same_ok {E = RequestFault} c.request d.request (sym q.read ∙ ap request_of text ∙ r.read) in
+    let asked = ok_same {E = RequestFault} c.request d.request (sym q.read ∙ ap request_of text ∙ r.read) in
     let many = number_same k (codes "answers") (length c.answers) (length d.answers) h.answer_count g.answer_count (ap (line 3) e) in
     let answers = listed_same IsAnswer answer_line (answer_same k) c.answers d.answers _ _ h.answers g.answers many (ap (drop 4) e) in
     let count = number_same k (codes "rows") (length c.rows) (length d.rows) h.row_count g.row_count (ap (line 0) answers.1) in

@@ -1,19 +1,16 @@
 -- Labels and words at the front of a text.
 use Rattle.std.proofs.Common.{ap₂, length-append, inl, inr, ◌≡◌, ◌≢◌, ◌≤◌, ◌<◌, ◌+◌, ◌-◌, ◌⊎◌, ◌==◌, ℕ, zero, suc, Bool, true, false, List, [], ◌∷◌, ◌++◌, length, take, drop, get_or, Option, Some, None, option_map, option_and_then, if◌then◌else◌, refl, ap, sym, ◌∙◌, subst, arith, eq-eqb, ne_eqb, append_assoc, append-nil, add-one, drop-cons, length-drop}
-use Rattle.std.proofs.lemmas.Bool.Decides.{nat_tests}
 use Rattle.std.proofs.lemmas.List.{take_all, take-append-drop}
 use Rattle.std.proofs.lemmas.Option.{same_Some}
 use Rattle.fare_law.specs.declared.moves.Move.{Move}
 use Rattle.certificate_text.specs.LineReading.{after_label, before_space, word_at, flights_in, move_in, moves_in}
 use Rattle.word_text.specs.Words.{IsFreeOf, number_in}
+use Rattle.law_lemmas.proofs.Tests.{same_byte}
 
 pub label_again : (label rest : List ℕ) → after_label label (label ++ rest) ≡ Some rest
 unfolding after_label
 label_again [] rest = refl
 label_again (c ∷ label) rest = rw (eq-eqb c c refl) (label_again label rest)
-
-same_byte : (b c : ℕ) → (b == c) ≡ true → b ≡ c
-same_byte b c e = grind (arith, nat_tests)
 
 label_step : (b c : ℕ) (label text rest : List ℕ) (t : Bool) (o : Option (List ℕ)) → (b == c) ≡ t → (o ≡ Some rest → text ≡ label ++ rest)
     → (if t then o else None) ≡ Some rest → b ∷ text ≡ c ∷ (label ++ rest)

@@ -5,15 +5,11 @@ use Rattle.cheap_moves.specs.declared.component.Onward.{Onward}
 use Rattle.cheap_moves.specs.Making.{IsComponent, IsFareMove, Of}
 use Rattle.cheap_moves.specs.Within.{IsWithin}
 use Rattle.cheap_moves.proofs.Joining.{differs_before, of_more}
-use Rattle.cheap_moves.proofs.Looking.{got_lt}
 use Rattle.fare_groups.specs.declared.group.FareGroup.{FareGroup}
 use Rattle.fare_groups.specs.declared.group.GroupKey.{GroupKey}
 use Rattle.fare_groups.specs.declared.group.GroupedFare.{GroupedFare}
 use Rattle.fare_groups.specs.Grouping.{AreFares, IsGroup, IsRowOf}
-use Rattle.fare_groups.proofs.Grouped.{each_in}
 use Rattle.fare_groups.proofs.OneGroup.{fares_are_rows}
-use Rattle.fare_law.specs.declared.fares.FareKind.{FareKind}
-use Rattle.fare_law.specs.declared.fares.FareKind.TheVariants.{O, R, S}
 use Rattle.fare_law.specs.declared.flights.Flight.{Flight}
 use Rattle.fare_law.specs.declared.moves.Move.{Move}
 use Rattle.fare_law.specs.declared.requests.Request.{Request}
@@ -31,22 +27,25 @@ use Rattle.residual_keys.specs.declared.residual.Chosen.{Chosen}
 use Rattle.residual_keys.specs.Gathered.{Adds}
 use Rattle.residual_keys.specs.Residuals.{State}
 use Rattle.residual_keys.proofs.Adding.{adds_one}
-use Rattle.residual_keys.proofs.LeastOne.{weaken}
-use Rattle.residual_keys.proofs.OneNext.{some_one}
-use Rattle.residual_keys.proofs.Sheeted.{got_in, places_apart}
+use Rattle.residual_keys.proofs.Sheeted.{places_apart}
+use Rattle.law_lemmas.proofs.EachOne.{each_in, each_weaker}
+use Rattle.law_lemmas.proofs.LawFacts.{low_share}
+use Rattle.law_lemmas.proofs.Lists.{got_within}
+use Rattle.law_lemmas.proofs.Members.{got_in}
+use Rattle.law_lemmas.proofs.Options.{some_one}
 
 -- the fares of a group stand at different places
 later_places : (key : GroupKey) (place : ℕ) (rows : List SheetRow) (fares : List GroupedFare) → AreFares key place rows fares → Each (λ n. place ≤ n) (map (λ (f : GroupedFare). f.place) fares)
 later_places key place [] fares h = subst (λ fs. Each (λ n. place ≤ n) (map (λ (f : GroupedFare). f.place) fs)) (sym h) tt
 later_places key place (row ∷ rows) fares (inl (k, (more, is, rest))) = subst (λ fs. Each (λ n. place ≤ n) (map (λ (f : GroupedFare). f.place) fs)) (sym is)
-    (itself place, weaken (λ n. suc place ≤ n) (λ n. place ≤ n) (λ n le. before place n le) (map (λ (f : GroupedFare). f.place) more) (later_places key (suc place) rows more rest))
+    (itself place, each_weaker (λ n. suc place ≤ n) (λ n. place ≤ n) (λ n le. before place n le) (map (λ (f : GroupedFare). f.place) more) (later_places key (suc place) rows more rest))
   where
     itself : (n : ℕ) → n ≤ n
     itself n = omega arith
 
     before : (m n : ℕ) → suc m ≤ n → m ≤ n
     before m n le = omega (arith, le)
-later_places key place (row ∷ rows) fares (inr (k, rest)) = weaken (λ n. suc place ≤ n) (λ n. place ≤ n) (λ n le. before place n le) (map (λ (f : GroupedFare). f.place) fares) (later_places key (suc place) rows fares rest)
+later_places key place (row ∷ rows) fares (inr (k, rest)) = each_weaker (λ n. suc place ≤ n) (λ n. place ≤ n) (λ n le. before place n le) (map (λ (f : GroupedFare). f.place) fares) (later_places key (suc place) rows fares rest)
   where
     before : (m n : ℕ) → suc m ≤ n → m ≤ n
     before m n le = omega (arith, le)
@@ -54,17 +53,11 @@ later_places key place (row ∷ rows) fares (inr (k, rest)) = weaken (λ n. suc 
 places_differ : (key : GroupKey) (place : ℕ) (rows : List SheetRow) (fares : List GroupedFare) → AreFares key place rows fares → AllDifferent (map (λ (f : GroupedFare). f.place) fares)
 places_differ key place [] fares h = subst (λ fs. AllDifferent (map (λ (f : GroupedFare). f.place) fs)) (sym h) tt
 places_differ key place (row ∷ rows) fares (inl (k, (more, is, rest))) = subst (λ fs. AllDifferent (map (λ (f : GroupedFare). f.place) fs)) (sym is)
-    (weaken (λ n. suc place ≤ n) (λ n. place ≢ n) (λ n le e. other place n le e) (map (λ (f : GroupedFare). f.place) more) (later_places key (suc place) rows more rest), places_differ key (suc place) rows more rest)
+    (each_weaker (λ n. suc place ≤ n) (λ n. place ≢ n) (λ n le e. other place n le e) (map (λ (f : GroupedFare). f.place) more) (later_places key (suc place) rows more rest), places_differ key (suc place) rows more rest)
   where
     other : (m n : ℕ) → suc m ≤ n → m ≡ n → ⊥
     other m n le e = absurd (omega (arith, le, e))
 places_differ key place (row ∷ rows) fares (inr (k, rest)) = places_differ key (suc place) rows fares rest
-
--- what a fare costs for one component is at most its amount
-low_share : (kind : FareKind) (amount : ℕ) → amount ≤ 1000000000 → share kind amount ≤ 1000000000
-low_share O n h = h
-low_share R n h = omega (arith, h)
-low_share S n h = h
 
 -- rows of one carrier and basis stand at one place
 module _ (never : (w : List ℕ) → Less w w → ⊥) (trans : (u v w : List ℕ) → Less u v → Less v w → Less u w) (total : (v w : List ℕ) → Less v w ⊎ ((v ≡ w) ⊎ Less w v)) where
@@ -98,7 +91,7 @@ module _ (b : Book) (q : Request) (at : Position) (path : Path) (fs : List Fligh
   share_low f j = subst (λ n. n ≤ 1000000000) (sym (ap (λ (x : GroupedFare). x.share) (row_at f j).fare)) (low_share (row_at f j).row.fare.kind (row_at f j).row.fare.amount (fare_at_limits f j).amount)
 
   pub place_low : (f : GroupedFare) → IsIn f g.fares → f.place < length sheet.rows
-  place_low f j = got_lt sheet.rows f.place (row_at f j).row (row_at f j).stands
+  place_low f j = got_within sheet.rows f.place (row_at f j).row (row_at f j).stands
 
   pub places_apart_in : AllDifferent (map (λ (f : GroupedFare). f.place) g.fares)
   places_apart_in = places_differ g.key 0 sheet.rows g.fares (each_in (IsGroup sheet.rows) groups g is.groups_are.each i).fares

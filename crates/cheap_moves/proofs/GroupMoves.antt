@@ -6,7 +6,6 @@ use Rattle.cheap_moves.specs.Making.{HasRows, IsComponent, IsComponentMove, IsGr
 use Rattle.cheap_moves.specs.Within.{IsWithin}
 use Rattle.cheap_moves.proofs.FareMoves.{one_place, row_at}
 use Rattle.cheap_moves.proofs.Joining.{differs_before, of_more, taken_in}
-use Rattle.cheap_moves.proofs.Looking.{on_ok}
 use Rattle.component_table.specs.declared.markets.Market.{Market}
 use Rattle.fare_groups.specs.declared.group.FareGroup.{FareGroup}
 use Rattle.fare_groups.specs.declared.group.GroupKey.{GroupKey}
@@ -14,7 +13,6 @@ use Rattle.fare_groups.specs.declared.group.GroupedFare.{GroupedFare}
 use Rattle.fare_groups.specs.Grouping.{Cheapest, IsGroup}
 use Rattle.fare_groups.specs.Groups.{Permits, extra_of, group_of}
 use Rattle.fare_groups.proofs.ByGroup.{one_rule_all}
-use Rattle.fare_groups.proofs.Grouped.{each_in}
 use Rattle.fare_law.specs.declared.flights.Flight.{Flight}
 use Rattle.fare_law.specs.declared.moves.Move.{Move}
 use Rattle.fare_law.specs.declared.requests.Request.{Request}
@@ -30,9 +28,10 @@ use Rattle.residual_keys.specs.declared.residual.Chosen.{Chosen}
 use Rattle.residual_keys.specs.Gathered.{Adds}
 use Rattle.residual_keys.specs.Residuals.{State}
 use Rattle.residual_keys.proofs.Adding.{adds_like, adds_none}
-use Rattle.residual_keys.proofs.OneNext.{first_one, last_one, some_one}
-use Rattle.residual_keys.proofs.PathByPath.{read_in}
-use Rattle.residual_keys.proofs.Sheeted.{got_in}
+use Rattle.residual_keys.proofs.OneNext.{first_one, last_one}
+use Rattle.law_lemmas.proofs.EachOne.{each_in}
+use Rattle.law_lemmas.proofs.Members.{got_in, read_in}
+use Rattle.law_lemmas.proofs.Options.{on_ok, some_one}
 
 -- what is read of fares of one group and one rule is alike
 alike_over : (sale : ℤ) (fs : List Flight) (row other : SheetRow) (reverse : Bool) (p p' : Piece) → group_of row ≡ group_of other → row.rule ≡ other.rule → IsReadOver sale fs row reverse p → IsReadOver sale fs other reverse p' → Alike p p'

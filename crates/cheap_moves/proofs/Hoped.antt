@@ -9,7 +9,6 @@ use Rattle.cheap_moves.specs.Leads.{AreLeads}
 use Rattle.cheap_moves.specs.Making.{IsWithinOn}
 use Rattle.cheap_moves.specs.Within.{CountsWithin, IsWithin}
 use Rattle.cheap_moves.proofs.Joining.{one_added}
-use Rattle.cheap_moves.proofs.Looking.{clash, on_first_as, on_last_as}
 use Rattle.fare_law.specs.declared.flights.Flight.{Flight}
 use Rattle.fare_law.specs.declared.names.Carrier.{Carrier}
 use Rattle.fare_law.specs.declared.names.Place.{Place}
@@ -28,8 +27,11 @@ use Rattle.residual_keys.specs.Gathered.{Adds, IsPathOf}
 use Rattle.residual_keys.specs.Residuals.{State}
 use Rattle.residual_keys.specs.Steps.{IsChosen}
 use Rattle.residual_keys.proofs.Adding.{adds_none}
-use Rattle.residual_keys.proofs.OneNext.{first_one, flies_one, last_one, numbers_one, some_one}
+use Rattle.residual_keys.proofs.OneNext.{first_one, flies_one, last_one}
 use Rattle.residual_keys.proofs.Runs.{flies_numbers}
+use Rattle.law_lemmas.proofs.LawFacts.{numbers_one, on_first_as, on_last_as}
+use Rattle.law_lemmas.proofs.Options.{some_one}
+use Rattle.law_lemmas.proofs.Tests.{true_false}
 
 -- ---- what is marked
 
@@ -120,7 +122,7 @@ pub hopeless : (same_place : Place → Place → Bool) (same_class : PathClass �
 hopeless same_place same_class b q r bound limit h hopes path old (fs, is) not = adds_none (IsWithinOn b q r bound limit path) old none
   where
     none : (c : Chosen) → IsWithinOn b q r bound limit path c → ⊥
-    none c m = clash (hopes.of_classes c k m.1 x.0 (subst (λ a. IsClass x.0 a k.flights) (sym after) x.1)) x.2
+    none c m = true_false (hopes.of_classes c k m.1 x.0 (subst (λ a. IsClass x.0 a k.flights) (sym after) x.1)) x.2
       where
         k : IsChosen b q r c
         k = m.0.0

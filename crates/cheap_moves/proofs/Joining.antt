@@ -1,19 +1,12 @@
 -- The moves of some things, one thing after another.
 use Rattle.std.proofs.Common.{◌≡◌, ◌≢◌, ◌⊎◌, ℕ, zero, suc, ◌+◌, ◌<◌, List, [], ◌∷◌, ◌++◌, length, map, take, get_or, refl, sym, ap, subst, ◌∙◌, inl, inr, arith}
-use Rattle.std.proofs.Math.Seq.{take-suc}
 use Rattle.cheap_moves.specs.Making.{Of}
 use Rattle.fare_law.specs.Lists.{AllDifferent, Each, IsIn}
 use Rattle.residual_keys.specs.declared.residual.Chosen.{Chosen}
 use Rattle.residual_keys.specs.Gathered.{Adds}
-use Rattle.residual_keys.proofs.Adding.{adds_like, adds_none, adds_then, in_either, in_left, in_right}
-use Rattle.residual_keys.proofs.PathByPath.{read_in}
-
-in_one : {X : Type 0} (x y : X) → IsIn x (y ∷ []) → x ≡ y
-in_one x y (inl e) = e
-in_one x y (inr n) = absurd n
-
-one_more : {X : Type 0} (xs : List X) (i : ℕ) (d x : X) → i < length xs → x ≡ get_or xs i d → take (i + 1) xs ≡ take i xs ++ x ∷ []
-one_more xs i d x lt e = let one : i + 1 ≡ suc i = omega arith in ap (λ n. take n xs) one ∙ take-suc xs i d lt ∙ ap (λ z. take i xs ++ z ∷ []) (sym e)
+use Rattle.residual_keys.proofs.Adding.{adds_like, adds_none, adds_then}
+use Rattle.law_lemmas.proofs.Lists.{front_read}
+use Rattle.law_lemmas.proofs.Members.{in_either, in_left, in_one, in_right, read_in}
 
 apart_in : {X Y : Type 0} (key : X → Y) (k : Y) (xs : List X) (x : X) → Each (λ l. k ≢ l) (map key xs) → IsIn x xs → k ≢ key x
 apart_in key k [] x h i = absurd i
@@ -46,7 +39,7 @@ module _ {X : Type 0} (P : X → Chosen → Type 0) where
       (adds_then (Of P (take i xs)) (P x) a m c h k (λ u v s t f. apart s.0 s.1 u v s.2 t f)) (λ z. (forth z, back z))
     where
       front : take (i + 1) xs ≡ take i xs ++ x ∷ []
-      front = one_more xs i d x lt e
+      front = front_read xs i d x lt e
 
       forth : (z : Chosen) → Of P (take i xs) z ⊎ P x z → Of P (take (i + 1) xs) z
       forth z (inl s) = (s.0, subst (IsIn s.0) (sym front) (in_left s.0 (take i xs) (x ∷ []) s.1), s.2)
@@ -60,4 +53,4 @@ module _ {X : Type 0} (P : X → Chosen → Type 0) where
 
 -- one of the first and one more is one of the first, or that one
 pub one_added : {X : Type 0} (xs : List X) (i : ℕ) (d x y : X) → i < length xs → x ≡ get_or xs i d → IsIn y (take (i + 1) xs) → IsIn y (take i xs) ⊎ (y ≡ x)
-one_added xs i d x y lt e j = elim (in_either y (take i xs) (x ∷ []) (subst (IsIn y) (one_more xs i d x lt e) j)) [ inl k ↦ inl k | inr k ↦ inr (in_one y x k) ]
+one_added xs i d x y lt e j = elim (in_either y (take i xs) (x ∷ []) (subst (IsIn y) (front_read xs i d x lt e) j)) [ inl k ↦ inl k | inr k ↦ inr (in_one y x k) ]

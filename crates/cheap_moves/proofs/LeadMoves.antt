@@ -3,9 +3,7 @@ use Rattle.std.proofs.Common.{◌≡◌, ℕ, ◌+◌, ◌≤◌, ◌<◌, true,
 use Rattle.cheap_moves.specs.declared.leads.Lead.{Lead}
 use Rattle.cheap_moves.specs.Leads.{AreLeads, EntryLeaves, HasEntry, IsUpTo, LeadAdded, LeastAs, LeastOf}
 use Rattle.cheap_moves.proofs.Joining.{one_added}
-use Rattle.cheap_moves.proofs.Looking.{clash, places}
 use Rattle.component_table.specs.Tables.{IsTable}
-use Rattle.fare_groups.proofs.Grouped.{each_in}
 use Rattle.fare_law.specs.declared.moves.Role.{Role}
 use Rattle.fare_law.specs.declared.moves.Role.TheVariants.{Alone, Opens, GoesOn, Closes}
 use Rattle.fare_law.specs.declared.requests.Request.{Request}
@@ -20,8 +18,12 @@ use Rattle.outlines.proofs.ByOutline.{rule_live, tells_all, written}
 use Rattle.residual_keys.specs.declared.residual.Next.{Next}
 use Rattle.residual_keys.specs.Residuals.{State, closes}
 use Rattle.residual_keys.specs.Steps.{Leaves}
-use Rattle.residual_keys.proofs.Adding.{in_left, in_right}
-use Rattle.residual_keys.proofs.OneNext.{direction, some_one}
+use Rattle.residual_keys.proofs.OneNext.{direction}
+use Rattle.law_lemmas.proofs.EachOne.{each_in}
+use Rattle.law_lemmas.proofs.Members.{in_left, in_right}
+use Rattle.law_lemmas.proofs.Options.{some_one}
+use Rattle.law_lemmas.proofs.Tests.{true_false}
+use Rattle.outlines.proofs.Growing.{places}
 
 module _ (q : Request) (r : State) (bound : State → Option ℕ) (e : Entry) where
   way_is : (role : Role) (slot : ℕ) (next : Next) → EntryLeaves q r e role slot next → e.outline.reverse ≡ closes role
@@ -30,9 +32,9 @@ module _ (q : Request) (r : State) (bound : State → Option ℕ) (e : Entry) wh
   -- an entry whose fare is filed in reverse
   pub closing_least : length r.units ≤ 2 → e.outline.reverse ≡ true → (one other least : Option ℕ) → LeastAs q r bound e Closes 0 one → LeastAs q r bound e Closes 1 other
       → ((n : ℕ) → IsUpTo one n → IsUpTo least n) → ((n : ℕ) → IsUpTo other n → IsUpTo least n) → LeastOf q r bound e least
-  closing_least few w one other least h k f g Alone slot next rest l s = absurd (clash w (way_is Alone slot next l))
-  closing_least few w one other least h k f g Opens slot next rest l s = absurd (clash w (way_is Opens slot next l))
-  closing_least few w one other least h k f g GoesOn slot next rest l s = absurd (clash w (way_is GoesOn slot next l))
+  closing_least few w one other least h k f g Alone slot next rest l s = absurd (true_false w (way_is Alone slot next l))
+  closing_least few w one other least h k f g Opens slot next rest l s = absurd (true_false w (way_is Opens slot next l))
+  closing_least few w one other least h k f g GoesOn slot next rest l s = absurd (true_false w (way_is GoesOn slot next l))
   closing_least few w one other least h k f g Closes slot next rest l s = elim (places r.units slot l.step.0 few l.step.1) [
     | inl z ↦ f (e.price + rest) (h next rest (subst (λ i. EntryLeaves q r e Closes i next) z l) s)
     | inr z ↦ g (e.price + rest) (k next rest (subst (λ i. EntryLeaves q r e Closes i next) z l) s)
@@ -48,7 +50,7 @@ module _ (q : Request) (r : State) (bound : State → Option ℕ) (e : Entry) wh
     | inl z ↦ g (e.price + rest) (mf (e.price + rest) (m next rest (subst (λ i. EntryLeaves q r e GoesOn i next) z l) s))
     | inr z ↦ g (e.price + rest) (os (e.price + rest) (o next rest (subst (λ i. EntryLeaves q r e GoesOn i next) z l) s))
   ]
-  forward_least few w alone opens first second begun onward least h k m o ha ko mf os b g Closes slot next rest l s = absurd (clash (way_is Closes slot next l) w)
+  forward_least few w alone opens first second begun onward least h k m o ha ko mf os b g Closes slot next rest l s = absurd (true_false (way_is Closes slot next l) w)
 
   -- an entry by which moves count, and one by which none does
   pub lead_had : (old new : List Lead) (total : ℕ) → LeastOf q r bound e (Some total) → new ≡ old ++ record { outline = e.outline; total = total } ∷ [] → LeadAdded q r bound e old new

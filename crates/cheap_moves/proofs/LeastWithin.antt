@@ -1,17 +1,13 @@
 -- The first things within a limit are the first of all. Given on to the crates above.
-use Rattle.std.proofs.Common.{◌≡◌, ◌⊎◌, ℕ, zero, suc, ◌+◌, ◌≤◌, ◌<◌, List, [], ◌∷◌, length, Option, Some, None, unwrap_or, sym, ap, subst, inl, inr, arith}
+use Rattle.std.proofs.Common.{◌≡◌, ℕ, ◌+◌, ◌≤◌, ◌<◌, List, [], ◌∷◌, length, Option, Some, None, unwrap_or, sym, ap, subst, inl, inr, arith}
 use Rattle.cheap_moves.specs.Within.{FirstAreFirst, IsMoveWithin, IsSooner, rest_of, total_of}
 use Rattle.fare_law.specs.declared.requests.Request.{Request}
 use Rattle.fare_law.specs.Book.{Book}
 use Rattle.fare_law.specs.Lists.{Each, KLeast}
 use Rattle.residual_keys.specs.declared.residual.Chosen.{Chosen}
 use Rattle.residual_keys.specs.Residuals.{State}
-use Rattle.residual_keys.proofs.LeastOne.{weaken}
-
-pub split : (m n : ℕ) → (m ≤ n) ⊎ (n < m)
-split zero n = inl (omega arith)
-split (suc m) zero = inr (omega arith)
-split (suc m) (suc n) = elim (split m n) [ inl k ↦ inl (omega (arith, k)) | inr k ↦ inr (omega (arith, k)) ]
+use Rattle.law_lemmas.proofs.EachOne.{each_weaker}
+use Rattle.law_lemmas.proofs.Numbers.{at_most_or}
 
 lower_than : (m n limit : ℕ) → m ≤ limit → limit < n → m < n
 lower_than m n limit h k = omega (arith, h, k)
@@ -27,17 +23,17 @@ module _ {X : Type 0} (total : X → ℕ) (Below : X → X → Type 0) (lower : 
       → (wanted : ℕ) (xs : List X) → KLeast Near Below wanted xs → length xs ≡ wanted → KLeast Has Below wanted xs
   first_within has within near wanted xs h long = record {
     ascending = h.ascending;
-    each = weaken Near Has has xs h.each;
+    each = each_weaker Near Has has xs h.each;
     few = h.few;
-    rest = λ x i out. elim (split (total x) limit) [
+    rest = λ x i out. elim (at_most_or (total x) limit) [
       | inl le ↦ h.rest x (near x i le) out
-      | inr far ↦ (beyond_all x far xs (weaken Near (λ y. total y ≤ limit) within xs h.each), long)
+      | inr far ↦ (beyond_all x far xs (each_weaker Near (λ y. total y ≤ limit) within xs h.each), long)
     ];
   }
 
 -- the first of the same things
 pub first_same : {X : Type 0} (Has Near : X → Type 0) (Below : X → X → Type 0) → ((x : X) → Near x → Has x) → ((x : X) → Has x → Near x) → (wanted : ℕ) (xs : List X) → KLeast Near Below wanted xs → KLeast Has Below wanted xs
-first_same Has Near Below has near wanted xs h = record { ascending = h.ascending; each = weaken Near Has has xs h.each; few = h.few; rest = λ x i out. h.rest x (near x i) out }
+first_same Has Near Below has near wanted xs h = record { ascending = h.ascending; each = each_weaker Near Has has xs h.each; few = h.few; rest = λ x i out. h.rest x (near x i) out }
 
 -- a total that is within a limit
 total_is : (bound : State → Option ℕ) (c : Chosen) (rest : ℕ) → rest_of bound c.next ≡ Some rest → c.price + rest ≡ total_of bound c

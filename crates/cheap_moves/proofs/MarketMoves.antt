@@ -32,10 +32,11 @@ use Rattle.residual_keys.specs.Steps.{IsChosen, IsLiveOn, KeyOn, Leaves, MarketO
 use Rattle.residual_keys.proofs.Adding.{adds_like, adds_none}
 use Rattle.residual_keys.proofs.Markets.{no_moves}
 use Rattle.residual_keys.proofs.Offered.{filed_market, market_filed}
-use Rattle.residual_keys.proofs.OneNext.{direction, some_one}
-use Rattle.residual_keys.proofs.Sheeted.{got_in, place_of}
+use Rattle.residual_keys.proofs.OneNext.{direction}
 use Rattle.residual_keys.proofs.StepFacts.{IsOver as IsOverRow, key_directed, moves_key, offered_lawful}
 use Rattle.residual_keys.proofs.StepTaken.{flights_same, move_offered, taken_at, whole}
+use Rattle.law_lemmas.proofs.Members.{got_in, in_got}
+use Rattle.law_lemmas.proofs.Options.{some_one}
 
 module _ (b : Book) (q : Request) (r : State) (bound : State → Option ℕ) (limit : Option ℕ) (flown : Flown) (reverse : Bool) (m : Market) (is : IsOver b q r flown reverse m) where
   abbrev sheet : Sheet
@@ -192,7 +193,7 @@ module _ (b : Book) (q : Request) (r : State) (bound : State → Option ℕ) (li
       i = (is.over.sheet_is.live row).1 (record { filed_from = ends.0; filed_to = ends.1; fare = chosen.moves.stands.fare; rule = chosen.moves.stands.rule })
 
       place : (n : ℕ) × (slice_get sheet.rows n ≡ Some row)
-      place = place_of sheet.rows row i
+      place = in_got sheet.rows row i
 
       once : StandsOnce place.0 row m.groups
       once = each_stands_once sheet.rows m.groups is.over.groups_are place.0 row place.1

@@ -8,7 +8,6 @@ use Rattle.component_table.specs.declared.markets.Market.{Market}
 use Rattle.component_table.specs.declared.markets.MarketKey.{MarketKey}
 use Rattle.component_table.specs.Markets.{AreMarkets, IsMarket, StandsAt}
 use Rattle.fare_book.specs.Keeping.{Limited}
-use Rattle.fare_groups.proofs.Grouped.{each_in}
 use Rattle.fare_law.specs.declared.flights.Flight.{Flight}
 use Rattle.fare_law.specs.declared.moves.Move.{Move}
 use Rattle.fare_law.specs.declared.moves.Role.{Role}
@@ -26,14 +25,13 @@ use Rattle.residual_keys.specs.Gathered.{Adds, IsPathOf}
 use Rattle.residual_keys.specs.Residuals.{State, UnitStep, closes}
 use Rattle.residual_keys.specs.Steps.{IsChosen, MarketOver}
 use Rattle.residual_keys.proofs.Adding.{adds_like, adds_none, adds_then}
-use Rattle.residual_keys.proofs.OneNext.{flies_one, numbers_one}
-use Rattle.residual_keys.proofs.PathByPath.{read_in}
+use Rattle.residual_keys.proofs.OneNext.{flies_one}
 use Rattle.residual_keys.proofs.Runs.{flies_numbers}
-use Rattle.residual_keys.proofs.Sheeted.{got_in}
 use Rattle.residual_keys.proofs.StepTaken.{slice_known, whole}
-
-clash : {b : Bool} → b ≡ true → b ≡ false → ⊥
-clash p q = cc
+use Rattle.law_lemmas.proofs.EachOne.{each_in}
+use Rattle.law_lemmas.proofs.LawFacts.{numbers_one}
+use Rattle.law_lemmas.proofs.Members.{got_in, read_in}
+use Rattle.law_lemmas.proofs.Tests.{true_false}
 
 module _ (b : Book) (q : Request) (r : State) (bound : State → Option ℕ) (limit : Option ℕ) (path : Path) where
   -- where no unit is open, none is closed
@@ -54,7 +52,7 @@ module _ (b : Book) (q : Request) (r : State) (bound : State → Option ℕ) (li
 
   pub both_ways : (a m c : List Chosen) → Adds (IsWithinFiled b q r bound limit path.flights false) a m → Adds (IsWithinFiled b q r bound limit path.flights true) m c → Adds (IsWithinOn b q r bound limit path) a c
   both_ways a m c h k = adds_like (λ x. IsWithinFiled b q r bound limit path.flights false x ⊎ IsWithinFiled b q r bound limit path.flights true x) (IsWithinOn b q r bound limit path) a c
-      (adds_then (IsWithinFiled b q r bound limit path.flights false) (IsWithinFiled b q r bound limit path.flights true) a m c h k (λ x y i j e. clash (ap (λ (z : Move). closes z.role) e ∙ j.0.1) i.0.1)) (λ x. (forth x, back x))
+      (adds_then (IsWithinFiled b q r bound limit path.flights false) (IsWithinFiled b q r bound limit path.flights true) a m c h k (λ x y i j e. true_false (ap (λ (z : Move). closes z.role) e ∙ j.0.1) i.0.1)) (λ x. (forth x, back x))
     where
       forth : (x : Chosen) → IsWithinFiled b q r bound limit path.flights false x ⊎ IsWithinFiled b q r bound limit path.flights true x → IsWithinOn b q r bound limit path x
       forth x (inl i) = (i.0.0, i.1)

@@ -1,10 +1,9 @@
 -- The moves of a component, role by role.
-use Rattle.std.proofs.Common.{◌≡◌, ◌≢◌, ◌⊎◌, ℕ, ◌+◌, ◌≤◌, Bool, true, false, List, length, Option, Some, None, sym, ap, subst, ◌∙◌, inl, inr}
+use Rattle.std.proofs.Common.{◌≡◌, ◌≢◌, ◌⊎◌, ℕ, ◌+◌, ◌≤◌, true, false, List, length, Option, Some, None, sym, ap, subst, ◌∙◌, inl, inr}
 use Rattle.cheap_moves.specs.declared.component.Component.{Component}
 use Rattle.cheap_moves.specs.declared.component.Onward.{Onward}
 use Rattle.cheap_moves.specs.Making.{IsComponentMove, IsFareMove, IsRoleMove, Of}
 use Rattle.cheap_moves.specs.Within.{IsWithin, rest_of}
-use Rattle.cheap_moves.proofs.Looking.{places}
 use Rattle.fare_law.specs.declared.moves.Move.{Move}
 use Rattle.fare_law.specs.declared.moves.Role.{Role}
 use Rattle.fare_law.specs.declared.moves.Role.TheVariants.{Alone, Opens, GoesOn, Closes}
@@ -14,10 +13,10 @@ use Rattle.residual_keys.specs.Gathered.{Adds}
 use Rattle.residual_keys.specs.Residuals.{State, begins, closes, part_with}
 use Rattle.residual_keys.specs.Steps.{Leaves, left_at}
 use Rattle.residual_keys.proofs.Adding.{adds_like, adds_none, adds_then}
-use Rattle.residual_keys.proofs.OneNext.{direction, some_one, units_one}
-
-clash : {b : Bool} → b ≡ true → b ≡ false → ⊥
-clash p q = cc
+use Rattle.residual_keys.proofs.OneNext.{direction, units_one}
+use Rattle.law_lemmas.proofs.Options.{some_one}
+use Rattle.law_lemmas.proofs.Tests.{true_false}
+use Rattle.outlines.proofs.Growing.{places}
 
 none_some : {X : Type 0} (o : Option X) (x : X) → o ≡ None → o ≡ Some x → ⊥
 none_some o x h k = cc
@@ -88,7 +87,7 @@ module _ (r : State) (bound : State → Option ℕ) (limit : Option ℕ) (k : Co
   forward_in few e c Alone slot h = inl (inl (inl (subst (λ s. Q Alone s c) h.leaves.step.0 h)))
   forward_in few e c Opens slot h = inl (inl (inr (subst (λ s. Q Opens s c) h.leaves.step.0 h)))
   forward_in few e c GoesOn slot h = elim (places r.units slot h.leaves.step.0 few h.leaves.step.1) [ inl s ↦ inl (inr (subst (λ s. Q GoesOn s c) s h)) | inr s ↦ inr (subst (λ s. Q GoesOn s c) s h) ]
-  forward_in few e c Closes slot h = absurd (clash (way_is Closes slot c h) e)
+  forward_in few e c Closes slot h = absurd (true_false (way_is Closes slot c h) e)
 
   forward_out : (c : Chosen) → ((Q Alone 0 c ⊎ Q Opens 0 c) ⊎ Q GoesOn 0 c) ⊎ Q GoesOn 1 c → IsComponentMove r bound limit k c
   forward_out c (inl (inl (inl h))) = (Alone, 0, h)
@@ -106,9 +105,9 @@ module _ (r : State) (bound : State → Option ℕ) (limit : Option ℕ) (k : Co
 
   -- one that is filed in reverse
   back_in : length r.units ≤ 2 → k.facts.reverse ≡ true → (c : Chosen) (role : Role) (slot : ℕ) → Q role slot c → Q Closes 0 c ⊎ Q Closes 1 c
-  back_in few e c Alone slot h = absurd (clash e (way_is Alone slot c h))
-  back_in few e c Opens slot h = absurd (clash e (way_is Opens slot c h))
-  back_in few e c GoesOn slot h = absurd (clash e (way_is GoesOn slot c h))
+  back_in few e c Alone slot h = absurd (true_false e (way_is Alone slot c h))
+  back_in few e c Opens slot h = absurd (true_false e (way_is Opens slot c h))
+  back_in few e c GoesOn slot h = absurd (true_false e (way_is GoesOn slot c h))
   back_in few e c Closes slot h = elim (places r.units slot h.leaves.step.0 few h.leaves.step.1) [ inl s ↦ inl (subst (λ s. Q Closes s c) s h) | inr s ↦ inr (subst (λ s. Q Closes s c) s h) ]
 
   pub back_roles : length r.units ≤ 2 → k.facts.reverse ≡ true → (a b c : List Chosen) → Adds (Q Closes 0) a b → Adds (Q Closes 1) b c → Adds (IsComponentMove r bound limit k) a c

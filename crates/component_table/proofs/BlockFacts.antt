@@ -1,5 +1,5 @@
 -- What slots tell of a table, as it grows and as blocks and slots are added; and the outlines of a class.
-use Rattle.std.proofs.Common.{◌≡◌, ℕ, zero, suc, Bool, List, [], ◌∷◌, ◌++◌, slice_get, Option, Some, ◌≤◌, ap, sym, subst, refl, ◌∙◌, inl, inr}
+use Rattle.std.proofs.Common.{◌≡◌, ℕ, Bool, List, [], ◌∷◌, ◌++◌, slice_get, Option, ◌≤◌, ap, sym, subst, refl, ◌∙◌, inl, inr}
 use Rattle.component_table.specs.declared.classes.PathClass.{PathClass}
 use Rattle.component_table.specs.declared.growing.Block.{Block}
 use Rattle.component_table.specs.declared.growing.Slot.{Slot}
@@ -7,9 +7,6 @@ use Rattle.component_table.specs.declared.growing.Spot.{Spot}
 use Rattle.component_table.specs.Blocks.{AreSlots, HasBlock, HasOutline, IsSlot, IsSlotOf, TellsNoMore, TellsOne, outline_of}
 use Rattle.component_table.specs.Classes.{IsOfClass}
 use Rattle.component_table.specs.Tables.{Covers, HasBelow}
-use Rattle.component_table.proofs.FiledFacts.{some_same}
-use Rattle.component_table.proofs.Lower.{le_on}
-use Rattle.component_table.proofs.PathFacts.{on_last_to}
 use Rattle.fare_groups.specs.declared.group.GroupKey.{GroupKey}
 use Rattle.fare_law.specs.declared.flights.Flight.{Flight}
 use Rattle.fare_law.specs.Lists.{OnFirst}
@@ -17,6 +14,10 @@ use Rattle.flight_paths.specs.declared.positions.Position.{Position}
 use Rattle.outlines.specs.declared.outline.Entry.{Entry}
 use Rattle.outlines.specs.declared.outline.Outline.{Outline}
 use Rattle.outlines.specs.ByGroups.{OutlineOver}
+use Rattle.law_lemmas.proofs.LawFacts.{on_last_to}
+use Rattle.law_lemmas.proofs.Lists.{got_left}
+use Rattle.law_lemmas.proofs.Numbers.{le_on}
+use Rattle.law_lemmas.proofs.Options.{some_one}
 
 pub below_on : (old new : List Entry) (o : Outline) (price : ℕ) → Covers old new → HasBelow old o price → HasBelow new o price
 below_on old new o price covers h =
@@ -40,11 +41,6 @@ slots_fewer blocks entries old new fewer h n s got = h n s (fewer n s got)
 pub slots_one : (blocks : List Block) (entries : List Entry) (old new : List (Option Slot)) (x : Slot) → TellsOne x old new → IsSlot blocks entries x → AreSlots blocks entries old → AreSlots blocks entries new
 slots_one blocks entries old new x only is h n s got = elim (only n s got) [ inl k ↦ h n s k | inr e ↦ subst (IsSlot blocks entries) (sym e) is ]
 
-got_left : {X : Type 0} (xs ys : List X) (n : ℕ) (x : X) → slice_get xs n ≡ Some x → slice_get (xs ++ ys) n ≡ Some x
-got_left [] ys n x e = absurd (cc)
-got_left (y ∷ xs) ys zero x e = e
-got_left (y ∷ xs) ys (suc n) x e = got_left xs ys n x e
-
 -- with one block more
 pub slots_block : (blocks : List Block) (x : Block) (entries : List Entry) (slots : List (Option Slot)) → AreSlots blocks entries slots → AreSlots (blocks ++ x ∷ []) entries slots
 slots_block blocks x entries slots h n s got =
@@ -55,7 +51,7 @@ slots_block blocks x entries slots h n s got =
 pub slot_tells : (blocks : List Block) (entries : List Entry) (slots : List (Option Slot)) (spot : Spot) (s : Slot) (o : Outline) → AreSlots blocks entries slots → IsSlotOf slots spot s → HasOutline blocks spot o → HasBelow entries o s.price
 slot_tells blocks entries slots spot s o low is h =
     let x = low spot.slot s is.stands in
-    let same : x.one ≡ h.one = some_same (slice_get blocks spot.block) x.one h.one (ap (slice_get blocks) (sym is.block) ∙ x.stands) h.stands in
+    let same : x.one ≡ h.one = some_one (slice_get blocks spot.block) x.one h.one (ap (slice_get blocks) (sym is.block) ∙ x.stands) h.stands in
     subst (λ z. HasBelow entries z s.price)
     (ap (λ (c : Block). outline_of c.class s.key s.reverse) same ∙ ap (λ k. outline_of h.one.class k s.reverse) is.key ∙ ap (λ r. outline_of h.one.class spot.key r) is.reverse ∙ sym h.outline) x.has
 

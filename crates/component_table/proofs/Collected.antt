@@ -1,5 +1,5 @@
 -- The flights of a path by their numbers, and their classes.
-use Rattle.std.proofs.Common.{◌≡◌, ◌↔◌, ℕ, zero, suc, ◌+◌, ◌-◌, ◌<◌, ◌≤◌, List, [], ◌∷◌, ◌++◌, length, take, get_or, Option, Some, None, IsBitSet, bit_and, ◌^◌, refl, sym, ap, subst, ◌∙◌, arith}
+use Rattle.std.proofs.Common.{◌≡◌, ◌↔◌, ℕ, zero, suc, ◌+◌, ◌-◌, ◌<◌, ◌≤◌, List, [], ◌∷◌, ◌++◌, length, take, get_or, Some, None, IsBitSet, bit_and, ◌^◌, refl, sym, ap, subst, ◌∙◌, arith}
 use Rattle.std.proofs.lemmas.List.Elements.{All-append, All-cons, All-nil, All-head, All-tail}
 use Rattle.std.proofs.Math.Seq.{take-suc}
 use Rattle.component_table.specs.Tables.{BeginsWith, EndsWith, HasLegs}
@@ -12,7 +12,9 @@ use Rattle.fare_law.specs.Book.{Book, flight_at, seats}
 use Rattle.fare_law.specs.Lists.{OnLast}
 use Rattle.fare_law.specs.Parts.{Numbers}
 use Rattle.residual_keys.specs.AskedKeys.{IsLeg}
-use Rattle.residual_keys.proofs.Components.{legs_more, matched_more}
+use Rattle.residual_keys.proofs.Components.{legs_more}
+use Rattle.law_lemmas.proofs.Options.{not_both}
+use Rattle.law_lemmas.proofs.Pairs.{matched_more}
 
 class_last : (class : ℕ) (legs : List Leg) (leg : Leg) → HasClass class (legs ++ leg ∷ []) ↔ (HasClass class legs × IsBitSet leg.classes class)
 class_last class legs leg = (there legs, λ h. All-append (λ l. IsBitSet l.classes class) legs (leg ∷ []) h.0 (All-cons (λ l. IsBitSet l.classes class) leg [] h.1 (All-nil (λ l. IsBitSet l.classes class))))
@@ -57,9 +59,6 @@ number_known b (n ∷ ns) [] i h lt = absurd h
 number_known b (n ∷ ns) (f ∷ fs) zero h lt = (f, h.0)
 number_known b (n ∷ ns) (f ∷ fs) (suc i) h lt = number_known b ns fs i h.1 (omega arith)
 
-pub not_both : {X : Type 0} (o : Option X) (x : X) → o ≡ Some x → o ≡ None → ⊥
-not_both o x h k = cc
-
 -- the last number's flight is the last
 pub last_ends : (b : Book) (ns : List ℕ) (last : ℕ) (g : Flight) → OnLast (λ n. n ≡ last) ns → flight_at b last ≡ Some g → EndsWith b ns g
 last_ends b [] last g h k fs m = absurd h
@@ -72,11 +71,6 @@ last_ends b (n ∷ []) last g h k (f ∷ e ∷ fs) m = absurd m.1
 last_ends b (n ∷ l ∷ ns) last g h k [] m = absurd m
 last_ends b (n ∷ l ∷ ns) last g h k (f ∷ []) m = absurd m.1
 last_ends b (n ∷ l ∷ ns) last g h k (f ∷ e ∷ fs) m = last_ends b (l ∷ ns) last g h k (e ∷ fs) m.1
-
-pub taken_long : {X : Type 0} (xs : List X) (i : ℕ) → i < length xs → length (take i xs) ≡ i
-taken_long [] i lt = absurd (omega arith)
-taken_long (x ∷ xs) zero lt = refl
-taken_long (x ∷ xs) (suc i) lt = ap suc (taken_long xs i (omega arith))
 
 -- one number more
 pub numbers_next : (b : Book) (ns : List ℕ) (fs : List Flight) (i : ℕ) (f : Flight) → i < length ns → Numbers b (take i ns) fs → flight_at b (get_or ns i 0) ≡ Some f → Numbers b (take (i + 1) ns) (fs ++ f ∷ [])

@@ -1,26 +1,21 @@
 -- A group that is put in on the flights of a path.
 use Rattle.std.proofs.Common.{◌≡◌, ◌≢◌, ℕ, ℤ, pos, ◌+◌, ◌≤◌, Bool, List, [], ◌∷◌, length, All, Option, Some, None, IsBitSet, refl, sym, ap, subst, ◌∙◌, arith}
-use Rattle.std.proofs.lemmas.Int.{ints}
 use Rattle.std.proofs.lemmas.List.Elements.{All-head, All-tail}
 use Rattle.component_table.specs.declared.markets.Market.{Market}
 use Rattle.component_table.specs.declared.ways.Flown.{Flown}
 use Rattle.component_table.specs.Classes.{GroupSettled}
 use Rattle.component_table.specs.Tables.{GroupDone, HasBelow, HasGroup, HasRow, IsEntry, IsOver, IsPathOver, IsRowOf, Lowered}
-use Rattle.component_table.proofs.Lower.{goes_lowered, goes_self, le_on}
+use Rattle.component_table.proofs.Lower.{goes_lowered, goes_self}
 use Rattle.fare_groups.specs.declared.group.FareGroup.{FareGroup}
 use Rattle.fare_groups.specs.declared.group.GroupKey.{GroupKey}
 use Rattle.fare_groups.specs.declared.group.GroupedFare.{GroupedFare}
 use Rattle.fare_groups.specs.Grouping.{Cheapest, IsGroup}
 use Rattle.fare_groups.specs.Groups.{Permits, extra_of}
-use Rattle.fare_groups.proofs.Grouped.{each_in, in_each}
 use Rattle.fare_groups.proofs.OneGroup.{classes_are_low, fares_are_rows}
-use Rattle.fare_law.specs.declared.fares.FareKind.{FareKind}
-use Rattle.fare_law.specs.declared.fares.FareKind.TheVariants.{O, R, S}
 use Rattle.fare_law.specs.declared.flights.Flight.{Flight}
 use Rattle.fare_law.specs.declared.requests.Request.{Request}
 use Rattle.fare_law.specs.declared.sheets.SheetRow.{SheetRow}
 use Rattle.fare_law.specs.Book.{Book, live_rule}
-use Rattle.fare_law.specs.Days.{IsCalendarDay}
 use Rattle.fare_law.specs.Limits.{IsFlight}
 use Rattle.fare_law.specs.Lists.{Each, IsIn, OnFirst, OnLast}
 use Rattle.fare_law.specs.Parts.{share}
@@ -33,9 +28,13 @@ use Rattle.outlines.specs.declared.outline.Outline.{Outline}
 use Rattle.outlines.specs.ByGroups.{OutlineOver, OverMarket}
 use Rattle.outlines.specs.Outlines.{Outlined}
 use Rattle.outlines.proofs.ByGroups.{groups_give}
-use Rattle.residual_keys.proofs.OneNext.{some_one}
-use Rattle.residual_keys.proofs.Sheeted.{got_in}
 use Rattle.rule_unit.specs.Ranges.{IsDayWithin}
+use Rattle.law_lemmas.proofs.EachOne.{each_from, each_in}
+use Rattle.law_lemmas.proofs.LawFacts.{low_share}
+use Rattle.law_lemmas.proofs.Members.{got_in}
+use Rattle.law_lemmas.proofs.Numbers.{le_on}
+use Rattle.law_lemmas.proofs.Options.{some_one}
+use Rattle.residual_keys.proofs.NamesKept.{day_within}
 
 -- a path has flights
 pub path_some : (b : Book) (q : Request) (at : Position) (ns : List ℕ) (fs : List Flight) (next : Option Position) → IsPath b q.slices at ns fs next → fs ≢ []
@@ -50,10 +49,6 @@ pub some_counted : (fs : List Flight) → fs ≢ [] → 1 ≤ length fs
 some_counted [] ne = absurd (ne refl)
 some_counted (f ∷ fs) ne = omega arith
 
--- days within their limits
-day_within : (d : ℤ) → IsCalendarDay d → IsDayWithin (pos 99000) d
-day_within d h = let low = h.0 in let high = h.1 in (omega (arith, ints, low), omega (arith, ints, high))
-
 first_day : (d : ℤ) (fs : List Flight) → All IsFlight fs → OnFirst (λ f. d ≡ f.day) fs → IsDayWithin (pos 99000) d
 first_day d [] a h = absurd h
 first_day d (f ∷ fs) a h = subst (IsDayWithin (pos 99000)) (sym h) (day_within f.day (All-head IsFlight f fs a).day)
@@ -62,12 +57,6 @@ last_day : (o : Outline) (fs : List Flight) → All IsFlight fs → OnLast (λ f
 last_day o [] a h = absurd h
 last_day o (f ∷ []) a h = subst (IsDayWithin (pos 99000)) (sym h.1) (day_within f.day (All-head IsFlight f [] a).day)
 last_day o (f ∷ g ∷ fs) a h = last_day o (g ∷ fs) (All-tail IsFlight f (g ∷ fs) a) h
-
--- what a fare costs for one component is at most its amount
-low_share : (kind : FareKind) (amount : ℕ) → amount ≤ 1000000000 → share kind amount ≤ 1000000000
-low_share O n h = h
-low_share R n h = omega (arith, h)
-low_share S n h = h
 
 -- a group stands at no more than the shares of its fares in these classes: where none has one of them, where it was found so, or where it was put in without charges
 module _ (after : Option Position) (fs : List Flight) (classes : ℕ) (reverse : Bool) (g : FareGroup) (table : List Entry) where
@@ -102,7 +91,7 @@ module _ (b : Book) (q : Request) (at : Position) (flown : Flown) (reverse : Boo
 
   pub low_classes : Each (λ (f : GroupedFare). f.class ≤ 25) g.fares
   low_classes = each_in (λ (x : FareGroup). Each (λ (f : GroupedFare). f.class ≤ 25) x.fares) m.groups g (classes_are_low m.sheet.value.rows m.groups is.market_is.groups
-      (in_each (λ (row : SheetRow). row.fare.class ≤ 25) m.sheet.value.rows (λ row j. (is.limited.fares row.fare.key row.fare (live_of row j).fare).1.class))) i
+      (each_from (λ (row : SheetRow). row.fare.class ≤ 25) m.sheet.value.rows (λ row j. (is.limited.fares row.fare.key row.fare (live_of row j).fare).1.class))) i
 
   pub has_row : HasRow m.sheet.value.rows g
   has_row = record {

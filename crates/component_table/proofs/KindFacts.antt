@@ -5,15 +5,15 @@ use Rattle.component_table.specs.declared.kinds.TailKind.{TailKind}
 use Rattle.component_table.specs.Kinds.{AreKindsOf, IsKindOf, KindAdded}
 use Rattle.component_table.specs.Rows.{IsHeadOf}
 use Rattle.component_table.specs.Tables.{BeginsWith, EndsWith, HasLegs}
-use Rattle.component_table.proofs.FiledFacts.{some_same}
-use Rattle.component_table.proofs.PathFacts.{on_last_to}
-use Rattle.component_table.proofs.ReachFacts.{got_left}
 use Rattle.fare_law.specs.declared.flights.Flight.{Flight}
 use Rattle.fare_law.specs.declared.requests.Request.{Request}
 use Rattle.fare_law.specs.Book.{Book}
 use Rattle.fare_law.specs.Lists.{IsPrefix, OnFirst}
 use Rattle.fare_law.specs.Parts.{Numbers}
 use Rattle.flight_paths.specs.declared.positions.Path.{Path}
+use Rattle.law_lemmas.proofs.LawFacts.{on_last_to}
+use Rattle.law_lemmas.proofs.Lists.{got_left}
+use Rattle.law_lemmas.proofs.Options.{some_one}
 
 begins_as : (first : Flight) (fs : List Flight) → OnFirst (λ f. f ≡ first) fs → OnFirst (λ f. (f.day ≡ first.day) × (f.carrier ≡ first.carrier)) fs
 begins_as first [] h = absurd h
@@ -25,7 +25,7 @@ head_known b q ns first classes row begins legs fs m = record { first = begins_a
 
 -- what stands in a list with one more at the end
 pub got_more : {X : Type 0} (xs : List X) (x y : X) (n : ℕ) → slice_get (xs ++ x ∷ []) n ≡ Some y → (slice_get xs n ≡ Some y) ⊎ ((n ≡ length xs) × (y ≡ x))
-got_more [] x y zero e = inr (refl, some_same (Some x) y x e refl)
+got_more [] x y zero e = inr (refl, some_one (Some x) y x e refl)
 got_more [] x y (suc n) e = absurd (cc)
 got_more (z ∷ xs) x y zero e = inl e
 got_more (z ∷ xs) x y (suc n) e = elim (got_more xs x y n e) [ inl k ↦ inl k | inr k ↦ inr (ap suc k.0, k.1) ]
@@ -40,7 +40,7 @@ pub kinds_more : (b : Book) (q : Request) (tails : List Path) (old new : List Ta
 kinds_more b q tails old new kinds more tail last classes added own ends legs h n k t got at = elim (got_more kinds (record { class = added.number; classes = classes }) k n (ap (λ l. slice_get l n) (sym added.added) ∙ got)) [
   | inl e ↦ let x = h n k t e at in record { class = x.class; stands = prefix_got old new k.class x.class added.given.prefix x.stands; after = x.after; ends = x.ends; legs = x.legs }
   | inr e ↦
-      let same = some_same (slice_get tails n) tail t (ap (slice_get tails) e.0 ∙ own) at in
+      let same = some_one (slice_get tails n) tail t (ap (slice_get tails) e.0 ∙ own) at in
       let is : IsKindOf b q new tail (record { class = added.number; classes = classes }) = record {
         class = record { after = tail.after; end = last.to; last = last.day };
         stands = added.given.stands;

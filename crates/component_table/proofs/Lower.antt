@@ -1,8 +1,7 @@
 -- A table as it grows, entry by entry.
-use Rattle.std.proofs.Common.{◌≡◌, ◌⊎◌, ℕ, zero, suc, ◌≤◌, Bool, List, [], ◌∷◌, ◌++◌, set, slice_get, Some, refl, sym, ap, subst, ◌∙◌, inl, inr, arith}
+use Rattle.std.proofs.Common.{◌≡◌, ◌⊎◌, ℕ, zero, suc, ◌≤◌, Bool, List, [], ◌∷◌, ◌++◌, set, slice_get, Some, refl, sym, ap, subst, ◌∙◌, inl, inr}
 use Rattle.component_table.specs.Tables.{Covers, GoesOn, HasAt, HasBelow, HasGroup, IsEntry, Lowered}
 use Rattle.fare_groups.specs.declared.group.FareGroup.{FareGroup}
-use Rattle.fare_groups.proofs.Grouped.{each_in, in_each, in_either, in_left, in_right}
 use Rattle.fare_law.specs.declared.flights.Flight.{Flight}
 use Rattle.fare_law.specs.declared.requests.Request.{Request}
 use Rattle.fare_law.specs.Book.{Book}
@@ -12,16 +11,12 @@ use Rattle.flight_paths.specs.declared.positions.Position.{Position}
 use Rattle.outlines.specs.declared.outline.Entry.{Entry}
 use Rattle.outlines.specs.declared.outline.Outline.{Outline}
 use Rattle.outlines.specs.ByGroups.{OutlineOver, PathDone}
-use Rattle.residual_keys.proofs.Sheeted.{got_in}
-
-pub itself : (n : ℕ) → n ≤ n
-itself n = omega arith
-
-pub le_on : (x y z : ℕ) → x ≤ y → y ≤ z → x ≤ z
-le_on x y z h k = omega (arith, h, k)
+use Rattle.law_lemmas.proofs.EachOne.{each_from, each_in}
+use Rattle.law_lemmas.proofs.Members.{got_in, in_either, in_left, in_right}
+use Rattle.law_lemmas.proofs.Numbers.{le_itself, le_on}
 
 stays : (es : List Entry) (e : Entry) → IsIn e es → HasBelow es e.outline e.price
-stays es e i = record { entry = e; within = i; outline = refl; below = itself e.price }
+stays es e i = record { entry = e; within = i; outline = refl; below = le_itself e.price }
 
 pub covers_self : (es : List Entry) → Covers es es
 covers_self es e i = stays es e i
@@ -96,7 +91,7 @@ module _ (b : Book) (q : Request) (at : Position) where
   pub goes_lowered : (x : Entry) (old new : List Entry) → IsEntry b q at x → Lowered x old new → GoesOn b q at old new
   goes_lowered x old new is l = record {
     covers = l.covers;
-    right = λ r. in_each (IsEntry b q at) new (λ e i. elim (l.only e i) [ inl j ↦ each_in (IsEntry b q at) old e r j | inr s ↦ subst (IsEntry b q at) (sym s) is ]);
+    right = λ r. each_from (IsEntry b q at) new (λ e i. elim (l.only e i) [ inl j ↦ each_in (IsEntry b q at) old e r j | inr s ↦ subst (IsEntry b q at) (sym s) is ]);
   }
 
 -- what was put in stays put in

@@ -1,6 +1,5 @@
 -- The paths of a position, put into its table one after another.
-use Rattle.std.proofs.Common.{◌≡◌, ℕ, zero, suc, ◌+◌, ◌<◌, ◌≤◌, Bool, true, false, List, [], ◌∷◌, ◌++◌, length, take, get_or, slice_get, Option, Some, Result, Ok, Err, OnOk, refl, sym, ap, subst, ◌∙◌, inl, inr, arith}
-use Rattle.std.proofs.Math.Seq.{take-suc}
+use Rattle.std.proofs.Common.{◌≡◌, ℕ, suc, ◌+◌, ◌<◌, Bool, true, false, List, [], ◌∷◌, ◌++◌, length, take, get_or, slice_get, Option, Some, refl, sym, ap, subst, ◌∙◌, inl, inr, arith}
 use Rattle.component_table.specs.declared.markets.Market.{Market}
 use Rattle.component_table.specs.declared.markets.MarketKey.{MarketKey}
 use Rattle.component_table.specs.declared.ways.Flown.{Flown}
@@ -11,12 +10,11 @@ use Rattle.component_table.proofs.GroupFacts.{path_some}
 use Rattle.component_table.proofs.Lower.{goes_on, goes_self, has_group_on, path_done_on}
 use Rattle.fare_book.specs.Keeping.{NoFare}
 use Rattle.fare_groups.specs.declared.group.FareGroup.{FareGroup}
-use Rattle.fare_groups.proofs.Grouped.{each_in, in_each, in_either, in_left, in_right}
 use Rattle.fare_law.specs.declared.flights.Flight.{Flight}
 use Rattle.fare_law.specs.declared.requests.Request.{Request}
 use Rattle.fare_law.specs.declared.names.Place.{Place}
 use Rattle.fare_law.specs.Book.{Book}
-use Rattle.fare_law.specs.Lists.{IsIn, OnFirst, OnLast}
+use Rattle.fare_law.specs.Lists.{IsIn, OnLast}
 use Rattle.fare_law.specs.Parts.{Numbers}
 use Rattle.fare_law.specs.Sheets.{Sheet, SheetOf}
 use Rattle.flight_paths.specs.declared.positions.Path.{Path}
@@ -30,9 +28,12 @@ use Rattle.outlines.specs.Outlines.{Outlined}
 use Rattle.outlines.proofs.Tabling.{paths_tabled}
 use Rattle.residual_keys.specs.Residuals.{no_part}
 use Rattle.residual_keys.specs.Steps.{MarketOver}
-use Rattle.residual_keys.proofs.OneNext.{numbers_one}
 use Rattle.residual_keys.proofs.Runs.{flies_numbers}
 use Rattle.residual_keys.proofs.StepTaken.{path_known}
+use Rattle.law_lemmas.proofs.EachOne.{each_from, each_in}
+use Rattle.law_lemmas.proofs.LawFacts.{numbers_one, on_last_to}
+use Rattle.law_lemmas.proofs.Lists.{front_read}
+use Rattle.law_lemmas.proofs.Members.{in_either, in_left, in_one, in_right}
 
 -- the ends of the market between two places, this way
 abbrev pub end_from : Bool → Place → Place → Place
@@ -43,31 +44,9 @@ abbrev pub end_to : Bool → Place → Place → Place
 end_to true from to = from
 end_to false from to = to
 
-pub one_more : {X : Type 0} (xs : List X) (i : ℕ) (d x : X) → i < length xs → x ≡ get_or xs i d → take (i + 1) xs ≡ take i xs ++ x ∷ []
-one_more xs i d x lt e = let one : i + 1 ≡ suc i = omega arith in ap (λ n. take n xs) one ∙ take-suc xs i d lt ∙ ap (λ z. take i xs ++ z ∷ []) (sym e)
-
-pub in_one : {X : Type 0} (x y : X) → IsIn x (y ∷ []) → x ≡ y
-in_one x y (inl e) = e
-in_one x y (inr n) = absurd n
-
 -- what holds of each that was seen, and of one more
 seen_more : {X : Type 0} (P : X → Type 0) (xs : List X) (i : ℕ) (d x : X) → i < length xs → x ≡ get_or xs i d → ((y : X) → IsIn y (take i xs) → P y) → P x → (y : X) → IsIn y (take (i + 1) xs) → P y
-seen_more P xs i d x lt e h p y j = elim (in_either y (take i xs) (x ∷ []) (subst (IsIn y) (one_more xs i d x lt e) j)) [ inl k ↦ h y k | inr k ↦ subst P (sym (in_one y x k)) p ]
-
--- what holds of the first and the last of some flights
-pub on_first_as : (P : Flight → Type 0) (fs : List Flight) (f : Flight) → OnFirst (λ x. f ≡ x) fs → P f → OnFirst P fs
-on_first_as P [] f h p = absurd h
-on_first_as P (x ∷ fs) f h p = subst P h p
-
-pub on_last_as : (P : Flight → Type 0) (fs : List Flight) (f : Flight) → OnLast (λ x. f ≡ x) fs → P f → OnLast P fs
-on_last_as P [] f h p = absurd h
-on_last_as P (x ∷ []) f h p = subst P h p
-on_last_as P (x ∷ y ∷ fs) f h p = on_last_as P (y ∷ fs) f h p
-
-pub on_last_to : (P Q : Flight → Type 0) (fs : List Flight) → ((f : Flight) → P f → Q f) → OnLast P fs → OnLast Q fs
-on_last_to P Q [] to h = absurd h
-on_last_to P Q (f ∷ []) to h = to f h
-on_last_to P Q (f ∷ g ∷ fs) to h = on_last_to P Q (g ∷ fs) to h
+seen_more P xs i d x lt e h p y j = elim (in_either y (take i xs) (x ∷ []) (subst (IsIn y) (front_read xs i d x lt e) j)) [ inl k ↦ h y k | inr k ↦ subst P (sym (in_one y x k)) p ]
 
 -- where some flights end
 ends_at : (fs : List Flight) → (fs ≡ [] → ⊥) → (place : Place) × OnLast (λ f. f.to ≡ place) fs
@@ -175,9 +154,9 @@ module _ (b : Book) (q : Request) (at : Position) where
   -- once all paths that end at a wanted place are put in, it is the position's table, where no fare is filed to another place or from it
   pub table_put : (new : List Entry) (wanted : Place → Bool) → ((place : Place) → wanted place ≡ false → HasNoFares b at.place place) → (s : Saw (PutsIn (record { book = b; request = q; at = at; entries = [] })) (PutsIn (record { book = b; request = q; at = at; entries = new })) (AreReached b q.slices at wanted)) → IsTable b q at new
   table_put new wanted others s = record {
-    tabled = paths_tabled b q at new (in_each (λ (e : Entry). Outlined b q at e.outline e.price) new (λ e i. (each_in (IsEntry b q at) new e put.right i).outlined)) (λ path fs is reverse. done path fs is reverse (ends_at fs (path_flights b q at path.flights fs path.after is)));
-    rules = in_each (HasRule b) new (λ e i. (each_in (IsEntry b q at) new e put.right i).rule);
-    within = in_each EntryWithin new (λ e i. (each_in (IsEntry b q at) new e put.right i).within);
+    tabled = paths_tabled b q at new (each_from (λ (e : Entry). Outlined b q at e.outline e.price) new (λ e i. (each_in (IsEntry b q at) new e put.right i).outlined)) (λ path fs is reverse. done path fs is reverse (ends_at fs (path_flights b q at path.flights fs path.after is)));
+    rules = each_from (HasRule b) new (λ e i. (each_in (IsEntry b q at) new e put.right i).rule);
+    within = each_from EntryWithin new (λ e i. (each_in (IsEntry b q at) new e put.right i).within);
   }
     where
       put : HasPut (record { book = b; request = q; at = at; entries = new }) s.seen
@@ -212,21 +191,6 @@ module _ (b : Book) (q : Request) (at : Position) (book : Book) (request : Reque
       (subst (λ (y : Request). ((place : Place) → wanted place ≡ false → HasNoFares b position.place place) → Saw (PutsIn (record { book = b; request = q; at = at; entries = [] })) (PutsIn (record { book = b; request = q; at = at; entries = new })) (AreReached b y.slices position wanted) → IsTable b y position new) (sym request_is)
       (subst (λ (z : Position). ((place : Place) → wanted place ≡ false → HasNoFares b z.place place) → Saw (PutsIn (record { book = b; request = q; at = at; entries = [] })) (PutsIn (record { book = b; request = q; at = at; entries = new })) (AreReached b q.slices z wanted) → IsTable b q z new) (sym at_is) (table_put b q at new wanted)))
 
-pub got_lt : {X : Type 0} (xs : List X) (n : ℕ) (x : X) → slice_get xs n ≡ Some x → n < length xs
-got_lt [] n x e = absurd (cc)
-got_lt (y ∷ xs) zero x e = omega arith
-got_lt (y ∷ xs) (suc n) x e = let lt = got_lt xs n x e in omega (arith, lt)
-
-pub got_is : {X : Type 0} (xs : List X) (n : ℕ) (d x : X) → slice_get xs n ≡ Some x → get_or xs n d ≡ x
-got_is [] n d x e = absurd (cc)
-got_is (y ∷ xs) zero d x e = cc
-got_is (y ∷ xs) (suc n) d x e = got_is xs n d x e
-
-pub got_at : {X : Type 0} (xs : List X) (n : ℕ) (d x : X) → n < length xs → x ≡ get_or xs n d → slice_get xs n ≡ Some x
-got_at [] n d x lt e = absurd (omega arith)
-got_at (y ∷ xs) zero d x lt e = ap Some (sym e)
-got_at (y ∷ xs) (suc n) d x lt e = got_at xs n d x (omega arith) e
-
 -- these groups of a market were put in
 pub record GroupsIn (b : Book) (q : Request) (at : Position) (flown : Flown) (reverse : Bool) (gs : List FareGroup) (old new : List Entry) : Type 0 where
   pub goes : GoesOn b q at old new
@@ -238,28 +202,5 @@ groups_in_none b q at flown reverse old = record { goes = goes_self b q at old; 
 pub groups_in_more : (b : Book) (q : Request) (at : Position) (flown : Flown) (reverse : Bool) (gs : List FareGroup) (i : ℕ) (d g : FareGroup) (old mid new : List Entry) → i < length gs → g ≡ get_or gs i d → GroupsIn b q at flown reverse (take i gs) old mid → GroupDone b q at flown reverse g mid new → GroupsIn b q at flown reverse (take (i + 1) gs) old new
 groups_in_more b q at flown reverse gs i d g old mid new lt e h done = record { goes = goes_on b q at old mid new h.goes done.goes; has = groups_more b q at flown reverse gs i d g old mid new lt e h.goes h.has done }
 
-pub read_in : {X : Type 0} (xs : List X) (i : ℕ) (d x : X) → i < length xs → x ≡ get_or xs i d → IsIn x xs
-read_in [] i d x lt e = absurd (omega arith)
-read_in (y ∷ xs) zero d x lt e = inl e
-read_in (y ∷ xs) (suc i) d x lt e = inr (read_in xs i d x (omega arith) e)
-
-pub first_in : {X : Type 0} (xs : List X) (d : X) → (xs ≡ [] → ⊥) → IsIn (get_or xs 0 d) xs
-first_in [] d ne = absurd (ne refl)
-first_in (x ∷ xs) d ne = inl refl
-
-pub last_got : {X : Type 0} (xs : List X) (x : X) → slice_get (xs ++ x ∷ []) (length xs) ≡ Some x
-last_got [] x = refl
-last_got (y ∷ xs) x = last_got xs x
-
-pub got_same : {X : Type 0} (xs ys : List X) (n : ℕ) (d x y : X) → ys ≡ xs → y ≡ get_or ys n d → slice_get xs n ≡ Some x → y ≡ x
-got_same xs ys n d x y e is got = is ∙ ap (λ zs. get_or zs n d) e ∙ got_is xs n d x got
-
-pub on_ok : {A E : Type 0} (r : Result A E) (P Q : Type 0) → (P → Q) → OnOk r P → OnOk r Q
-on_ok (Ok x) P Q f p = f p
-on_ok (Err e) P Q f p = tt
-
 pub own_sheet : (b : Book) (from to : Place) (sheet : Sheet) → SheetOf b from to sheet → SheetOf b sheet.from sheet.to sheet
 own_sheet b from to sheet h = subst (λ p. SheetOf b p sheet.to sheet) (sym h.filed_from) (subst (λ p. SheetOf b from p sheet) (sym h.filed_to) h)
-
-pub low_sum : (a c charges : ℕ) → a ≤ 3000000 → c ≤ 32000000 → charges ≡ a + c → charges ≤ 35000000
-low_sum a c charges h k e = omega (arith, h, k, e)

@@ -1,35 +1,25 @@
 -- Markets and ends, as more are found.
-use Rattle.std.proofs.Common.{◌≡◌, ℕ, zero, suc, List, [], ◌∷◌, ◌++◌, append-nil, append_assoc, slice_get, Option, Some, None, MatchOption, sym, ap, subst, ◌∙◌, Bool, true, false}
+use Rattle.std.proofs.Common.{◌≡◌, ℕ, List, [], ◌∷◌, ◌++◌, slice_get, Option, Some, None, MatchOption, ap, subst, ◌∙◌, Bool, true, false}
 use Rattle.component_table.specs.declared.markets.Market.{Market}
 use Rattle.component_table.specs.declared.markets.MarketKey.{MarketKey}
 use Rattle.component_table.specs.declared.ends.End.{End}
 use Rattle.component_table.specs.declared.ends.EndKey.{EndKey}
 use Rattle.component_table.specs.declared.filed.Filed.{Filed}
 use Rattle.component_table.specs.Markets.{StandsAt}
-use Rattle.component_table.proofs.FiledFacts.{some_same}
 use Rattle.component_table.proofs.PathFacts.{end_from, end_to}
 use Rattle.fare_book.specs.Keeping.{NoFare}
-use Rattle.residual_keys.proofs.Sheeted.{got_in}
 use Rattle.component_table.specs.Reaches.{EndStands, FiledAt, IsEnd, IsEndAt, IsKnown, filed_of}
-use Rattle.fare_groups.proofs.Grouped.{each_in, in_each}
 use Rattle.fare_law.specs.declared.names.Carrier.{Carrier}
 use Rattle.fare_law.specs.declared.names.Place.{Place}
 use Rattle.fare_law.specs.Book.{Book}
 use Rattle.fare_law.specs.Lists.{Each, IsPrefix}
-
-pub prefix_self : {X : Type 0} (xs : List X) → IsPrefix xs xs
-prefix_self xs = ([], sym (append-nil xs))
+use Rattle.law_lemmas.proofs.EachOne.{each_from, each_in}
+use Rattle.law_lemmas.proofs.Lists.{got_left}
+use Rattle.law_lemmas.proofs.Members.{got_in}
+use Rattle.law_lemmas.proofs.Options.{some_one}
 
 pub prefix_one : {X : Type 0} (xs ys : List X) (x : X) → ys ≡ xs ++ x ∷ [] → IsPrefix xs ys
 prefix_one xs ys x e = (x ∷ [], e)
-
-pub prefix_on : {X : Type 0} (xs ys zs : List X) → IsPrefix xs ys → IsPrefix ys zs → IsPrefix xs zs
-prefix_on xs ys zs h k = (h.0 ++ k.0, k.1 ∙ ap (λ l. l ++ k.0) h.1 ∙ append_assoc xs h.0 k.0)
-
-pub got_left : {X : Type 0} (xs ys : List X) (n : ℕ) (x : X) → slice_get xs n ≡ Some x → slice_get (xs ++ ys) n ≡ Some x
-got_left [] ys n x e = absurd (cc)
-got_left (y ∷ xs) ys zero x e = e
-got_left (y ∷ xs) ys (suc n) x e = got_left xs ys n x e
 
 pub stands_on : (ms ns : List Market) (key : MarketKey) (at : ℕ) → IsPrefix ms ns → StandsAt ms key at → StandsAt ns key at
 stands_on ms ns key at p h = record { market = h.market; stands = ap (λ l. slice_get l at) p.1 ∙ got_left ms p.0 at h.market h.stands; from = h.from; to = h.to }
@@ -46,18 +36,14 @@ pub end_on : (b : Book) (from : Place) (ms ns : List Market) (e : End) → IsPre
 end_on b from ms ns e p h = record { there = filed_on _ ms ns _ e.key.carrier e.there p h.there; back = filed_on _ ms ns _ e.key.carrier e.back p h.back }
 
 pub ends_on : (b : Book) (from : Place) (ms ns : List Market) (es : List End) → IsPrefix ms ns → Each (IsEnd b from ms) es → Each (IsEnd b from ns) es
-ends_on b from ms ns es p h = in_each (IsEnd b from ns) es (λ e i. end_on b from ms ns e p (each_in (IsEnd b from ms) es e h i))
-
-pub each_last : {X : Type 0} (P : X → Type 0) (xs : List X) (x : X) → Each P xs → P x → Each P (xs ++ x ∷ [])
-each_last P [] x h k = (k, tt)
-each_last P (y ∷ xs) x h k = (h.0, each_last P xs x h.1 k)
+ends_on b from ms ns es p h = each_from (IsEnd b from ns) es (λ e i. end_on b from ms ns e p (each_in (IsEnd b from ms) es e h i))
 
 pub known_end : (b : Book) (from : Place) (key : EndKey) (ms : List Market) (es : List End) (at : ℕ) → Each (IsEnd b from ms) es → IsKnown es key at → EndStands b from key ms es at
 known_end b from key ms es at h k = record { one = k.one; stands = k.stands; is = record { key_is = k.key_is; end = each_in (IsEnd b from ms) es k.one h (got_in es at k.one k.stands) } }
 
 -- what stands there is the end
 pub end_stands : (b : Book) (from : Place) (key : EndKey) (ms : List Market) (es : List End) (at : ℕ) (e : End) → EndStands b from key ms es at → slice_get es at ≡ Some e → IsEndAt b from key ms e
-end_stands b from key ms es at e h got = subst (IsEndAt b from key ms) (some_same (slice_get es at) h.one e h.stands got) h.is
+end_stands b from key ms es at e h got = subst (IsEndAt b from key ms) (some_one (slice_get es at) h.one e h.stands got) h.is
 
 -- where a carrier's groups stand between a place and an end, this way
 pub end_found : (b : Book) (from : Place) (ms : List Market) (e : End) (r : Bool) → IsEnd b from ms e → MatchOption (filed_of e r) (NoFare b (end_from r from e.key.place) (end_to r from e.key.place)) (FiledAt ms (record { from = end_from r from e.key.place; to = end_to r from e.key.place }) e.key.carrier)

@@ -20,15 +20,12 @@ use Rattle.component_table.specs.Masks.{PutsMask}
 use Rattle.component_table.specs.Reaches.{IsEnd, IsUnserved, filed_of}
 use Rattle.component_table.specs.Rows.{AreRows, HasRows, IsHeadOf, IsKnownTail, IsMet, IsRow, IsRowAt, TailAddsNothing}
 use Rattle.component_table.specs.Tables.{AddsNothing, Covers, HasLegs}
-use Rattle.component_table.proofs.FiledFacts.{some_same}
 use Rattle.component_table.proofs.Halves.{joint_class, joint_legs}
 use Rattle.component_table.proofs.Lower.{set_only}
-use Rattle.component_table.proofs.ReachFacts.{each_last}
 use Rattle.component_table.proofs.Served.{ReachesEnd, served_done, unserved_none}
 use Rattle.component_table.proofs.SettledFacts.{class_on, reaches_end, settled_added}
 use Rattle.component_table.proofs.SomeLegs.{no_class}
 use Rattle.fare_book.specs.Keeping.{Limited}
-use Rattle.fare_groups.proofs.Grouped.{each_in, in_each}
 use Rattle.fare_law.specs.declared.flights.Flight.{Flight}
 use Rattle.fare_law.specs.declared.names.Carrier.{Carrier}
 use Rattle.fare_law.specs.declared.requests.Request.{Request}
@@ -37,7 +34,9 @@ use Rattle.fare_law.specs.Parts.{Numbers}
 use Rattle.flight_paths.specs.declared.positions.Path.{Path}
 use Rattle.flight_paths.specs.declared.positions.Position.{Position}
 use Rattle.outlines.specs.declared.outline.Entry.{Entry}
-use Rattle.residual_keys.proofs.Sheeted.{got_in}
+use Rattle.law_lemmas.proofs.EachOne.{each_from, each_in, each_more}
+use Rattle.law_lemmas.proofs.Members.{got_in}
+use Rattle.law_lemmas.proofs.Options.{some_one}
 
 below_or_from : (n i : ℕ) → (i < n) ⊎ (n ≤ i)
 below_or_from zero i = inr (omega arith)
@@ -49,7 +48,7 @@ module _ (b : Book) (q : Request) (at : Position) where
   pub tail_nothing : (ns : List ℕ) (h : HeadKind) (classes : List TailClass) (tail : Path) (k : TailKind) (c : TailClass) (mask : ℕ) (table : List Entry) → IsHeadOf b q ns h → IsKindOf b q classes tail k → slice_get classes k.class ≡ Some c
       → ClassDone b q at (record { class = joined_class h.carrier h.first c; classes = mask }) table → AreAmong (bit_and h.classes k.classes) mask → AddsNothing b q at (ns ++ tail.flights) tail.after table
   tail_nothing ns h classes tail k c mask table head kind got done among path flights after p =
-      let same = some_same (slice_get classes k.class) kind.class c kind.stands got in
+      let same = some_one (slice_get classes k.class) kind.class c kind.stands got in
       let own = subst (λ (x : TailClass). ClassDone b q at (record { class = joined_class h.carrier h.first x; classes = mask }) table) (sym same) done in
       settled_added b q at path (record { class = joined_class h.carrier h.first kind.class; classes = mask }) (bit_and h.classes k.classes) table own
       (λ fs m. joint_class b q ns h classes tail k head kind path.after after fs (subst (λ l. Numbers b l fs) flights m))
@@ -59,7 +58,7 @@ module _ (b : Book) (q : Request) (at : Position) where
   pub done_in_row : (rows : List Row) (h : HeadKind) (c : TailClass) (mask : ℕ) (table : List Entry) → IsRowAt rows h.carrier h.first h.row → (one : Row) → slice_get rows h.row ≡ Some one
       → ClassDone b q at (record { class = joined_class h.carrier h.first c; classes = mask }) table → ClassDone b q at (record { class = joined_class one.carrier one.first c; classes = mask }) table
   done_in_row rows h c mask table row one stands done =
-      let same = some_same (slice_get rows h.row) row.row one row.stands stands in
+      let same = some_one (slice_get rows h.row) row.row one row.stands stands in
       subst (λ (r : Row). ClassDone b q at (record { class = joined_class r.carrier r.first c; classes = mask }) table) same
       (subst (λ x. ClassDone b q at (record { class = joined_class x row.row.first c; classes = mask }) table) (sym row.carrier_is)
       (subst (λ d. ClassDone b q at (record { class = joined_class h.carrier d c; classes = mask }) table) (sym row.first_is) done))
@@ -103,7 +102,7 @@ module _ (b : Book) (q : Request) (at : Position) where
 
   -- a row stays right as the table grows
   pub rows_on : (classes : List TailClass) (old new : List Entry) (rows : List Row) → Covers old new → AreRows b q at classes old rows → AreRows b q at classes new rows
-  rows_on classes old new rows covers h = in_each (IsRow b q at classes new) rows (λ row i n mask c got known. class_on b q at (record { class = joined_class row.carrier row.first c; classes = mask }) old new covers (each_in (IsRow b q at classes old) rows row h i n mask c got known))
+  rows_on classes old new rows covers h = each_from (IsRow b q at classes new) rows (λ row i n mask c got known. class_on b q at (record { class = joined_class row.carrier row.first c; classes = mask }) old new covers (each_in (IsRow b q at classes old) rows row h i n mask c got known))
 
 -- the rows stay right as the table grows
 pub has_rows_on : (b : Book) (q : Request) (at : Position) (classes : List TailClass) (old new : List Entry) (r : Rows) → Covers old new → HasRows b q at classes old r → HasRows b q at classes new r
@@ -112,7 +111,7 @@ has_rows_on b q at classes old new r covers h = record { each = rows_on b q at c
 -- what stands in a list of which one is set to another
 set_stands : {X : Type 0} (xs : List X) (i n : ℕ) (old new x : X) → slice_get xs i ≡ Some old → slice_get xs n ≡ Some x → (y : X) × (slice_get (set xs i new) n ≡ Some y) × ((y ≡ x) ⊎ ((y ≡ new) × (x ≡ old)))
 set_stands [] i n old new x e g = absurd (cc)
-set_stands (z ∷ zs) zero zero old new x e g = (new, refl, inr (refl, some_same (Some z) x old g e))
+set_stands (z ∷ zs) zero zero old new x e g = (new, refl, inr (refl, some_one (Some z) x old g e))
 set_stands (z ∷ zs) zero (suc n) old new x e g = (x, g, inl refl)
 set_stands (z ∷ zs) (suc i) zero old new x e g = (x, g, inl refl)
 set_stands (z ∷ zs) (suc i) (suc n) old new x e g = set_stands zs i n old new x e g
@@ -140,7 +139,7 @@ module _ (rows : List Row) (i : ℕ) (old new : Row) (stands : slice_get rows i 
   pub rows_put : (b : Book) (q : Request) (at : Position) (classes : List TailClass) (table : List Entry) (class mask : ℕ) (c : TailClass) → PutsMask class mask old.masks.items new.masks.items → slice_get classes class ≡ Some c
       → ClassDone b q at (record { class = joined_class old.carrier old.first c; classes = mask }) table → AreRows b q at classes table rows → AreRows b q at classes table (set rows i new)
   rows_put b q at classes table class mask c puts known done h =
-      in_each (IsRow b q at classes table) (set rows i new) (λ row within. elim (set_only rows i new row within) [
+      each_from (IsRow b q at classes table) (set rows i new) (λ row within. elim (set_only rows i new row within) [
         | inl k ↦ each_in (IsRow b q at classes table) rows row h k
         | inr e ↦ subst (IsRow b q at classes table) (sym e) own
       ])
@@ -158,17 +157,13 @@ module _ (rows : List Row) (i : ℕ) (old new : Row) (stands : slice_get rows i 
       own n m k got at_n = elim (puts n m got) [
         | inl e ↦ now_for k m (was n m k e at_n)
         | inr e ↦
-            let same = some_same (slice_get classes class) c k known (ap (slice_get classes) (sym e.0) ∙ at_n) in
+            let same = some_one (slice_get classes class) c k known (ap (slice_get classes) (sym e.0) ∙ at_n) in
             now_for k m (subst (λ x. DoneFor old.carrier old.first x m) same (subst (λ x. DoneFor old.carrier old.first c x) (sym e.1) done))
       ]
 
 -- one row more, in which nothing is known
 pub rows_more : (b : Book) (q : Request) (at : Position) (classes : List TailClass) (table : List Entry) (rows : List Row) (row : Row) → ((n mask : ℕ) → slice_get row.masks.items n ≡ Some (Some mask) → ⊥) → AreRows b q at classes table rows → AreRows b q at classes table (rows ++ row ∷ [])
-rows_more b q at classes table rows row none h = each_last (IsRow b q at classes table) rows row h (λ n mask c got known. absurd (none n mask got))
-
-pub if_some : {A : Type 0} (o : Option A) (P Q : A → Type 0) → ((a : A) → P a → Q a) → IfSome o P → IfSome o Q
-if_some None P Q f p = tt
-if_some (Some x) P Q f p = f x p
+rows_more b q at classes table rows row none h = each_more (IsRow b q at classes table) rows row h (λ n mask c got known. absurd (none n mask got))
 
 -- what is known of a path of the head at hand and a known tail
 module _ (b : Book) (q : Request) (at : Position) (table : List Entry) (r : Rows) (ks : Kinds) where
@@ -192,7 +187,7 @@ module _ (b : Book) (q : Request) (at : Position) (table : List Entry) (r : Rows
       own fs m = subst (λ l. Numbers b l fs) (ap (λ (p : Path). p.flights) x.path_is ∙ flights) m
 
       class : j.class ≡ joined_class x.head.kind.carrier x.head.kind.first kind.class
-      class = x.class_is ∙ ap (λ (c : TailClass). joined_class x.head.kind.carrier x.head.kind.first c) (some_same (slice_get ks.classes.items x.kind.class) x.tail kind.class x.tail_stands kind.stands)
+      class = x.class_is ∙ ap (λ (c : TailClass). joined_class x.head.kind.carrier x.head.kind.first c) (some_one (slice_get ks.classes.items x.kind.class) x.tail kind.class x.tail_stands kind.stands)
 
   pub joint_of : (ns : List ℕ) (number : ℕ) (path : Path) (j : Joint) → HasRows b q at ks.classes.items table r → Joins r ks ns number path j → IsJointOf ks.classes.items r.kept.items j
   joint_of ns number path j has x = record {
@@ -200,6 +195,6 @@ module _ (b : Book) (q : Request) (at : Position) (table : List Entry) (r : Rows
     stands = ap (slice_get ks.classes.items) x.tail_is ∙ x.tail_stands;
     row = λ one got.
         let row = (joint_head ns number path j has x).row in
-        let same = some_same (slice_get r.kept.items x.head.kind.row) row.row one row.stands (ap (slice_get r.kept.items) (sym x.row_is) ∙ got) in
+        let same = some_one (slice_get r.kept.items x.head.kind.row) row.row one row.stands (ap (slice_get r.kept.items) (sym x.row_is) ∙ got) in
         x.class_is ∙ ap (λ d. joined_class x.head.kind.carrier d x.tail) (sym row.first_is) ∙ ap (λ e. joined_class e row.row.first x.tail) (sym row.carrier_is) ∙ ap (λ (y : Row). joined_class y.carrier y.first x.tail) same;
   }

@@ -1,5 +1,5 @@
 -- A path adds nothing with the fares of carriers but its first flight's: category 9 asks in every form that the fare's carrier is the first flight's.
-use Rattle.std.proofs.Common.{◌≡◌, ℕ, suc, ◌+◌, ◌<◌, ◌≤◌, Bool, true, false, List, [], ◌∷◌, length, get_or, slice_get, All, Option, Some, None, MatchOption, MatchBool, refl, sym, ap, subst, ◌∙◌, inl, inr, arith}
+use Rattle.std.proofs.Common.{◌≡◌, ℕ, ◌+◌, ◌<◌, ◌≤◌, Bool, true, false, List, [], ◌∷◌, length, get_or, slice_get, All, Option, Some, None, MatchOption, MatchBool, refl, sym, ap, subst, ◌∙◌, inl, inr, arith}
 use Rattle.std.proofs.lemmas.List.Elements.{All-head}
 use Rattle.component_table.specs.declared.ends.End.{End}
 use Rattle.component_table.specs.declared.ends.EndKey.{EndKey}
@@ -10,15 +10,13 @@ use Rattle.component_table.specs.Markets.{AreMarkets, IsMarket}
 use Rattle.component_table.specs.Reaches.{FiledAt, IsEnd, IsUnserved, StandBetween, filed_of}
 use Rattle.component_table.specs.Tables.{GoesOn, GroupDone, HasGroup, HasLegs, PathAdded}
 use Rattle.component_table.proofs.GroupFacts.{path_some, some_counted}
-use Rattle.component_table.proofs.FiledFacts.{below_or, some_same}
 use Rattle.component_table.proofs.Lower.{goes_on, goes_self, has_group_on}
-use Rattle.component_table.proofs.PathFacts.{end_from, end_to, got_at, on_last_to, path_numbers, path_over}
+use Rattle.component_table.proofs.PathFacts.{end_from, end_to, path_numbers, path_over}
 use Rattle.component_table.proofs.ReachFacts.{end_found}
 use Rattle.component_table.proofs.SomeLegs.{no_class, some_legs}
 use Rattle.fare_book.specs.Keeping.{Limited, NoFare}
 use Rattle.fare_groups.specs.declared.group.FareGroup.{FareGroup}
 use Rattle.fare_groups.specs.Groups.{Permits}
-use Rattle.fare_groups.proofs.Grouped.{each_in}
 use Rattle.fare_law.specs.declared.flights.Flight.{Flight}
 use Rattle.fare_law.specs.declared.names.Carrier.{Carrier}
 use Rattle.fare_law.specs.declared.requests.Request.{Request}
@@ -33,7 +31,12 @@ use Rattle.flight_paths.specs.Positions.{IsPath}
 use Rattle.outlines.specs.declared.outline.Entry.{Entry}
 use Rattle.outlines.specs.ByGroups.{PathDone}
 use Rattle.residual_keys.specs.Steps.{MarketOver}
-use Rattle.residual_keys.proofs.Sheeted.{got_in}
+use Rattle.law_lemmas.proofs.EachOne.{each_in}
+use Rattle.law_lemmas.proofs.LawFacts.{on_last_to}
+use Rattle.law_lemmas.proofs.Lists.{read_got}
+use Rattle.law_lemmas.proofs.Members.{got_in, in_got}
+use Rattle.law_lemmas.proofs.Numbers.{here_or_before}
+use Rattle.law_lemmas.proofs.Options.{some_one}
 
 first_of_all : (P : Flight → Type 0) (fs : List Flight) → 1 ≤ length fs → All P fs → OnFirst P fs
 first_of_all P [] some h = absurd (omega arith)
@@ -54,11 +57,6 @@ permits_first rule carrier fs some p = go rule.cat9 p.transfers
 carriers_same : (fs : List Flight) (x y : Carrier) → OnFirst (λ f. f.carrier ≡ x) fs → OnFirst (λ f. f.carrier ≡ y) fs → x ≡ y
 carriers_same [] x y h k = absurd h
 carriers_same (f ∷ fs) x y h k = sym h ∙ k
-
-in_got : {X : Type 0} (xs : List X) (x : X) → IsIn x xs → (i : ℕ) × (slice_get xs i ≡ Some x)
-in_got [] x i = absurd i
-in_got (y ∷ xs) x (inl e) = (0, ap Some (sym e))
-in_got (y ∷ xs) x (inr i) = let r = in_got xs x i in (suc r.0, r.1)
 
 -- where the groups of the first flight's carrier are put in, all are
 pub groups_between : (b : Book) (path : Path) (fs : List Flight) (classes : ℕ) (reverse : Bool) (table : List Entry) (gs : List FareGroup) (carrier : Carrier) (f : Filed) → 1 ≤ length fs → OnFirst (λ x. x.carrier ≡ carrier) fs → StandBetween gs carrier f
@@ -161,8 +159,8 @@ module _ (b : Book) (q : Request) (at : Position) (flown : Flown) (reverse : Boo
   pub between_more : (from n : ℕ) (d x : FareGroup) (old mid new : List Entry) → n < length gs → x ≡ get_or gs n d → BetweenIn b q at flown reverse gs from n old mid → GroupDone b q at flown reverse x mid new → BetweenIn b q at flown reverse gs from (n + 1) old new
   between_more from n d x old mid new lt e h done = record {
     goes = goes_on b q at old mid new h.goes done.goes;
-    has = λ i g got low high. elim (below_or i n high) [
+    has = λ i g got low high. elim (here_or_before i n high) [
       | inl k ↦ has_group_on b flown.path.now flown.flights.now flown.classes reverse g mid new done.goes.covers (h.has i g got low k)
-      | inr s ↦ subst (λ (y : FareGroup). HasGroup b flown.path.now flown.flights.now flown.classes reverse y new) (some_same (slice_get gs n) x g (got_at gs n d x lt e) (ap (slice_get gs) (sym s) ∙ got)) done.has
+      | inr s ↦ subst (λ (y : FareGroup). HasGroup b flown.path.now flown.flights.now flown.classes reverse y new) (some_one (slice_get gs n) x g (read_got gs n d x lt e) (ap (slice_get gs) (sym s) ∙ got)) done.has
     ];
   }

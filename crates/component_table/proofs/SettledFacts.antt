@@ -1,5 +1,5 @@
 -- Classes of paths that are settled: when one is, and that it stays so as the table grows.
-use Rattle.std.proofs.Common.{◌≡◌, ◌⊎◌, ℕ, ℤ, ◌+◌, ◌<◌, ◌≤◌, Bool, true, false, List, [], ◌∷◌, length, get_or, slice_get, Option, Some, None, Result, Ok, Err, IfOk, IsBitSet, bit_and, sym, ap, subst, ◌∙◌, inl, inr, arith}
+use Rattle.std.proofs.Common.{◌≡◌, ◌⊎◌, ℕ, ℤ, ◌+◌, ◌<◌, ◌≤◌, Bool, true, false, List, [], ◌∷◌, length, get_or, slice_get, Option, Some, None, IsBitSet, bit_and, sym, ap, subst, ◌∙◌, inl, inr, arith}
 use Rattle.component_table.specs.declared.classes.PathClass.{PathClass}
 use Rattle.component_table.specs.declared.ends.End.{End}
 use Rattle.component_table.specs.declared.filed.Filed.{Filed}
@@ -10,16 +10,14 @@ use Rattle.component_table.specs.Classes.{AreAmong, AreSettled, BothSettled, Cla
 use Rattle.component_table.specs.Markets.{AreMarkets}
 use Rattle.component_table.specs.Reaches.{filed_of}
 use Rattle.component_table.specs.Tables.{Covers, HasLegs, PathAdded}
-use Rattle.component_table.proofs.FiledFacts.{below_or, some_same}
-use Rattle.component_table.proofs.Lower.{goes_self, le_on, path_done_on}
-use Rattle.component_table.proofs.PathFacts.{got_at, on_last_to, path_numbers}
+use Rattle.component_table.proofs.Lower.{goes_self, path_done_on}
+use Rattle.component_table.proofs.PathFacts.{path_numbers}
 use Rattle.component_table.proofs.Served.{ReachesEnd, not_between, served_done}
 use Rattle.fare_book.specs.Keeping.{Limited}
 use Rattle.fare_groups.specs.declared.group.FareGroup.{FareGroup}
 use Rattle.fare_groups.specs.declared.group.GroupKey.{GroupKey}
 use Rattle.fare_groups.specs.Groups.{extra_of}
 use Rattle.fare_groups.proofs.Bits.{both_set}
-use Rattle.fare_groups.proofs.Grouped.{each_in, in_each}
 use Rattle.fare_law.specs.declared.flights.Flight.{Flight}
 use Rattle.fare_law.specs.declared.requests.Request.{Request}
 use Rattle.fare_law.specs.Book.{Book}
@@ -30,6 +28,11 @@ use Rattle.flight_paths.specs.declared.positions.Position.{Position}
 use Rattle.outlines.specs.declared.outline.Entry.{Entry}
 use Rattle.outlines.specs.declared.outline.Outline.{Outline}
 use Rattle.outlines.specs.ByGroups.{OutlineOver}
+use Rattle.law_lemmas.proofs.EachOne.{each_from, each_in}
+use Rattle.law_lemmas.proofs.LawFacts.{on_last_to}
+use Rattle.law_lemmas.proofs.Lists.{read_got}
+use Rattle.law_lemmas.proofs.Numbers.{here_or_before, le_on}
+use Rattle.law_lemmas.proofs.Options.{some_one}
 
 -- the paths of a class have the outlines of their groups in common
 first_is : (d : ℤ) (c : PathClass) (fs : List Flight) → OnFirst (λ f. d ≡ f.day) fs → OnFirst (λ f. (f.day ≡ c.first) × (f.carrier ≡ c.carrier)) fs → d ≡ c.first
@@ -93,11 +96,11 @@ module _ (b : Book) (q : Request) (at : Position) where
   class_on s old new c done path fs is of classes legs among r = path_done_on b q at path fs r old new c (done path fs is of classes legs among r)
 
   pub settled_on : (kept : List SettledClass) (old new : List Entry) → Covers old new → AreSettled b q at kept old → AreSettled b q at kept new
-  settled_on kept old new c h = in_each (λ s. ClassDone b q at s new) kept (λ s i. class_on s old new c (each_in (λ s. ClassDone b q at s old) kept s h i))
+  settled_on kept old new c h = each_from (λ s. ClassDone b q at s new) kept (λ s i. class_on s old new c (each_in (λ s. ClassDone b q at s old) kept s h i))
 
   -- with one more, or one in the place of another
   pub settled_more : (old new : List SettledClass) (one : SettledClass) (table : List Entry) → AreSettled b q at old table → ClassDone b q at one table → ((s : SettledClass) → IsIn s new → IsIn s old ⊎ (s ≡ one)) → AreSettled b q at new table
-  settled_more old new one table h done only = in_each (λ s. ClassDone b q at s table) new (λ s i. elim (only s i) [ inl k ↦ each_in (λ s. ClassDone b q at s table) old s h k | inr e ↦ subst (λ s. ClassDone b q at s table) (sym e) done ])
+  settled_more old new one table h done only = each_from (λ s. ClassDone b q at s table) new (λ s i. elim (only s i) [ inl k ↦ each_in (λ s. ClassDone b q at s table) old s h k | inr e ↦ subst (λ s. ClassDone b q at s table) (sym e) done ])
 
 -- what is settled stays so
 module _ (after : Option Position) (fs : List Flight) (classes : ℕ) (reverse : Bool) (old new : List Entry) (on : Covers old new) where
@@ -112,9 +115,9 @@ module _ (after : Option Position) (fs : List Flight) (classes : ℕ) (reverse :
 
   -- one group more of those from a place on
   pub groups_next : (gs : List FareGroup) (from n : ℕ) (d x : FareGroup) → n < length gs → x ≡ get_or gs n d → GroupsSettled after fs classes reverse gs from n old → GroupSettled after fs classes reverse x new → GroupsSettled after fs classes reverse gs from (n + 1) new
-  groups_next gs from n d x lt e h one i g got low high = elim (below_or i n high) [
+  groups_next gs from n d x lt e h one i g got low high = elim (here_or_before i n high) [
     | inl k ↦ group_on g (h i g got low k)
-    | inr s ↦ subst (λ (y : FareGroup). GroupSettled after fs classes reverse y new) (some_same (slice_get gs n) x g (got_at gs n d x lt e) (ap (slice_get gs) (sym s) ∙ got)) one
+    | inr s ↦ subst (λ (y : FareGroup). GroupSettled after fs classes reverse y new) (some_one (slice_get gs n) x g (read_got gs n d x lt e) (ap (slice_get gs) (sym s) ∙ got)) one
   ]
 
 pub groups_none : (after : Option Position) (fs : List Flight) (classes : ℕ) (reverse : Bool) (table : List Entry) (gs : List FareGroup) (from to : ℕ) → to ≤ from → GroupsSettled after fs classes reverse gs from to table
@@ -124,8 +127,8 @@ groups_none after fs classes reverse table gs from to none i g got low high = ab
 module _ (after : Option Position) (fs : List Flight) (classes : ℕ) (reverse : Bool) (table : List Entry) (ms : List Market) (e : End) where
   pub way_settled : (f : Filed) (m : Market) → filed_of e reverse ≡ Some f → slice_get ms f.market ≡ Some m → GroupsSettled after fs classes reverse m.groups f.from f.to table → WaySettled ms e after fs classes reverse table
   way_settled f m found stands h g known n got_n i x got low high =
-      let sf = some_same (filed_of e reverse) f g found known in
-      let sm = some_same (slice_get ms f.market) m n stands (ap (λ (z : Filed). slice_get ms z.market) sf ∙ got_n) in
+      let sf = some_one (filed_of e reverse) f g found known in
+      let sm = some_one (slice_get ms f.market) m n stands (ap (λ (z : Filed). slice_get ms z.market) sf ∙ got_n) in
       h i x (ap (λ (z : Market). slice_get z.groups i) sm ∙ got) (subst (λ (z : Filed). z.from ≤ i) (sym sf) low) (subst (λ (z : Filed). i < z.to) (sym sf) high)
 
   pub way_none : filed_of e reverse ≡ None → WaySettled ms e after fs classes reverse table
@@ -134,10 +137,6 @@ module _ (after : Option Position) (fs : List Flight) (classes : ℕ) (reverse :
 pub both_ways : (ms : List Market) (l : Landed) (fs : List Flight) (table : List Entry) → WaySettled ms l.end.now l.path.now.after fs l.classes false table → WaySettled ms l.end.now l.path.now.after fs l.classes true table → BothSettled ms l fs table
 both_ways ms l fs table there back true = back
 both_ways ms l fs table there back false = there
-
-pub if_ok : {A E : Type 0} (r : Result A E) (P Q : A → Type 0) → ((a : A) → P a → Q a) → IfOk r P → IfOk r Q
-if_ok (Ok x) P Q f p = f x p
-if_ok (Err e) P Q f p = tt
 
 -- all are among themselves where both masks give the one
 pub among_both : (classes others : ℕ) → bit_and classes others ≡ classes → AreAmong classes others

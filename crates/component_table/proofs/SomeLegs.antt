@@ -11,6 +11,7 @@ use Rattle.fare_law.specs.declared.sheets.Leg.{Leg}
 use Rattle.fare_law.specs.Book.{Book, seats}
 use Rattle.lane_mask.proofs.MaskLemmas.{compared, compared_fits, compared_tells}
 use Rattle.residual_keys.specs.AskedKeys.{IsLeg}
+use Rattle.law_lemmas.proofs.Numbers.{none_plus, times_zero}
 
 -- the seats of a flight in so many classes, from this one on
 seats_from : Book → Flight → ℕ → ℕ → List ℕ
@@ -28,9 +29,6 @@ seats_got b f class zero i lt = absurd (omega arith)
 seats_got b f class (suc n) zero lt = let e : class ≡ class + 0 = omega arith in ap (seats b f) e
 seats_got b f class (suc n) (suc i) lt = let e : suc class + i ≡ class + suc i = omega arith in seats_got b f (suc class) n i (omega arith) ∙ ap (seats b f) e
 
-from_zero : (n : ℕ) → 0 + n ≡ n
-from_zero n = omega arith
-
 -- a flight as a leg
 leg_of : Book → ℕ → Flight → Leg
 leg_of b party f = record { flight = f; classes = compared 32 (seats_from b f 0 32) party }
@@ -40,7 +38,7 @@ unfolding leg_of seats_from
 leg_is b party f = record {
   flight = refl;
   fits = compared_fits 32 (seats_from b f 0 32) party (seats_long b f 0 32) (omega arith);
-  classes = λ class lt. subst (λ n. IsBitSet (compared 32 (seats_from b f 0 32) party) class ↔ (party ≤ n)) (seats_got b f 0 32 class lt ∙ ap (seats b f) (from_zero class)) (compared_tells 32 (seats_from b f 0 32) party class (seats_long b f 0 32) (omega arith) lt);
+  classes = λ class lt. subst (λ n. IsBitSet (compared 32 (seats_from b f 0 32) party) class ↔ (party ≤ n)) (seats_got b f 0 32 class lt ∙ ap (seats b f) (none_plus class)) (compared_tells 32 (seats_from b f 0 32) party class (seats_long b f 0 32) (omega arith) lt);
 }
 
 pub some_legs : (b : Book) (q : Request) (fs : List Flight) → (classes : ℕ) × HasLegs b q fs classes
@@ -62,9 +60,6 @@ some_legs b q (f ∷ fs) =
             );
       },
     )
-
-times_zero : (n : ℕ) → 0 * n ≡ 0
-times_zero n = omega arith
 
 -- no class is open where the mask is zero
 pub no_class : (classes k : ℕ) → classes ≡ 0 → IsBitSet classes k → ⊥

@@ -1,15 +1,11 @@
 -- The cause of a filing that is refused.
-use Rattle.std.proofs.Common.{◌≡◌, ◌<◌, suc, List, [], ◌∷◌, length, map, refl, ap}
+use Rattle.std.proofs.Common.{◌<◌, length}
 use Rattle.fare_law.specs.declared.filings.Filing.{Filing}
 use Rattle.fare_law.specs.Book.{Book}
 use Rattle.fare_book.specs.Taking.{HasCause, StopsAt}
 use Rattle.fare_book.specs.declared.faults.BookFault.{BookFault}
 use Rattle.fare_book.specs.declared.faults.BookFault.TheVariants.{Refused, Mem}
 use Rattle.fare_book.proofs.TakingLemmas.{filing_fault}
-
-pub mapped : {X Y : Type 0} (f : X → Y) (xs : List X) → length (map f xs) ≡ length xs
-mapped f [] = refl
-mapped f (x ∷ xs) = ap suc (mapped f xs)
 
 pub cause_told : (b : Book) (filing : Filing) (fault : BookFault) → length b.entries < 1000000 → StopsAt b filing.actions fault → HasCause b filing fault
 cause_told b filing (Refused r) few stops = filing_fault b filing r few stops

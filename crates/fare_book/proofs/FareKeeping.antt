@@ -16,7 +16,8 @@ use Rattle.fare_book.specs.declared.keys.RuleKey.{RuleKey}
 use Rattle.fare_book.proofs.Counting.{many_same}
 use Rattle.fare_book.proofs.FareSteps.{use_less, use_more}
 use Rattle.fare_book.proofs.SameKeys.{same_fares_tell}
-use Rattle.fare_book.proofs.Updates.{at_key, count_gone, count_new, count_old, either, live_some}
+use Rattle.fare_book.proofs.Updates.{at_key, count_gone, count_new, count_old, either}
+use Rattle.law_lemmas.proofs.Options.{some_there}
 
 one : (x y : Fare) → Some x ≡ Some y → x ≡ y
 one x y e = cc
@@ -57,7 +58,7 @@ uses_fit f h count r n few counted live c = omega (arith, few, counted.most n (m
 
 module _ {Z : Type 0} (f g : Fares) (rule : LiveRules) (changed : List RuleKey) (sheets : List (Market × Arc Sheet Z)) (old new : List (Market × FareTable)) (count : ℕ) (uses : List (RuleKey × ℕ)) (kept : FaresKept f rule changed sheets old count uses) where
   named_live : (r : RuleKey) (q : FareKey) → NamesRule f r q → IsSome (f q)
-  named_live r q n = live_some (f q) n.0 n.1
+  named_live r q n = some_there (f q) n.0 n.1
 
   pub fares_new : (x : Fare) (used : List (RuleKey × ℕ)) → Changes sheets old new x.key (Some x) None → ((q : FareKey) → g q ≡ cond (same_key q x.key) (Some x) (f q)) → count < 20000
       → ((r : RuleKey) → uses_at uses (rule_of x) + 1 < 4294967296 → uses_at used r ≡ cond (same_rule r (rule_of x)) (uses_at uses (rule_of x) + 1) (uses_at uses r))
@@ -103,7 +104,7 @@ module _ {Z : Type 0} (f g : Fares) (rule : LiveRules) (changed : List RuleKey) 
       was_live : (h : Fares) → ((q : FareKey) → h q ≡ cond (same_key q x.key) None (f q)) → (r : RuleKey) (q : FareKey) → NamesRule h r q → IsSome (f q)
       was_live h is r q n = elim (either same_key same_fares_tell f h x.key None is q) [
         | inl e ↦ clash (h q) n.0 (ap h e ∙ at_key same_key same_fares_tell f h x.key None is) n.1
-        | inr e ↦ live_some (f q) n.0 (sym e ∙ n.1)
+        | inr e ↦ some_there (f q) n.0 (sym e ∙ n.1)
       ]
 
   pub fares_gone : (k : FareKey) (o : Fare) (used : List (RuleKey × ℕ)) → Changes sheets old new k None (Some o) → ((q : FareKey) → g q ≡ cond (same_key q k) None (f q))
@@ -112,7 +113,7 @@ module _ {Z : Type 0} (f g : Fares) (rule : LiveRules) (changed : List RuleKey) 
   fares_gone k o used changes step less =
       let told = changes f g rule changed kept.keyed kept.markets step in
       let was : f k ≡ Some o = sym told.0 in
-      let some : 1 ≤ count = kept.counted.most 1 (k ∷ [], refl, (tt, tt), (live_some (f k) o was, tt)) in
+      let some : 1 ≤ count = kept.counted.most 1 (k ∷ [], refl, (tt, tt), (some_there (f k) o was, tt)) in
       record {
         markets = told.1;
         counted = count_gone same_key same_fares_tell f g k None step o count (count - 1) refl was (omega (arith, some)) kept.counted;

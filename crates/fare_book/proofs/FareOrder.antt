@@ -12,8 +12,8 @@ use Rattle.fare_law.specs.contracts.fares.FareKeyOrd.TheImpl as fare_order
 use Rattle.fare_law.specs.declared.fares.FareKey.{FareKey}
 use Rattle.fare_law.specs.Book.{same_key}
 use Rattle.fare_law.specs.Lists.{Less}
-use Rattle.fare_book.proofs.RowOrder.{words_told}
 use Rattle.fare_book.proofs.SameKeys.{same_fares_tell}
+use Rattle.law_lemmas.proofs.Words.{words_told}
 
 words_tell : (v w : List ℕ) → Decides (is_eq (slice_cmp nat_cmp v w)) (v ≡ w)
 words_tell v w = (λ t. by (slice_cmp nat_cmp v w) (words_told v w) t, λ e. ap is_eq (ap (slice_cmp nat_cmp v) (sym e) ∙ tied_itself nat_list_cmp_total v))

@@ -1,5 +1,5 @@
 -- What the last action on a key leaves.
-use Rattle.std.proofs.Common.{◌≡◌, ◌==◌, ℕ, Bool, true, false, cond, List, [], ◌∷◌, ◌++◌, Option, Some, None, find, reverse, option_and_then, refl, sym, subst}
+use Rattle.std.proofs.Common.{◌≡◌, ◌==◌, ℕ, Bool, true, false, cond, List, [], ◌∷◌, Option, Some, None, find, reverse, option_and_then, refl, sym, subst}
 use Rattle.std.specs.List.{flat_map}
 use Rattle.std.proofs.lemmas.List.{reverse-append}
 use Rattle.fare_law.specs.declared.fares.Fare.{Fare}
@@ -15,11 +15,7 @@ use Rattle.fare_law.specs.Limits.{IsFare}
 use Rattle.fare_law.specs.Lists.{Each}
 use Rattle.fare_law.specs.RuleLimits.{IsRule}
 use Rattle.fare_book.proofs.SameKeys.{same_fares_tell}
-
--- ---- lists
-each_append : {X : Type 0} (P : X → Type 0) (xs ys : List X) → Each P xs → Each P ys → Each P (xs ++ ys)
-each_append P [] ys a b = b
-each_append P (x ∷ xs) ys a b = (a.0, each_append P xs ys a.1 b)
+use Rattle.law_lemmas.proofs.EachOne.{each_append}
 
 each_reverse : {X : Type 0} (P : X → Type 0) (xs : List X) → Each P xs → Each P (reverse xs)
 each_reverse P [] e = tt

@@ -1,5 +1,5 @@
 -- The rows of a sheet are the live fares of its market.
-use Rattle.std.proofs.Common.{◌≡◌, Option, Some, None, IsSome, refl, sym, ap, ◌∙◌, Bor}
+use Rattle.std.proofs.Common.{◌≡◌, Option, Some, None, refl, sym, ap, ◌∙◌, Bor}
 use Rattle.std.specs.Option.{MatchOption}
 use Rattle.fare_law.specs.declared.fares.Fare.{Fare}
 use Rattle.fare_law.specs.declared.fares.FareKey.{FareKey}
@@ -12,10 +12,7 @@ use Rattle.fare_book.specs.Keeping.{RulesStand}
 use Rattle.fare_book.specs.Rows.{HasName}
 use Rattle.fare_book.proofs.Counting.{in_each}
 use Rattle.fare_book.proofs.LastActions.{live_key}
-
-pub some_of : {A : Type 0} (o : Option A) → IsSome o → (x : A) × (o ≡ Some x)
-some_of None s = absurd (cc)
-some_of (Some x) s = (x, refl)
+use Rattle.law_lemmas.proofs.Options.{some_of}
 
 key_whole : (a b : FareKey) → a.carrier ≡ b.carrier → a.from ≡ b.from → a.to ≡ b.to → a.basis ≡ b.basis → a ≡ b
 key_whole a b c f t s = λ i. record { carrier = c i; from = f i; to = t i; basis = s i }

@@ -24,36 +24,11 @@ use Rattle.fare_book.specs.Tables.{in_market}
 use Rattle.fare_book.specs.declared.keys.Market.{Market}
 use Rattle.fare_book.specs.declared.keys.RuleKey.{RuleKey}
 use Rattle.fare_book.proofs.LastActions.{live_key}
-use Rattle.fare_book.proofs.RowOrder.{words_told}
 use Rattle.fare_book.proofs.SameKeys.{same_fares_tell}
 use Rattle.fare_book.proofs.TableRows.{in_market_is, in_market_tells}
-use Rattle.fare_book.proofs.Updates.{live_some}
-
-matched_push : {X Y : Type 0} (R : X → Y → Type 0) (xs : List X) (ys : List Y) (x : X) (y : Y) → Matched R xs ys → R x y → Matched R (xs ++ x ∷ []) (ys ++ y ∷ [])
-matched_push R [] [] x y m r = (r, tt)
-matched_push R [] (z ∷ zs) x y m r = absurd m
-matched_push R (z ∷ zs) [] x y m r = absurd m
-matched_push R (z ∷ zs) (w ∷ ws) x y m r = (m.0, matched_push R zs ws x y m.1 r)
-
-matched_length : {X Y : Type 0} (R : X → Y → Type 0) (xs : List X) (ys : List Y) → Matched R xs ys → length xs ≡ length ys
-matched_length R [] [] m = refl
-matched_length R [] (z ∷ zs) m = absurd m
-matched_length R (z ∷ zs) [] m = absurd m
-matched_length R (z ∷ zs) (w ∷ ws) m = ap suc (matched_length R zs ws m.1)
-
-matched_left : {X Y : Type 0} (R : X → Y → Type 0) (xs : List X) (ys : List Y) (x : X) → Matched R xs ys → IsIn x xs → (y : Y) × IsIn y ys × R x y
-matched_left R [] [] x m i = absurd i
-matched_left R [] (z ∷ zs) x m i = absurd m
-matched_left R (z ∷ zs) [] x m i = absurd m
-matched_left R (z ∷ zs) (w ∷ ws) x m (inl e) = (w, inl refl, subst (λ a. R a w) (sym e) m.0)
-matched_left R (z ∷ zs) (w ∷ ws) x m (inr i) = let found = matched_left R zs ws x m.1 i in (found.0, inr found.1, found.2)
-
-matched_right : {X Y : Type 0} (R : X → Y → Type 0) (xs : List X) (ys : List Y) (y : Y) → Matched R xs ys → IsIn y ys → (x : X) × IsIn x xs × R x y
-matched_right R [] [] y m i = absurd i
-matched_right R [] (z ∷ zs) y m i = absurd m
-matched_right R (z ∷ zs) [] y m i = absurd m
-matched_right R (z ∷ zs) (w ∷ ws) y m (inl e) = (z, inl refl, subst (λ a. R z a) (sym e) m.0)
-matched_right R (z ∷ zs) (w ∷ ws) y m (inr i) = let found = matched_right R zs ws y m.1 i in (found.0, inr found.1, found.2)
+use Rattle.law_lemmas.proofs.Options.{some_there}
+use Rattle.law_lemmas.proofs.Pairs.{matched_from_left, matched_from_right, matched_length, matched_more}
+use Rattle.law_lemmas.proofs.Words.{words_told}
 
 lookup_in : {X : Type 0} (table : List (FareKey × X)) (key : FareKey) (x : X) → lookup (same_key key) table ≡ Some x → (e : FareKey × X) × IsIn e table × (e.1 ≡ x)
 lookup_in [] key x s = absurd (cc)
@@ -111,7 +86,7 @@ module _ (rules : List (RuleKey × Rule)) where
 
   pub made_push : (rows new : List SheetRow) (entries all : List (FareKey × Fare)) (row : SheetRow) (entry : FareKey × Fare) → new ≡ rows ++ row ∷ [] → all ≡ entries ++ entry ∷ [] → MadeOf row entry → Made rows entries → Made new all
   made_push rows new entries all row entry pushed more made m =
-      subst (λ rs. Made rs all) (sym pushed) (subst (Made (rows ++ row ∷ [])) (sym more) (matched_push MadeOf rows entries row entry m made))
+      subst (λ rs. Made rs all) (sym pushed) (subst (Made (rows ++ row ∷ [])) (sym more) (matched_more MadeOf rows entries row entry m made))
 
   -- the only fare of a table
   pub made_one : (old rows : List SheetRow) (copy fare : Fare) (rule : Rule) → old ≡ [] → rows ≡ old ++ record { fare = copy; rule = rule } ∷ [] → copy ≡ fare
@@ -142,7 +117,7 @@ module _ (rules : List (RuleKey × Rule)) where
 
     row_lives : (rows : List SheetRow) → Made rows entries → (row : SheetRow) → IsIn row rows → IsLiveRow b m.from m.to row
     row_lives rows made row i =
-        let at = matched_left MadeOf rows entries row made i in
+        let at = matched_from_left MadeOf rows entries row made i in
         let lives = entry_lives at.0 at.1 in
         let fare : row.fare ≡ at.0.1 = at.2.fare_is in
         let live : live_fare b row.fare.key ≡ Some row.fare = ap (λ (x : Fare). live_fare b x.key) fare ∙ ap (live_fare b) (sym lives.key) ∙ lives.live ∙ ap Some (sym fare) in
@@ -157,7 +132,7 @@ module _ (rules : List (RuleKey × Rule)) where
     lives_row rows made row live =
         let has : lookup (same_key row.fare.key) entries ≡ Some row.fare = makes.table_is row.fare.key ∙ ap (λ t. cond t (live_fare b row.fare.key) None) (in_market_is m row.fare.key live.filed_from live.filed_to) ∙ live.fare in
         let entry = lookup_in entries row.fare.key row.fare has in
-        let at = matched_right MadeOf rows entries entry.0 made entry.1 in
+        let at = matched_from_right MadeOf rows entries entry.0 made entry.1 in
         let fare : at.0.fare ≡ row.fare = at.2.fare_is ∙ entry.2 in
         let lives = row_lives rows made at.0 at.1 in
         let rule : at.0.rule ≡ row.rule = rules_one at.0.rule row.rule (sym lives.rule ∙ ap (λ (x : Fare). live_rule b x.key.carrier x.rule) fare ∙ live.rule) in
@@ -212,7 +187,7 @@ module _ (rules : List (RuleKey × Rule)) where
 
     all_live : (es : List (FareKey × Fare)) → ((e : FareKey × Fare) → IsIn e es → IsIn e entries) → Each (IsLive b) (keys_of es)
     all_live [] sub = tt
-    all_live (e ∷ es) sub = (live_some (live_fare b e.0) e.1 (entry_lives e (sub e (inl refl))).live, all_live es (λ x i. sub x (inr i)))
+    all_live (e ∷ es) sub = (some_there (live_fare b e.0) e.1 (entry_lives e (sub e (inl refl))).live, all_live es (λ x i. sub x (inr i)))
 
     keys_length : (es : List (FareKey × Fare)) → length (keys_of es) ≡ length es
     keys_length [] = refl

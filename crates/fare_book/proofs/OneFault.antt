@@ -1,5 +1,5 @@
 -- A filing has one fault at most in a book, and so have seat rows.
-use Rattle.std.proofs.Common.{◌≡◌, ◌≢◌, ◌≤◌, ℕ, suc, eqb, cond, List, [], ◌∷◌, ◌++◌, length, map, refl, sym, ap, subst, ◌∙◌, inl, inr, arith}
+use Rattle.std.proofs.Common.{◌≡◌, ◌≢◌, ℕ, suc, eqb, cond, List, [], ◌∷◌, ◌++◌, length, map, refl, sym, ap, subst, ◌∙◌, inl, inr, arith}
 use Rattle.fare_law.specs.declared.filings.Action.{Action}
 use Rattle.fare_law.specs.declared.filings.BookWhy.{BookWhy}
 use Rattle.fare_law.specs.declared.filings.BookWhy.TheVariants.{SamePlace, OddRound, NoRule, RuleInUse, NoFare, Limit, NoSeats}
@@ -11,6 +11,7 @@ use Rattle.fare_law.specs.Faults.{Fault, FaultOf, filed, reason_number}
 use Rattle.fare_law.specs.Lists.{AllDifferent, Each, IsIn}
 use Rattle.schedule_book.proofs.Rows.{splits}
 use Rattle.seat_classes.specs.Given.{FirstRepeat}
+use Rattle.law_lemmas.proofs.Numbers.{both_least}
 
 -- ---- filings
 reason : ℕ → BookWhy
@@ -27,9 +28,6 @@ numbered RuleInUse = refl
 numbered NoFare = refl
 numbered Limit = refl
 numbered NoSeats = refl
-
-both_least : (m n : ℕ) → m ≤ n → n ≤ m → m ≡ n
-both_least m n a b = omega arith
 
 least_one : (b : Book) (action : Action) (why other : BookWhy) → FaultOf b action why → FaultOf b action other → why ≡ other
 least_one b action why other f g = sym (numbered why) ∙ ap reason (both_least _ _ (f.1 other g.0) (g.1 why f.0)) ∙ numbered other

@@ -19,8 +19,8 @@ use Rattle.fare_book.specs.Keeping.{IsLive, IsLiveRule, Keeps, Names}
 use Rattle.fare_book.specs.Seating.{SeatsRows}
 use Rattle.std.proofs.lemmas.Bool.{false_from_ne_true}
 use Rattle.std.proofs.lemmas.Bool.Decides.{Decides-eqb}
-use Rattle.fare_book.proofs.SameKeys.{same_seats_tell}
 use Rattle.fare_book.proofs.Counting.{count_none, most_more}
+use Rattle.law_lemmas.proofs.Names.{same_seats_tell}
 
 -- the book of a timetable with no filing
 abbrev pub opening : Timetable → Book

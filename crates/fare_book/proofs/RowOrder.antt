@@ -6,7 +6,7 @@ use Rattle.std.specs.List.Sorted.{IsNonDecreasingBy}
 use Rattle.std.specs.Ordering.{MatchOrdering, nat_cmp, ordering_index, ordering_then}
 use Rattle.std.specs.declared.cmp.Ordering.{Ordering}
 use Rattle.std.specs.declared.cmp.Ordering.TheVariants.{Less as Lower, Equal, Greater}
-use Rattle.std.proofs.lemmas.Cmp.{alike_right, nat_list_cmp_total, on_total, ranked, then_total, tied_itself, nat_cmp_total}
+use Rattle.std.proofs.lemmas.Cmp.{alike_right, nat_list_cmp_total, on_total, then_total, tied_itself, nat_cmp_total}
 use Rattle.std.proofs.lemmas.Bool.{cases_lt}
 use Rattle.fare_law.specs.declared.fares.FareKey.{FareKey}
 use Rattle.fare_law.specs.declared.names.Basis.{Basis}
@@ -15,27 +15,9 @@ use Rattle.fare_law.specs.declared.sheets.SheetRow.{SheetRow}
 use Rattle.fare_law.specs.Lists.{Each, EachPair, IsIn, Less}
 use Rattle.fare_law.specs.Sheets.{RowBefore}
 use Rattle.fare_book.specs.Rows.{HasName, key_order}
-
-pub words_told : (v w : List ℕ) → MatchOrdering (slice_cmp nat_cmp v w) (Less v w) (v ≡ w) (Less w v)
-words_told [] [] = refl
-words_told [] (y ∷ w) = tt
-words_told (x ∷ v) [] = tt
-words_told (x ∷ v) (y ∷ w) = join (nat_cmp x y) (slice_cmp nat_cmp v w) (ranked x y (nat_cmp x y) refl) (words_told v w)
-  where
-    join : (o r : Ordering) → MatchOrdering o (x < y) (x ≡ y) (y < x) → MatchOrdering r (Less v w) (v ≡ w) (Less w v) → MatchOrdering (ordering_then o r) (Less (x ∷ v) (y ∷ w)) (x ∷ v ≡ y ∷ w) (Less (y ∷ w) (x ∷ v))
-    join Lower r h k = inl h
-    join Greater r h k = inl h
-    join Equal Lower h k = inr (h, k)
-    join Equal Equal h k = ap₂ (λ z zs. z ∷ zs) h k
-    join Equal Greater h k = inr (sym h, k)
-
-less_is : (x y : ℕ) → x < y → nat_cmp x y ≡ Lower
-less_is x y h = by (nat_cmp x y) (ranked x y (nat_cmp x y) refl)
-  where
-    by : (o : Ordering) → MatchOrdering o (x < y) (x ≡ y) (y < x) → o ≡ Lower
-    by Lower k = refl
-    by Equal k = absurd (omega (arith, h, k))
-    by Greater k = absurd (omega (arith, h, k))
+use Rattle.law_lemmas.proofs.Names.{carrier_whole}
+use Rattle.law_lemmas.proofs.Tests.{less_is}
+use Rattle.law_lemmas.proofs.Words.{words_told}
 
 pub word_less : (v w : List ℕ) → Less v w → slice_cmp nat_cmp v w ≡ Lower
 word_less [] [] h = absurd h
@@ -53,10 +35,6 @@ before_lower r s (inl h) = ap (λ o. ordering_then o (slice_cmp nat_cmp r.fare.k
 before_lower r s (inr h) =
     ap (λ o. ordering_then o (slice_cmp nat_cmp r.fare.key.basis.0 s.fare.key.basis.0)) (ap (λ (c : Carrier). slice_cmp nat_cmp r.fare.key.carrier.0 c.0) (sym h.0) ∙ tied_itself nat_list_cmp_total r.fare.key.carrier.0)
     ∙ word_less r.fare.key.basis.0 s.fare.key.basis.0 h.1
-
--- equal keys, by what comparing them says
-carrier_whole : (a b : Carrier) → a.0 ≡ b.0 → a ≡ b
-carrier_whole a b e = λ i. record { 0 = e i }
 
 basis_whole : (a b : Basis) → a.0 ≡ b.0 → a ≡ b
 basis_whole a b e = λ i. record { 0 = e i }

@@ -27,11 +27,12 @@ use Rattle.fare_book.proofs.Counting.{count_same}
 use Rattle.fare_book.proofs.Finding.{rule_found}
 use Rattle.fare_book.proofs.Following.{rule_free}
 use Rattle.fare_book.proofs.SameKeys.{same_carriers_tell, same_rules_tell}
-use Rattle.fare_book.proofs.Updates.{count_gone, count_new, count_old, live_some}
+use Rattle.fare_book.proofs.Updates.{count_gone, count_new, count_old}
+use Rattle.law_lemmas.proofs.Options.{some_there}
 
 -- ---- whether a rule is live
 pub rule_zero : (b : Book) (c : Carrier) (n : ℕ) → n ≡ 0 → IsSome (live_rule b c n)
-rule_zero b c n z = live_some (live_rule b c n) free_rule (ap (live_rule b c) z ∙ rule_free b c)
+rule_zero b c n z = some_there (live_rule b c n) free_rule (ap (live_rule b c) z ∙ rule_free b c)
 
 pub known_rule : (b : Book) (rules : List (RuleKey × Rule)) (k : RuleKey) (t : Bool) → t ≡ is_some (lookup (rule_test.ghosts.eq k) rules) → k.number ≢ 0 → Rules b rules
     → (IsTrue t → IsSome (live_rule b k.carrier k.number)) × (IsSome (live_rule b k.carrier k.number) → IsTrue t)
@@ -136,7 +137,7 @@ module _ (f g : LiveRules) (k : Carrier) (m : ℕ) (w : Option Rule) (proper : m
 
     pub rules_gone : (o : Rule) → w ≡ None → f k m ≡ Some o → RulesKept g new (count - 1)
     rules_gone o e was =
-        let live : (m ≢ 0) × IsSome (f k m) = (proper, live_some (f k m) o was) in
+        let live : (m ≢ 0) × IsSome (f k m) = (proper, some_there (f k m) o was) in
         let some : 1 ≤ count = kept.counted.most 1 ((k, m) ∷ [], refl, (tt, tt), (live, tt)) in
         record {
           rules_are = rules_held old new puts kept.rules_are;
@@ -192,7 +193,7 @@ module _ (f g : LiveRules) (k : Carrier) (m : ℕ) (w : Option Rule) (proper : m
   stand_put fare r e h q x l = elim (cases_Bool (same_rule (rule_of x) (record { carrier = k; number = m }))) [
     | inl t ↦
         let one : rule_of x ≡ record { carrier = k; number = m } = (same_rules_tell (rule_of x) (record { carrier = k; number = m })).0 t in
-        subst (λ (z : RuleKey). IsSome (g z.carrier z.number)) (sym one) (live_some (g k m) r (rule_here ∙ e))
+        subst (λ (z : RuleKey). IsSome (g z.carrier z.number)) (sym one) (some_there (g k m) r (rule_here ∙ e))
     | inr t ↦ subst IsSome (sym (rule_else x.key.carrier x.rule t)) (h q x l)
   ]
 

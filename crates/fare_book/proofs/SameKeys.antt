@@ -1,35 +1,25 @@
 -- Tests of keys: the derived ones and the law's both tell whether two keys are equal.
-use Rattle.std.proofs.Common.{◌≡◌, ℤ, Option, Some, None, Decides, refl, ap}
+use Rattle.std.proofs.Common.{◌≡◌, Decides, ap}
 use Rattle.std.specs.Prelude.{bytes_eq}
 use Rattle.std.specs.Cmp.Lexicographic.{bytes_decides}
-use Rattle.std.proofs.lemmas.Bool.Decides.{Decides-like, Decides-and, Decides-eqb, Decides-int_eq, same_from_decides}
+use Rattle.std.proofs.lemmas.Bool.Decides.{Decides-like, Decides-and, Decides-eqb, same_from_decides}
 use Rattle.std.proofs.lemmas.Slice.Eq.{bytes_eq-Decides}
 use Rattle.fare_law.specs.declared.fares.FareKey.{FareKey}
-use Rattle.fare_law.specs.declared.filings.SeatKey.{SeatKey}
 use Rattle.fare_law.specs.declared.names.Basis.{Basis}
 use Rattle.fare_law.specs.declared.names.Carrier.{Carrier}
-use Rattle.fare_law.specs.declared.names.Place.{Place}
-use Rattle.fare_law.specs.Book.{same_carrier, same_day, same_key, same_place, same_seat_key}
+use Rattle.fare_law.specs.Book.{same_carrier, same_key}
 use Rattle.fare_book.specs.contracts.keys.MarketPartialEq.TheImpl as market
 use Rattle.fare_book.specs.contracts.keys.RuleKeyPartialEq.TheImpl as rule
 use Rattle.fare_book.specs.declared.keys.Market.{Market}
 use Rattle.fare_book.specs.declared.keys.RuleKey.{RuleKey}
 use Rattle.fare_book.specs.Keys.{same_market, same_rule}
-
-carrier_whole : (a b : Carrier) → a.0 ≡ b.0 → a ≡ b
-carrier_whole a b e = λ i. record { 0 = e i }
-
-place_whole : (a b : Place) → a.0 ≡ b.0 → a ≡ b
-place_whole a b e = λ i. record { 0 = e i }
+use Rattle.law_lemmas.proofs.Names.{carrier_whole, place_whole, places_told}
 
 basis_whole : (a b : Basis) → a.0 ≡ b.0 → a ≡ b
 basis_whole a b e = λ i. record { 0 = e i }
 
 pub same_carriers_tell : (a b : Carrier) → Decides (same_carrier a b) (a ≡ b)
 same_carriers_tell a b = Decides-like _ (carrier_whole a b) (λ e. ap (λ x. x.0) e) (bytes_eq-Decides a.0 b.0)
-
-pub same_places_tell : (a b : Place) → Decides (same_place a b) (a ≡ b)
-same_places_tell a b = Decides-like _ (place_whole a b) (λ e. ap (λ x. x.0) e) (bytes_eq-Decides a.0 b.0)
 
 bases_tell : (a b : Basis) → Decides (bytes_eq a.0 b.0) (a ≡ b)
 bases_tell a b = Decides-like _ (basis_whole a b) (λ e. ap (λ x. x.0) e) (bytes_eq-Decides a.0 b.0)
@@ -41,25 +31,7 @@ fare_key_whole a b c f t s = λ i. record { carrier = c i; from = f i; to = t i;
 pub same_fares_tell : (a b : FareKey) → Decides (same_key a b) (a ≡ b)
 same_fares_tell a b =
     Decides-like _ (λ e. fare_key_whole a b e.0.0.0 e.0.0.1 e.0.1 e.1) (λ e. (((ap (λ x. x.carrier) e, ap (λ x. x.from) e), ap (λ x. x.to) e), ap (λ x. x.basis) e))
-    (Decides-and _ _ (Decides-and _ _ (Decides-and _ _ (same_carriers_tell a.carrier b.carrier) (same_places_tell a.from b.from)) (same_places_tell a.to b.to)) (bases_tell a.basis b.basis))
-
--- ---- seats
-seat_key_whole : (a b : SeatKey) → a.carrier ≡ b.carrier → a.number ≡ b.number → a.from ≡ b.from → a.day ≡ b.day → a ≡ b
-seat_key_whole a b c n f d = λ i. record { carrier = c i; number = n i; from = f i; day = d i }
-
-same_days_tell : (a b : Option ℤ) → Decides (same_day a b) (a ≡ b)
-same_days_tell None None = (λ _. refl, λ _. refl)
-same_days_tell None (Some y) = (λ h. absurd (cc), λ h. absurd (cc))
-same_days_tell (Some x) None = (λ h. absurd (cc), λ h. absurd (cc))
-same_days_tell (Some x) (Some y) = Decides-like _ (λ e. ap Some e) one (Decides-int_eq x y)
-  where
-    one : Some x ≡ Some y → x ≡ y
-    one e = cc
-
-pub same_seats_tell : (a b : SeatKey) → Decides (same_seat_key a b) (a ≡ b)
-same_seats_tell a b =
-    Decides-like _ (λ e. seat_key_whole a b e.0.0.0 e.0.0.1 e.0.1 e.1) (λ e. (((ap (λ x. x.carrier) e, ap (λ x. x.number) e), ap (λ x. x.from) e), ap (λ x. x.day) e))
-    (Decides-and _ _ (Decides-and _ _ (Decides-and _ _ (same_carriers_tell a.carrier b.carrier) (Decides-eqb a.number b.number)) (same_places_tell a.from b.from)) (same_days_tell a.day b.day))
+    (Decides-and _ _ (Decides-and _ _ (Decides-and _ _ (same_carriers_tell a.carrier b.carrier) (places_told a.from b.from)) (places_told a.to b.to)) (bases_tell a.basis b.basis))
 
 -- ---- markets
 market_whole : (a b : Market) → a.from ≡ b.from → a.to ≡ b.to → a ≡ b
@@ -68,7 +40,7 @@ market_whole a b f t = λ i. record { from = f i; to = t i }
 pub same_markets_tell : (a b : Market) → Decides (same_market a b) (a ≡ b)
 same_markets_tell a b =
     Decides-like _ (λ e. market_whole a b e.0 e.1) (λ e. (ap (λ x. x.from) e, ap (λ x. x.to) e))
-    (Decides-and _ _ (same_places_tell a.from b.from) (same_places_tell a.to b.to))
+    (Decides-and _ _ (places_told a.from b.from) (places_told a.to b.to))
 
 markets_tell : (a b : Market) → Decides (market.ghosts.eq a b) (a ≡ b)
 markets_tell a b =

@@ -1,11 +1,10 @@
 -- The rows of a sheet, as a table takes them.
-use Rattle.std.proofs.Common.{◌≡◌, ◌||◌, ◌&&◌, ◌+◌, ◌<◌, ℕ, suc, Bool, true, false, cond, List, [], ◌∷◌, ◌++◌, length, take, get_or, Option, Some, None, Result, Ok, Err, IfOk, OnOk, option_map, refl, sym, ap, ap₂, subst, ◌∙◌, inl, inr, arith}
+use Rattle.std.proofs.Common.{◌≡◌, ◌||◌, ◌&&◌, ◌+◌, ◌<◌, ℕ, Bool, true, false, cond, List, [], ◌∷◌, ◌++◌, length, take, get_or, Option, Some, None, Result, Ok, Err, IfOk, OnOk, option_map, refl, sym, ap, ap₂, subst, ◌∙◌, inl, inr}
 use Rattle.std.specs.Arc.{arc_value}
 use Rattle.std.specs.List.{list_any}
 use Rattle.std.specs.Map.{lookup}
 use Rattle.std.specs.Option.{MatchOption}
 use Rattle.std.specs.declared.sync.Arc.{Arc}
-use Rattle.std.proofs.Math.Seq.{take-suc}
 use Rattle.fare_law.specs.declared.fares.Fare.{Fare}
 use Rattle.fare_law.specs.declared.fares.FareKey.{FareKey}
 use Rattle.fare_law.specs.declared.sheets.SheetRow.{SheetRow}
@@ -19,7 +18,11 @@ use Rattle.fare_book.specs.declared.fare_table.FareTable.{FareTable}
 use Rattle.fare_book.specs.declared.keys.Market.{Market}
 use Rattle.fare_book.specs.declared.keys.RuleKey.{RuleKey}
 use Rattle.fare_book.proofs.Counting.{each_from}
-use Rattle.fare_book.proofs.SameKeys.{same_fares_tell, same_places_tell}
+use Rattle.fare_book.proofs.SameKeys.{same_fares_tell}
+use Rattle.law_lemmas.proofs.EachOne.{each_front}
+use Rattle.law_lemmas.proofs.Lists.{front_read}
+use Rattle.law_lemmas.proofs.Names.{places_told}
+use Rattle.law_lemmas.proofs.Tests.{or_true}
 
 -- the table has the fares of these rows, where each has the live fare of its key
 abbrev pub RowsIn : List SheetRow → List (FareKey × Fare) → Type 0
@@ -40,14 +43,6 @@ any_push p (y ∷ ys) x = ap (λ b. p y || b) (any_push p ys x) ∙ joined (p y)
     joined true b c = refl
     joined false b c = refl
 
-or_true : (b : Bool) → (b || true) ≡ true
-or_true true = refl
-or_true false = refl
-
-each_front : {X : Type 0} (P : X → Type 0) (xs : List X) (x : X) → Each P (xs ++ x ∷ []) → Each P xs × P x
-each_front P [] x e = (tt, e.0)
-each_front P (y ∷ ys) x e = let rest = each_front P ys x e.1 in ((e.0, rest.0), rest.1)
-
 rows_push : (rows : List SheetRow) (row : SheetRow) (old new : List (FareKey × Fare)) → ((key : FareKey) → lookup (same_key key) new ≡ cond (same_key key row.fare.key) (Some row.fare) (lookup (same_key key) old))
     → RowsIn rows old → RowsIn (rows ++ row ∷ []) new
 rows_push rows row old new puts held fare each key =
@@ -60,27 +55,21 @@ rows_push rows row old new puts held fare each key =
     by true t = sym front.1 ∙ ap fare (sym ((same_fares_tell key row.fare.key).0 t)) ∙ sym (ap (λ b. cond b (fare key) None) (ap (λ b. list_any (λ r. same_key key r.fare.key) rows || b) t ∙ or_true (list_any (λ r. same_key key r.fare.key) rows)))
     by false t = held fare front.0 key ∙ sym (ap (λ b. cond b (fare key) None) (ap (λ b. list_any (λ r. same_key key r.fare.key) rows || b) t ∙ or_false (list_any (λ r. same_key key r.fare.key) rows)))
 
-one_more : (i : ℕ) → suc i ≡ i + 1
-one_more i = omega arith
-
-pub front_is : {X : Type 0} (xs : List X) (i : ℕ) (d x : X) → i < length xs → x ≡ get_or xs i d → take (i + 1) xs ≡ take i xs ++ x ∷ []
-front_is xs i d x lt e = ap (λ n. take n xs) (sym (one_more i)) ∙ take-suc xs i d lt ∙ ap (λ y. take i xs ++ y ∷ []) (sym e)
-
 pub rows_more : (rows : List SheetRow) (i : ℕ) (d row : SheetRow) → i < length rows → row ≡ get_or rows i d → (old new : List (FareKey × Fare)) → ((key : FareKey) → lookup (same_key key) new ≡ cond (same_key key row.fare.key) (Some row.fare) (lookup (same_key key) old))
     → RowsIn (take i rows) old → RowsIn (take (i + 1) rows) new
-rows_more rows i d row lt is old new puts held = subst (λ rs. RowsIn rs new) (sym (front_is rows i d row lt is)) (rows_push (take i rows) row old new puts held)
+rows_more rows i d row lt is old new puts held = subst (λ rs. RowsIn rs new) (sym (front_read rows i d row lt is)) (rows_push (take i rows) row old new puts held)
 
 -- ---- markets
 pub in_market_tells : (m : Market) (key : FareKey) → in_market m key ≡ true → (key.from ≡ m.from) × (key.to ≡ m.to)
 in_market_tells m key t = by (same_place m.from key.from) (same_place m.to key.to) refl refl t
   where
     by : (f g : Bool) → same_place m.from key.from ≡ f → same_place m.to key.to ≡ g → (f && g) ≡ true → (key.from ≡ m.from) × (key.to ≡ m.to)
-    by true true f g t = (sym ((same_places_tell m.from key.from).0 f), sym ((same_places_tell m.to key.to).0 g))
+    by true true f g t = (sym ((places_told m.from key.from).0 f), sym ((places_told m.to key.to).0 g))
     by true false f g t = absurd (cc)
     by false g' f g t = absurd (cc)
 
 pub in_market_is : (m : Market) (key : FareKey) → key.from ≡ m.from → key.to ≡ m.to → in_market m key ≡ true
-in_market_is m key f t = ap₂ (λ a b. a && b) ((same_places_tell m.from key.from).1 (sym f)) ((same_places_tell m.to key.to).1 (sym t))
+in_market_is m key f t = ap₂ (λ a b. a && b) ((places_told m.from key.from).1 (sym f)) ((places_told m.to key.to).1 (sym t))
 
 pub none_table : (fare : Fares) (m : Market) (table : List (FareKey × Fare)) → table ≡ [] → NoneOf fare m → TableOf fare m table
 none_table fare m table e none key = ap (lookup (same_key key)) e ∙ by (in_market m key) refl
@@ -135,10 +124,6 @@ old_table {Z = Z} fare rule changed sheets tables m sheet s table none some is r
     old =
         let untouched : Untouched fare rule changed m (sheet_at sheets m) = subst (λ o. MatchOption o (Untouched fare rule changed m (sheet_at sheets m)) (λ t. TableOf fare m (fares_in t))) none holds in
         subst (λ o. Untouched fare rule changed m (option_map arc_value o)) some untouched
-
-pub ok_as : {X E : Type 0} (r : Result X E) (P Q : X → Type 0) → ((x : X) → P x → Q x) → IfOk r P → IfOk r Q
-ok_as (Ok x) P Q h p = h x p
-ok_as (Err e) P Q h p = tt
 
 pub ok_both : {X E : Type 0} (r : Result X E) (P R : X → Type 0) (Q : Type 0) → ((x : X) → P x → Q → R x) → IfOk r P → OnOk r Q → IfOk r R
 ok_both (Ok x) P R Q h p q = h x p q

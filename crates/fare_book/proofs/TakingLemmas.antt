@@ -1,7 +1,5 @@
 -- The actions of a filing up to one, and the first that has a fault.
-use Rattle.std.proofs.Common.{◌≡◌, ◌⊎◌, ◌+◌, ◌<◌, ℕ, zero, suc, List, [], ◌∷◌, ◌++◌, length, take, drop, get_or, Err, refl, sym, ap, ap₂, subst, ◌∙◌, inl, inr, arith}
-use Rattle.std.proofs.Math.Seq.{drop-cons}
-use Rattle.std.proofs.lemmas.List.{take-append-drop}
+use Rattle.std.proofs.Common.{◌≡◌, ◌+◌, ◌<◌, ℕ, zero, suc, List, [], ◌∷◌, ◌++◌, length, take, drop, get_or, Err, sym, ap, subst, ◌∙◌, inl, inr, arith}
 use Rattle.fare_law.specs.declared.filings.Action.{Action}
 use Rattle.fare_law.specs.declared.filings.BookWhy.{BookWhy}
 use Rattle.fare_law.specs.declared.filings.Filing.{Filing}
@@ -16,52 +14,17 @@ use Rattle.fare_book.specs.declared.draft.Stop.{Stop}
 use Rattle.fare_book.specs.declared.draft.Stop.TheVariants.{Fault, Mem as NoMemory}
 use Rattle.fare_book.specs.declared.faults.BookFault.TheVariants.{Refused}
 use Rattle.fare_book.proofs.Following.{filed_follows}
-use Rattle.fare_book.proofs.TableRows.{front_is}
-
--- ---- lists
-head_is : {X : Type 0} (x y : X) (xs ys : List X) → x ∷ xs ≡ y ∷ ys → x ≡ y
-head_is x y xs ys e = cc
-
-tail_is : {X : Type 0} (x y : X) (xs ys : List X) → x ∷ xs ≡ y ∷ ys → xs ≡ ys
-tail_is x y xs ys e = cc
-
--- a list that ends with an item, split at another
-pub last_split : {X : Type 0} (xs front rest : List X) (a e : X) → xs ++ a ∷ [] ≡ front ++ e ∷ rest → ((xs ≡ front) × (a ≡ e)) ⊎ ((more : List X) × (xs ≡ front ++ e ∷ more))
-last_split [] [] rest a e s = inl (refl, head_is a e [] rest s)
-last_split (x ∷ xs) [] rest a e s = inr (xs, ap (λ y. y ∷ xs) (head_is x e (xs ++ a ∷ []) rest s))
-last_split {X = X} [] (f ∷ fs) rest a e s = absurd (empty fs (tail_is a f [] (fs ++ e ∷ rest) s))
-  where
-    empty : (fs : List X) → [] ≡ fs ++ e ∷ rest → ⊥
-    empty [] t = cc
-    empty (g ∷ gs) t = cc
-last_split {X = X} (x ∷ xs) (f ∷ fs) rest a e s = by (last_split xs fs rest a e (tail_is x f (xs ++ a ∷ []) (fs ++ e ∷ rest) s))
-  where
-    first : x ≡ f
-    first = head_is x f (xs ++ a ∷ []) (fs ++ e ∷ rest) s
-
-    by : ((xs ≡ fs) × (a ≡ e)) ⊎ ((more : List X) × (xs ≡ fs ++ e ∷ more)) → ((x ∷ xs ≡ f ∷ fs) × (a ≡ e)) ⊎ ((more : List X) × (x ∷ xs ≡ f ∷ (fs ++ e ∷ more)))
-    by (inl h) = inl (ap₂ (λ y ys. y ∷ ys) first h.0, h.1)
-    by (inr h) = inr (h.0, ap₂ (λ y ys. y ∷ ys) first h.1)
+use Rattle.law_lemmas.proofs.Lists.{front_length, front_read, split_is, split_last}
+use Rattle.law_lemmas.proofs.Numbers.{suc_is}
 
 pub each_item : {X : Type 0} (P : X → Type 0) (xs : List X) (i : ℕ) (x d : X) → i < length xs → x ≡ get_or xs i d → Each P xs → P x
 each_item P [] i x d lt e h = absurd (omega (arith, lt))
 each_item P (y ∷ ys) zero x d lt e h = subst P (sym e) h.0
 each_item P (y ∷ ys) (suc i) x d lt e h = each_item P ys i x d (omega (arith, lt)) e h.1
 
-one_more : (i : ℕ) → suc i ≡ i + 1
-one_more i = omega arith
-
-split_is : {X : Type 0} (xs : List X) (i : ℕ) (d x : X) → i < length xs → x ≡ get_or xs i d → xs ≡ take i xs ++ x ∷ drop (i + 1) xs
-split_is xs i d x lt e = sym (take-append-drop i xs) ∙ ap (λ ys. take i xs ++ ys) (drop-cons xs i d lt ∙ ap₂ (λ y n. y ∷ drop n xs) (sym e) (one_more i))
-
-take_length : {X : Type 0} (xs : List X) (i : ℕ) → i < length xs → length (take i xs) ≡ i
-take_length [] i lt = absurd (omega (arith, lt))
-take_length (x ∷ xs) zero lt = refl
-take_length (x ∷ xs) (suc i) lt = ap suc (take_length xs i (omega (arith, lt)))
-
 -- ---- actions
 none_push : (b : Book) (xs : List Action) (a : Action) → NoneStops b xs → Faultless (filed b xs) a → NoneStops b (xs ++ a ∷ [])
-none_push b xs a none fine front earlier rest e other w = elim (last_split xs front rest a earlier e) [
+none_push b xs a none fine front earlier rest e other w = elim (split_last xs front rest a earlier e) [
   | inl h ↦ fine other (subst (λ ys. Why (filed b ys) a other) (sym h.0) (subst (λ x. Why (filed b front) x other) (sym h.1) w))
   | inr h ↦ none front earlier h.0 h.1 other w
 ]
@@ -82,13 +45,13 @@ pub taken_more : (first old new : Draft) (actions : List Action) (i : ℕ) (a d 
 taken_more first old new actions i a d lt is acts so b start =
     let before = so b start in
     let after = acts (filed b (take i actions)) (filed b (take i actions ++ a ∷ [])) before.0 (filed_follows b (take i actions) a) in
-    subst (λ xs. Drafts (filed b xs) new × NoneStops b xs) (sym (front_is actions i d a lt is)) (after.0, none_push b (take i actions) a before.1 after.1)
+    subst (λ xs. Drafts (filed b xs) new × NoneStops b xs) (sym (front_read actions i d a lt is)) (after.0, none_push b (take i actions) a before.1 after.1)
 
 pub stops_at : (first old : Draft) (actions : List Action) (i : ℕ) (a d : Action) (why : BookWhy) → i < length actions → a ≡ get_or actions i d → ((b : Book) → Drafts b old → FaultOf b a why) → TakenSo first (take i actions) old
     → (b : Book) → Drafts (filed b []) first → StopsAt b actions (Refused (record { action = i + 1; why = why }))
 stops_at first old actions i a d why lt is fault so b start =
     let before = so b start in
-    (take i actions, a, drop (i + 1) actions, split_is actions i d a lt is, sym (one_more i) ∙ ap suc (sym (take_length actions i lt)), fault (filed b (take i actions)) before.0, before.1)
+    (take i actions, a, drop (i + 1) actions, split_is actions i d a lt is, sym (suc_is i) ∙ ap suc (sym (front_length actions i lt)), fault (filed b (take i actions)) before.0, before.1)
 
 -- ---- a filing's faults
 pub filing_fault : (b : Book) (filing : Filing) (r : Told) → length b.entries < 1000000 → StopsAt b filing.actions (Refused r) → FaultOfFiling b filing r.action r.why
@@ -99,7 +62,7 @@ no_fault b filing few none at why (inl h) = omega (arith, few, h.2)
 no_fault b filing few none at why (inr h) = none h.1.0 h.1.1 h.1.2 h.1.3 why h.1.5.0
 
 pub legal_more : (t : Timetable) (history : List Filing) (filing : Filing) → Legal t history → ((at : ℕ) (why : BookWhy) → FaultOfFiling (record { timetable = t; entries = history }) filing at why → ⊥) → Legal t (history ++ filing ∷ [])
-legal_more t history filing legal none before other after e at why fault = elim (last_split history before after filing other e) [
+legal_more t history filing legal none before other after e at why fault = elim (split_last history before after filing other e) [
   | inl h ↦ none at why (subst (λ hs. FaultOfFiling (record { timetable = t; entries = hs }) filing at why) (sym h.0) (subst (λ f. FaultOfFiling (record { timetable = t; entries = before }) f at why) (sym h.1) fault))
   | inr h ↦ legal before other h.0 h.1 at why fault
 ]

@@ -1,16 +1,14 @@
 -- What is live by key, as one key changes, and how many keys are.
-use Rattle.std.proofs.Common.{◌≡◌, ◌⊎◌, ◌≤◌, ◌<◌, ◌+◌, ℕ, Bool, false, cond, Option, Some, None, Decides, IsSome, is_some, refl, sym, ap, subst, ◌∙◌, inl, inr, arith}
+use Rattle.std.proofs.Common.{◌≡◌, ◌⊎◌, ◌≤◌, ◌<◌, ◌+◌, ℕ, Bool, false, cond, Option, Some, None, Decides, IsSome, refl, sym, ap, subst, ◌∙◌, inl, inr, arith}
 use Rattle.std.proofs.lemmas.Bool.{cases_Bool, cases_lt}
 use Rattle.fare_law.specs.Lists.{HasMany}
 use Rattle.fare_book.specs.Counts.{AtMost, Exactly}
 use Rattle.fare_book.proofs.Counting.{count_less, count_more, count_same, most_more, most_same}
+use Rattle.law_lemmas.proofs.Options.{some_there}
 
 none_some : {A G : Type 0} (o : Option A) → o ≡ None → IsSome o → G
 none_some None e s = absurd (cc)
 none_some (Some x) e s = absurd (cc)
-
-pub live_some : {A : Type 0} (o : Option A) (x : A) → o ≡ Some x → IsSome o
-live_some o x e = ap is_some e
 
 -- one more at most, where there aren't as many as there may be
 pub most_less : {K : Type 0} (P : K → Type 0) (n : ℕ) → AtMost (n + 1) P → (HasMany (n + 1) P → ⊥) → AtMost n P
@@ -37,7 +35,7 @@ module _ {K V : Type 0} (same : K → K → Bool) (tells : (a b : K) → Decides
 
   still : (v : V) → w ≡ Some v → (q : K) → IsSome (f q) → IsSome (g q)
   still v is q s = elim (either q) [
-    | inl e ↦ subst (λ r. IsSome (g r)) (sym e) (live_some (g k) v (at_key ∙ is))
+    | inl e ↦ subst (λ r. IsSome (g r)) (sym e) (some_there (g k) v (at_key ∙ is))
     | inr e ↦ subst IsSome (sym e) s
   ]
 
@@ -48,23 +46,23 @@ module _ {K V : Type 0} (same : K → K → Bool) (tells : (a b : K) → Decides
   ]
 
   pub count_new : (v : V) (n : ℕ) → w ≡ Some v → f k ≡ None → Exactly n (λ q. IsSome (f q)) → Exactly (n + 1) (λ q. IsSome (g q))
-  count_new v n is none c = count_more (λ q. IsSome (f q)) (λ q. IsSome (g q)) k n (still v is) (live_some (g k) v (at_key ∙ is)) (λ s. none_some (f k) none s) back c
+  count_new v n is none c = count_more (λ q. IsSome (f q)) (λ q. IsSome (g q)) k n (still v is) (some_there (g k) v (at_key ∙ is)) (λ s. none_some (f k) none s) back c
 
   pub count_old : (v o : V) (n : ℕ) → w ≡ Some v → f k ≡ Some o → Exactly n (λ q. IsSome (f q)) → Exactly n (λ q. IsSome (g q))
   count_old v o n is was c = count_same (λ q. IsSome (f q)) (λ q. IsSome (g q)) (still v is) was_live n c
     where
       was_live : (q : K) → IsSome (g q) → IsSome (f q)
       was_live q s = elim (back q s) [
-        | inl e ↦ subst (λ r. IsSome (f r)) (sym e) (live_some (f k) o was)
+        | inl e ↦ subst (λ r. IsSome (f r)) (sym e) (some_there (f k) o was)
         | inr h ↦ h
       ]
 
   pub count_gone : (o : V) (n m : ℕ) → w ≡ None → f k ≡ Some o → m + 1 ≡ n → Exactly n (λ q. IsSome (f q)) → Exactly m (λ q. IsSome (g q))
-  count_gone o n m is was s c = count_less (λ q. IsSome (f q)) (λ q. IsSome (g q)) k n was_live (live_some (f k) o was) (λ h. none_some (g k) (at_key ∙ is) h) now c m s
+  count_gone o n m is was s c = count_less (λ q. IsSome (f q)) (λ q. IsSome (g q)) k n was_live (some_there (f k) o was) (λ h. none_some (g k) (at_key ∙ is) h) now c m s
     where
       was_live : (q : K) → IsSome (g q) → IsSome (f q)
       was_live q h = elim (back q h) [
-        | inl e ↦ subst (λ r. IsSome (f r)) (sym e) (live_some (f k) o was)
+        | inl e ↦ subst (λ r. IsSome (f r)) (sym e) (some_there (f k) o was)
         | inr h ↦ h
       ]
 
@@ -82,6 +80,6 @@ module _ {K V : Type 0} (same : K → K → Bool) (tells : (a b : K) → Decides
     where
       was_live : (q : K) → IsSome (g q) → IsSome (f q)
       was_live q s = elim (back q s) [
-        | inl e ↦ subst (λ r. IsSome (f r)) (sym e) (live_some (f k) o was)
+        | inl e ↦ subst (λ r. IsSome (f r)) (sym e) (some_there (f k) o was)
         | inr h ↦ h
       ]

@@ -6,7 +6,6 @@ use Rattle.std.specs.Map.{lookup}
 use Rattle.std.specs.Option.{MatchOption}
 use Rattle.std.specs.declared.sync.Arc.{Arc}
 use Rattle.std.proofs.lemmas.List.{map-append}
-use Rattle.fare_book.proofs.TableRows.{front_is}
 use Rattle.seat_classes.specs.Held.{seats_at}
 use Rattle.fare_book.specs.Counts.{Exactly}
 use Rattle.fare_law.specs.declared.fares.Fare.{Fare}
@@ -17,7 +16,6 @@ use Rattle.fare_law.specs.declared.rules.Rule.{Rule}
 use Rattle.fare_law.specs.Book.{Book, Timetable, actions, live_fare, live_rule, live_seats}
 use Rattle.fare_law.specs.Faults.{filed}
 use Rattle.fare_law.specs.FilingLimits.{IsFiling}
-use Rattle.fare_law.specs.Lists.{Each}
 use Rattle.fare_law.specs.Sheets.{IsLiveRow, Sheet, SheetOf}
 use Rattle.fare_book.specs.Drafts.{Drafts, FaresKept, Keeping, RulesKept, SeatsKept, drafted_seats}
 use Rattle.fare_book.specs.Keeping.{History, Keeps, NoFare, RulesStand, Sheets, sheet_at, uses_at}
@@ -33,10 +31,8 @@ use Rattle.fare_book.proofs.Following.{filed_actions, rule_free, same_fares, sam
 use Rattle.fare_book.proofs.LastActions.{live_key}
 use Rattle.fare_book.proofs.LiveRows.{row_live}
 use Rattle.fare_book.proofs.TakingLemmas.{legal_more, no_fault}
-
-each_push : {X : Type 0} (P : X → Type 0) (xs : List X) (x : X) → Each P xs → P x → Each P (xs ++ x ∷ [])
-each_push P [] x e p = (p, tt)
-each_push P (y ∷ ys) x e p = (e.0, each_push P ys x e.1 p)
+use Rattle.law_lemmas.proofs.EachOne.{each_more}
+use Rattle.law_lemmas.proofs.Lists.{front_read}
 
 length_push : {X : Type 0} (xs : List X) (x : X) → length (xs ++ x ∷ []) ≡ length xs + 1
 length_push [] x = omega arith
@@ -124,7 +120,7 @@ draft_ready b d tables k holds = record {
 -- a history with one filing more, which has no fault
 pub history_more : (b : Book) (filing : Filing) → History b → length b.entries < 1000000 → IsFiling filing → NoneStops b filing.actions → History (filed b filing.actions)
 history_more b filing h few limits none = record {
-  filings = each_push IsFiling b.entries filing h.filings limits;
+  filings = each_more IsFiling b.entries filing h.filings limits;
   legal = legal_more b.timetable b.entries filing h.legal (no_fault b filing few none);
   few = omega (arith, few, length_push b.entries filing);
 }
@@ -169,7 +165,7 @@ draft_keeps b d sheets rules uses held k s r u h t c =
 pub copied_more : {X Y : Type 0} (f : X → Y) (all new src : List X) (x e : X) (i : ℕ) → new ≡ all ++ x ∷ [] → f x ≡ f e → e ≡ get_or src i e → i < length src → map f all ≡ map f (take i src) → map f new ≡ map f (take (i + 1) src)
 copied_more f all new src x e i pushed same is within so =
     ap (map f) pushed ∙ map-append f all (x ∷ []) ∙ ap (λ z. z ++ f x ∷ []) so ∙ ap (λ z. map f (take i src) ++ z ∷ []) same
-    ∙ sym (map-append f (take i src) (e ∷ [])) ∙ sym (ap (map f) (front_is src i e e within is))
+    ∙ sym (map-append f (take i src) (e ∷ [])) ∙ sym (ap (map f) (front_read src i e e within is))
 
 pub entry_more : {X Y : Type 0} (f : X → Y) (all new src : List X) (x : X) → new ≡ all ++ x ∷ [] → map f all ≡ map f src → map f new ≡ map f src ++ f x ∷ []
 entry_more f all new src x pushed same = ap (map f) pushed ∙ map-append f all (x ∷ []) ∙ ap (λ z. z ++ f x ∷ []) same

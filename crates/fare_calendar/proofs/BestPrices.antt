@@ -1,5 +1,5 @@
 -- The first of the best tickets is a cheapest one, and where the best are none there is no lawful ticket: for `cells_have_the_best`.
-use Rattle.std.proofs.Common.{◌≡◌, ℕ, zero, suc, ◌≤◌, ◌<◌, ◌⊎◌, inl, inr, List, [], ◌∷◌, refl, subst, arith}
+use Rattle.std.proofs.Common.{◌≡◌, ℕ, ◌≤◌, ◌<◌, inl, inr, List, [], ◌∷◌, refl, subst, arith}
 use Rattle.calendar_law.specs.Cells.{CellHas, CellsLeast, LeastPrice, cell, over_days}
 use Rattle.fare_calendar.specs.BestOfCells.{CellsAreEmpty, CellsCost, FirstCosts}
 use Rattle.fare_law.specs.declared.requests.Request.{Request}
@@ -9,6 +9,7 @@ use Rattle.fare_law.specs.Book.{Book}
 use Rattle.fare_law.specs.Lawful.{Lawful}
 use Rattle.fare_law.specs.Lists.{EachPair, IsIn}
 use Rattle.residual_keys.proofs.OneBest.{costs_one}
+use Rattle.law_lemmas.proofs.Numbers.{at_most_or}
 
 no_more : (price price' : ℕ) (word word' : List ℕ) → Before price word price' word' → price ≤ price'
 no_more price price' word word' (inl less) = omega (arith, less)
@@ -34,17 +35,12 @@ first_least b q t (v ∷ others) u m n ascending (inr more) h k =
     let rest = first_least b q v others u n' n ascending.1 more k' k in
     omega (arith, less, first, rest)
 
-below_or : (m n : ℕ) → (m ≤ n) ⊎ (n < m)
-below_or zero n = inl (omega arith)
-below_or (suc m) zero = inr (omega arith)
-below_or (suc m) (suc n) = elim (below_or m n) [ inl h ↦ inl (omega (arith, h)) | inr h ↦ inr (omega (arith, h)) ]
-
 pub best_is_least : (b : Book) (q : Request) (t : Ticket) (others : List Ticket) (price : ℕ) → Best b q (t ∷ others) → Costs t b q price → LeastPrice b q price
 best_is_least b q t others price best costs = record {
   ticket = t;
   lawful = best.each.0;
   costs = costs;
-  least = λ u other lawful k. elim (below_or price other) [
+  least = λ u other lawful k. elim (at_most_or price other) [
     | inl least ↦ least
     | inr less ↦
         let out : IsIn u (t ∷ others) → ⊥ = λ in_it. absurd (omega (arith, less, first_least b q t others u price other best.ascending in_it costs k)) in

@@ -7,9 +7,9 @@ use Rattle.answer_text.specs.Lines.{Adds, line}
 use Rattle.fare_calendar.specs.declared.cell.Cell.{Cell}
 use Rattle.fare_calendar.specs.declared.spans.Spans.{Spans}
 use Rattle.fare_calendar.specs.CalendarText.{CalendarText, CellLine, spans_line, value_words}
-use Rattle.fare_calendar.proofs.DayPairs.{matched_more}
 use Rattle.fare_law.specs.Lists.{Matched}
 use Rattle.market_time.specs.Dates.{day_spelled}
+use Rattle.law_lemmas.proofs.Pairs.{matched_more}
 
 -- the lines of these cells were added
 pub record AddedLines (cells : List Cell) (old new : List ℕ) : Type 0 where

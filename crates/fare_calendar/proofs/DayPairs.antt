@@ -1,17 +1,9 @@
 -- The cells so far match the pairs of days so far: for the loops of `calendar`.
 use Rattle.std.proofs.Common.{◌≡◌, ℕ, suc, ◌+◌, List, [], ◌∷◌, ◌++◌, map, flat_map, refl, ap, sym, subst, ◌∙◌, append_assoc, append-nil, arith}
 use Rattle.fare_calendar.specs.Calendars.{numbers_below, with_backs, day_pairs}
-use Rattle.fare_law.specs.Lists.{Each, Matched}
-
-pub matched_more : {X Y : Type 0} (R : X → Y → Type 0) (xs : List X) (ys : List Y) (x : X) (y : Y) → Matched R xs ys → R x y → Matched R (xs ++ x ∷ []) (ys ++ y ∷ [])
-matched_more R [] [] x y m r = (r, tt)
-matched_more R [] (v ∷ ys) x y m r = absurd m
-matched_more R (w ∷ xs) [] x y m r = absurd m
-matched_more R (w ∷ xs) (v ∷ ys) x y m r = (m.0, matched_more R xs ys x y m.1 r)
-
-map_more : {X Y : Type 0} (f : X → Y) (xs : List X) (x : X) → map f (xs ++ x ∷ []) ≡ map f xs ++ f x ∷ []
-map_more f [] x = refl
-map_more f (w ∷ xs) x = ap (λ ys. f w ∷ ys) (map_more f xs x)
+use Rattle.fare_law.specs.Lists.{Matched}
+use Rattle.law_lemmas.proofs.Lists.{map_end}
+use Rattle.law_lemmas.proofs.Pairs.{matched_more}
 
 flat_map_more : {X Y : Type 0} (f : X → List Y) (xs : List X) (x : X) → flat_map f (xs ++ x ∷ []) ≡ flat_map f xs ++ f x
 flat_map_more f [] x = append-nil (f x)
@@ -37,7 +29,7 @@ module _ {Y : Type 0} (R : ℕ × ℕ → Y → Type 0) where
   one_back pairs out n cells c m r =
       let whole : pairs ++ with_backs (n + 1) out ≡ (pairs ++ with_backs n out) ++ (out, n) ∷ [] =
       ap (λ ns. pairs ++ map (λ (back : ℕ). (out, back)) ns) (below_more n)
-      ∙ ap (λ ps. pairs ++ ps) (map_more (λ (back : ℕ). (out, back)) (numbers_below n) n)
+      ∙ ap (λ ps. pairs ++ ps) (map_end (λ (back : ℕ). (out, back)) (numbers_below n) n)
       ∙ sym (append_assoc pairs (with_backs n out) ((out, n) ∷ [])) in
       subst (λ ps. Matched R ps (cells ++ c ∷ [])) (sym whole) (matched_more R (pairs ++ with_backs n out) cells (out, n) c m r)
 
@@ -49,7 +41,3 @@ module _ {Y : Type 0} (R : ℕ × ℕ → Y → Type 0) where
   pub one_out : (backs n : ℕ) (cells : List Y) → Matched R (day_pairs n backs ++ with_backs backs n) cells → Matched R (day_pairs (n + 1) backs) cells
   one_out backs n cells m =
       subst (λ ps. Matched R ps cells) (sym (ap (flat_map (with_backs backs)) (below_more n) ∙ flat_map_more (with_backs backs) (numbers_below n) n)) m
-
-pub each_more : {X : Type 0} (P : X → Type 0) (xs : List X) (x : X) → Each P xs → P x → Each P (xs ++ x ∷ [])
-each_more P [] x h p = (p, tt)
-each_more P (w ∷ xs) x h p = (h.0, each_more P xs x h.1 p)

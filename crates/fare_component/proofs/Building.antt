@@ -1,13 +1,15 @@
 -- The list of offers, as far as the loop over the rows has come.
-use Rattle.std.proofs.Common.{◌≡◌, ◌⊎◌, ◌↔◌, ℕ, ◌+◌, ◌<◌, ◌≤◌, List, [], ◌∷◌, ◌++◌, length, slice_get, Some, inl, inr, ⊎_elim, sym, ap, subst, ◌∙◌, arith}
-use Rattle.std.proofs.lemmas.Bool.{cases_lt}
+use Rattle.std.proofs.Common.{◌≡◌, ◌⊎◌, ◌↔◌, ℕ, ◌+◌, ◌<◌, ◌≤◌, List, [], ◌∷◌, ◌++◌, length, slice_get, Some, ⊎_elim, sym, ap, subst, ◌∙◌, arith}
 use Rattle.fare_law.specs.declared.market.OfferKey.{OfferKey}
 use Rattle.fare_law.specs.declared.sheets.SheetRow.{SheetRow}
 use Rattle.fare_law.specs.Lists.{Each, EachPair, IsIn}
 use Rattle.fare_law.specs.Offers.{IsOffer, IsOffered, flights_of, row_price}
 use Rattle.fare_component.specs.declared.offer.Offer.{Offer}
 use Rattle.fare_component.specs.Offers.{AreOffers, StandsBefore}
-use Rattle.fare_component.proofs.Listed.{each_in, each_weaker, each_push, got_within, in_push, in_front, in_last}
+use Rattle.fare_component.proofs.Listed.{in_push, in_front, in_last}
+use Rattle.law_lemmas.proofs.EachOne.{each_in, each_more, each_weaker}
+use Rattle.law_lemmas.proofs.Lists.{got_within}
+use Rattle.law_lemmas.proofs.Numbers.{here_or_before}
 
 -- the offers at the first n places
 pub record OffersBelow (key : OfferKey) (n : ℕ) (rows : List Offer) : Type 0 where
@@ -17,9 +19,6 @@ pub record OffersBelow (key : OfferKey) (n : ℕ) (rows : List Offer) : Type 0 w
 
 pub below_none : (key : OfferKey) → OffersBelow key 0 []
 below_none key = record { ascending = tt; below = tt; exact = λ o less. absurd (omega arith) }
-
-here_or_before : (m n : ℕ) → m < n + 1 → m < n ⊎ (m ≡ n)
-here_or_before m n less = ⊎_elim (λ (h : m < n). inl h) (λ (h : n ≤ m). inr (omega arith)) (cases_lt m n)
 
 wider : (n : ℕ) (rows : List Offer) → Each (λ o. o.place < n) rows → Each (λ o. o.place < n + 1) rows
 wider n rows h = each_weaker (λ o. o.place < n) (λ o. o.place < n + 1) (λ o less. omega arith) rows h
@@ -52,7 +51,7 @@ below_push key n price rows row h stands offered costs =
     let is_offer : IsOffer key n price = record { row = row; stands = stands; offered = offered; costs = costs } in
     record {
       ascending = ascending_push rows new h.ascending h.below;
-      below = each_push (λ o. o.place < n + 1) rows new (wider n rows h.below) (omega arith);
+      below = each_more (λ o. o.place < n + 1) rows new (wider n rows h.below) (omega arith);
       exact = λ o less. (
         λ i. ⊎_elim (λ (old : IsIn o rows). (h.exact o (each_in (λ (x : Offer). x.place < n) rows o h.below old)).0 old) (λ (e : o ≡ new). subst (λ (x : Offer). IsOffer key x.place x.price) (sym e) is_offer) (in_push rows new o i),
         λ offer. ⊎_elim (λ (before : o.place < n). in_front rows new o ((h.exact o before).1 offer)) (λ (here : o.place ≡ n). in_last rows new o (same_offer key n price row stands costs o here (subst (λ p. IsOffer key p o.price) here offer))) (here_or_before o.place n less),

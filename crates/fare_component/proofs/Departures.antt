@@ -14,7 +14,7 @@ use Rattle.fare_law.specs.Lists.{OnFirst}
 use Rattle.fare_law.specs.Parts.{DayTimeHolds}
 use Rattle.fare_law.specs.Sheets.{first_minute, from_minute, last_minute, to_minute}
 use Rattle.lane_mask.specs.Spans.{AreMarked}
-use Rattle.fare_component.proofs.Listed.{got_within}
+use Rattle.law_lemmas.proofs.Lists.{got_within}
 
 -- category 2 holds within the hours of the columns alone
 in_hours : (o : Option DayTime) (f : Flight) → f.minute < 1440 → IfSome o (λ c. Contains c.days (weekday f.day) × (c.from ≤ f.minute) × (f.minute ≤ c.to)) → (from_minute o ≤ℤ pos f.minute) × (pos f.minute ≤ℤ to_minute o)

@@ -7,6 +7,7 @@ use Rattle.fare_law.specs.declared.names.Place.{Place}
 use Rattle.fare_law.specs.Lists.{OnLast}
 use Rattle.fare_law.specs.Offers.{FiledBetween, HasDirection}
 use Rattle.fare_component.specs.Keys.{Begins, Ends}
+use Rattle.law_lemmas.proofs.Ends.{on_last}
 
 -- the element before the end is the last one
 pub last_told : {X : Type 0} (P : X → Type 0) (xs : List X) → OnLast P xs ↔ IsSomeAnd (slice_get xs (length xs - 1)) P
@@ -21,11 +22,6 @@ last_told P (y ∷ z ∷ zs) =
 
 pub ends_told : (place : Place) (fs : List Flight) → Ends place fs ↔ IsSomeAnd (slice_get fs (length fs - 1)) (λ f. place ≡ f.to)
 ends_told place fs = last_told (λ f. place ≡ f.to) fs
-
-on_last : {X : Type 0} (P Q : X → Type 0) → ((x : X) → P x → Q x) → (xs : List X) → OnLast P xs → OnLast Q xs
-on_last P Q f [] h = h
-on_last P Q f (x ∷ []) h = f x h
-on_last P Q f (x ∷ y ∷ ys) h = on_last P Q f (y ∷ ys) h
 
 on_last_both : {X : Type 0} (P Q R : X → Type 0) → ((x : X) → P x → Q x ⊎ R x) → (xs : List X) → OnLast P xs → OnLast Q xs ⊎ OnLast R xs
 on_last_both P Q R f [] h = absurd h

@@ -9,7 +9,7 @@ use Rattle.fare_component.specs.declared.offer.Offer.{Offer}
 use Rattle.fare_component.specs.declared.offer.OfferRows.{OfferRows}
 use Rattle.fare_component.specs.Keys.{asked}
 use Rattle.fare_component.specs.Offers.{HasNoOffers, HasOneList, OffersNothing, SameOffers, StandsBefore}
-use Rattle.fare_component.proofs.Listed.{each_in, each_weaker}
+use Rattle.law_lemmas.proofs.EachOne.{each_in, each_weaker}
 
 -- all further offers stand behind the first
 behind : (x : Offer) (xs : List Offer) → EachPair StandsBefore (x ∷ xs) → Each (StandsBefore x) xs

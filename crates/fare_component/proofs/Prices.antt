@@ -11,7 +11,7 @@ use Rattle.fare_law.specs.Parts.{share, stopover_charge, surcharges}
 use Rattle.fare_law.specs.RuleLimits.{IsRule}
 use Rattle.fare_component.specs.Keys.{IsRow}
 use Rattle.fare_component.specs.Offers.{HasLowPrices}
-use Rattle.fare_component.proofs.Listed.{each_got}
+use Rattle.law_lemmas.proofs.EachOne.{each_got}
 
 share_low : (kind : FareKind) (amount : ℕ) → share kind amount ≤ amount
 share_low O amount = omega arith

@@ -19,7 +19,8 @@ use Rattle.fare_component.specs.Offers.{AreOffers}
 use Rattle.fare_component.proofs.Building.{OffersBelow, below_push, below_skip}
 use Rattle.fare_component.proofs.Departures.{missed}
 use Rattle.fare_component.proofs.Ends.{directed, undirected}
-use Rattle.fare_component.proofs.Listed.{each_all, each_got}
+use Rattle.fare_component.proofs.Listed.{each_all}
+use Rattle.law_lemmas.proofs.EachOne.{each_got}
 
 pub flights_within : (key : OfferKey) (fs : List Flight) → fs ≡ flights_of key.legs → IsKey key → All IsFlight fs
 flights_within key fs same within = subst (All IsFlight) (sym same) (All-map IsFlight (λ leg. leg.flight) key.legs (each_all IsLeg key.legs within.legs.each))

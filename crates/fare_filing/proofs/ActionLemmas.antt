@@ -1,15 +1,15 @@
 -- Actions that were read, and those that are left.
-use Rattle.std.proofs.Common.{◌≡◌, true, false, nat_le, ◌<◌, ◌≤◌, ◌+◌, ℕ, suc, List, [], ◌∷◌, ◌++◌, length, drop, get_or, refl, ap, sym, ◌∙◌, subst, Result, Ok, Err, append_assoc, append-nil, drop-cons, add-one, arith}
-use Rattle.std.proofs.lemmas.Bool.Decides.{nat_tests}
+use Rattle.std.proofs.Common.{◌≡◌, ◌<◌, ◌≤◌, ◌+◌, ℕ, suc, List, [], ◌∷◌, ◌++◌, length, drop, get_or, refl, ap, sym, ◌∙◌, subst, Result, Ok, Err, append_assoc, append-nil, drop-cons, add-one}
 use Rattle.std.proofs.lemmas.List.{drop_all}
 use Rattle.serde_json.specs.View.{view, items_view}
 use Rattle.serde_json.specs.declared.value.Value.{Value}
-use Rattle.fare_law.specs.Lists.{Each}
 use Rattle.fare_law.specs.declared.filings.Action.{Action}
-use Rattle.rule_text.specs.Members.{item_count}
 use Rattle.fare_filing.specs.declared.fault.FilingFault.{FilingFault}
 use Rattle.fare_filing.specs.declared.fault.FilingFault.TheVariants.{Syntax, Shape, Rule, Mem}
 use Rattle.fare_filing.specs.Reading.{Tells, action_spelled, actions_from, few_actions, then_rest}
+use Rattle.law_lemmas.proofs.EachOne.{each_more}
+use Rattle.law_lemmas.proofs.Tests.{le_false, le_true}
+use Rattle.rule_text.proofs.ItemLemmas.{count_items}
 
 -- actions that stand before the others
 abbrev pub after : List Action → Result (List Action) FilingFault → Result (List Action) FilingFault
@@ -55,11 +55,6 @@ actions_stop front (Rule action fault) vs i n d l at e h = actions_bad front (Ru
 pub actions_all : (front : List Action) (vs : List Value) (i : ℕ) → length vs ≤ i → after front (left vs i) ≡ left vs 0 → left vs 0 ≡ Ok front
 actions_all front vs i l h = sym h ∙ ap (λ ys. after front (actions_from (suc i) (items_view ys))) (drop_all i vs l) ∙ ap Ok (append-nil front)
 
--- one more that has P
-pub each_more : {A : Type 0} (P : A → Type 0) (front : List A) (a : A) → Each P front → P a → Each P (front ++ a ∷ [])
-each_more P [] a h p = (p, tt)
-each_more P (x ∷ xs) a h p = (h.0, each_more P xs a h.1 p)
-
 pub ruleset action_steps = (after_none, actions_more, actions_stop, actions_all, each_more)
 
 -- what is told as it is
@@ -71,16 +66,6 @@ told_is (Err (Shape action)) told e = e
 told_is (Err (Rule action fault)) told e = e
 
 -- how many actions there are
-
-count_items : (vs : List Value) → item_count (items_view vs) ≡ length vs
-count_items [] = refl
-count_items (v ∷ vs) = ap suc (count_items vs)
-
-le_true : (a b : ℕ) → a ≤ b → nat_le a b ≡ true
-le_true a b h = grind (arith, nat_tests)
-
-le_false : (a b : ℕ) → b < a → nat_le a b ≡ false
-le_false a b h = grind (arith, nat_tests)
 
 pub count_few : (vs : List Value) → length vs ≤ 5000 → few_actions (items_view vs) ≡ actions_from 1 (items_view vs)
 count_few vs few = rw (count_items vs, le_true (length vs) 5000 few) refl

@@ -1,7 +1,6 @@
 -- A filing within its limits that was written is read again as itself.
-use Rattle.std.proofs.Common.{◌≡◌, ◌≤◌, ℕ, suc, nat_le, true, List, [], ◌∷◌, length, Some, Ok, codes, ok_or, refl, arith, sym, subst, ap, ◌∙◌}
+use Rattle.std.proofs.Common.{◌≡◌, ℕ, suc, List, [], ◌∷◌, length, Some, Ok, codes, ok_or, refl, arith, sym, subst, ap, ◌∙◌}
 use Rattle.std.specs.Str.{IsUtf8}
-use Rattle.std.proofs.lemmas.Bool.Decides.{nat_tests}
 use Rattle.std.proofs.lemmas.Str.{is_utf8-from_IsUtf8}
 use Rattle.serde_json.proofs.Views.{get_member-put, get_member-put_other}
 use Rattle.serde_json.specs.Data.{Data, Items, no_items, item, Members, object, number, unsigned, string, put}
@@ -34,13 +33,11 @@ use Rattle.fare_filing.specs.declared.fault.FilingFault.TheVariants.{Shape}
 use Rattle.fare_filing.specs.Reading.{action_spelled, actions_from, filing_of, filing_spelled, put_rule}
 use Rattle.fare_filing.specs.Text.{WritesAction, WritesActions, WritesFiling, WritesRule, fare_data, key_data, kind_text, rule_name_data, seat_key_data, seats_data, seats_text}
 use Rattle.fare_filing.proofs.SeatLemmas.{seats_again}
+use Rattle.law_lemmas.proofs.Tests.{le_true}
 
 -- a carrier and a number beside the categories change nothing in the rule
 abbrev pub StandAside : Type 0
 StandAside = (carrier n : Data) (ms : Members) → rule_of (object (put (codes "carrier") carrier (put (codes "rule") n ms))) ≡ rule_of (object ms)
-
-pub le_true : (a b : ℕ) → a ≤ b → nat_le a b ≡ true
-le_true a b h = grind (arith, nat_tests)
 
 kind_again : (kind : FareKind) → kind_of (kind_text kind) ≡ Some kind
 kind_again O = refl

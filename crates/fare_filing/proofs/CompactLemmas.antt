@@ -17,7 +17,8 @@ use Rattle.fare_law.specs.declared.filings.SeatKey.{SeatKey}
 use Rattle.name_text.specs.Again.{NamesReadAgain}
 use Rattle.fare_filing.specs.Compact.{Begins, IsPlain, ReadsBack, SeatsAction, fare_action, seats_action}
 use Rattle.fare_filing.specs.Text.{fare_data, kind_text, seats_data, sole}
-use Rattle.fare_filing.proofs.AgainLemmas.{fare_again, le_true}
+use Rattle.fare_filing.proofs.AgainLemmas.{fare_again}
+use Rattle.law_lemmas.proofs.Tests.{le_true}
 
 -- plain bytes are written as they are
 

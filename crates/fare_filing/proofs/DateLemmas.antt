@@ -1,17 +1,14 @@
 -- The text of the day of a seat row.
-use Rattle.std.proofs.Common.{◌≡◌, ℕ, ℤ, zero, suc, Bool, true, false, List, [], ◌∷◌, Some, None, refl, sym, subst, ◌∙◌, arith, bytes_eq, codes}
+use Rattle.std.proofs.Common.{◌≡◌, ℕ, ℤ, zero, suc, false, List, [], ◌∷◌, Some, None, refl, sym, subst, ◌∙◌, arith, bytes_eq, codes}
 use Rattle.std.specs.Str.{IsAscii}
 use Rattle.std.proofs.lemmas.Slice.Eq.{bytes_eq-Decides}
 use Rattle.market_time.specs.Dates.{day_spelled}
 use Rattle.name_text.specs.Seats.{seat_day_of}
+use Rattle.law_lemmas.proofs.Tests.{not_true}
 
 no_star : day_spelled (codes "*") ≡ None
 unfolding day_spelled
 no_star = refl
-
-not_true : (b : Bool) → (b ≡ true → ⊥) → b ≡ false
-not_true true h = absurd (h refl)
-not_true false h = refl
 
 other_text : (text : List ℕ) (day : ℤ) → day_spelled text ≡ Some day → bytes_eq text (codes "*") ≡ false
 other_text text day e =

@@ -1,19 +1,12 @@
 -- Pieces of a text: one that it begins with, a name up to a quote, a number.
-use Rattle.std.proofs.Common.{◌≡◌, ◌≢◌, ◌<◌, ◌≤◌, ◌+◌, ◌-◌, ◌*◌, ◌/◌, ◌%◌, ◌^◌, ℕ, zero, suc, Bool, true, false, ◌&&◌, eqb, List, [], ◌∷◌, ◌++◌, length, take, drop, get_or, decimal, refl, sym, ap, ap₂, subst, ◌∙◌, arith, bytes_eq, append_assoc, take-append-drop}
+use Rattle.std.proofs.Common.{◌≡◌, ◌≢◌, ◌<◌, ◌≤◌, ◌+◌, ◌-◌, ◌*◌, ◌/◌, ◌%◌, ◌^◌, ℕ, zero, suc, Bool, true, ◌&&◌, eqb, List, [], ◌∷◌, ◌++◌, length, take, drop, get_or, decimal, sym, ap, ap₂, subst, ◌∙◌, arith, bytes_eq, append_assoc, take-append-drop}
 use Rattle.std.proofs.lemmas.Fmt.{decimal_digit, decimal_step}
 use Rattle.std.proofs.lemmas.List.{take_all, take_more, take_more_same}
 use borrow.Author.Tests.{eqb-true}
 use Rattle.fare_law.specs.Lists.{Each}
 use Rattle.fare_filing.specs.Compact.{Cuts, IsPlain}
-
--- one more that has P
-each_more : {A : Type 0} (P : A → Type 0) (front : List A) (a : A) → Each P front → P a → Each P (front ++ a ∷ [])
-each_more P [] a h p = (p, tt)
-each_more P (x ∷ xs) a h p = (h.0, each_more P xs a h.1 p)
-
-both : (a b : Bool) → (a && b) ≡ true → (a ≡ true) × (b ≡ true)
-both true b h = (refl, h)
-both false b h = absurd (cc)
+use Rattle.law_lemmas.proofs.EachOne.{each_more}
+use Rattle.law_lemmas.proofs.Tests.{both_true}
 
 -- the bytes up to a place, and one more
 pub plain_more : (text : List ℕ) (i byte : ℕ) → i < length text → byte ≡ get_or text i byte → IsPlain byte → Each IsPlain (take i text) → Each IsPlain (take (i + 1) text)
@@ -55,7 +48,7 @@ pub ruleset name_steps = (plain_more, cut_there)
 -- two texts that are the same up to a place, and one byte further
 pub same_more : (front piece : List ℕ) (i : ℕ) (same : Bool) (d : ℕ) → i < length piece → length front ≡ length piece
     → (same ≡ true → take i front ≡ take i piece) → (same && eqb (get_or front i d) (get_or piece i d)) ≡ true → take (i + 1) front ≡ take (i + 1) piece
-same_more front piece i same d l long before h = let p = both same (eqb (get_or front i d) (get_or piece i d)) h in
+same_more front piece i same d l long before h = let p = both_true same (eqb (get_or front i d) (get_or piece i d)) h in
     take_more_same front piece i d (omega (arith, l, long)) l (before p.0) (eqb-true (get_or front i d) (get_or piece i d) p.1)
 
 pub same_all : (front piece : List ℕ) (i : ℕ) (same : Bool) → length piece ≤ i → length front ≡ length piece

@@ -1,11 +1,12 @@
 -- What a group tells of its fares. Given on to the crates above.
-use Rattle.std.proofs.Common.{◌≡◌, ℕ, ◌+◌, Option, Some, sym, ap, subst, ◌∙◌, arith}
+use Rattle.std.proofs.Common.{◌≡◌, ℕ, ◌+◌, sym, ap, subst, ◌∙◌, arith}
 use Rattle.fare_groups.specs.Groups.{OfferedByGroup, OneRule, PricedByGroup, extra_of, share_of}
 use Rattle.fare_groups.specs.declared.group.GroupKey.{GroupKey}
 use Rattle.fare_law.specs.Book.{live_rule}
 use Rattle.fare_law.specs.Lists.{OnFirst}
 use Rattle.fare_law.specs.Offers.{flights_of}
 use Rattle.fare_law.specs.Parts.{DayTimeHolds, FlightsHold, StopoversHold, TransfersHold, stopover_charge, surcharges}
+use Rattle.law_lemmas.proofs.Options.{some_one}
 
 pub offered_by_group : OfferedByGroup
 offered_by_group g rule legs row of same direction =
@@ -35,9 +36,6 @@ grouped_sum a b c = omega arith
 
 pub priced_by_group : PricedByGroup
 priced_by_group rule fs row same = grouped_sum (share_of row) (stopover_charge row.rule fs) (surcharges row.rule.cat12 fs) ∙ ap (λ r. share_of row + extra_of r fs) same
-
-some_one : {X : Type 0} (o : Option X) (x y : X) → o ≡ Some x → o ≡ Some y → x ≡ y
-some_one o x y h k = cc
 
 pub one_rule_all : OneRule
 one_rule_all b from to sheet s r t i j same =

@@ -3,27 +3,19 @@ use Rattle.std.proofs.Common.{◌≡◌, ℕ, suc, ◌+◌, ◌≤◌, ◌<◌, 
 use Rattle.std.proofs.Math.Seq.{take-suc}
 use Rattle.fare_groups.specs.declared.group.GroupedFare.{GroupedFare}
 use Rattle.fare_groups.specs.Grouping.{Cheapest}
-use Rattle.fare_groups.proofs.Grouped.{in_left, in_right}
-use Rattle.fare_law.specs.Lists.{Each}
-
-each_last : {X : Type 0} (P : X → Type 0) (xs : List X) (x : X) → Each P xs → P x → Each P (xs ++ x ∷ [])
-each_last P [] x h k = (k, tt)
-each_last P (y ∷ xs) x h k = (h.0, each_last P xs x h.1 k)
-
-each_to : {X : Type 0} (P Q : X → Type 0) (xs : List X) → Each P xs → ((x : X) → P x → Q x) → Each Q xs
-each_to P Q [] h k = tt
-each_to P Q (x ∷ xs) h k = (k x h.0, each_to P Q xs h.1 k)
+use Rattle.law_lemmas.proofs.EachOne.{each_more, each_to}
+use Rattle.law_lemmas.proofs.Members.{in_left, in_right}
 
 module _ (classes : ℕ) (fares : List GroupedFare) (f : GroupedFare) where
   -- a fare whose class is not open
   pub cheap_skip : (least : Option ℕ) → (IsBitSet classes f.class → ⊥) → Cheapest classes fares least → Cheapest classes (fares ++ f ∷ []) least
-  cheap_skip None closed h = each_last (λ x. IsBitSet classes x.class → ⊥) fares f h closed
+  cheap_skip None closed h = each_more (λ x. IsBitSet classes x.class → ⊥) fares f h closed
   cheap_skip (Some share) closed h = record {
     fare = h.fare;
     within = in_left h.fare fares (f ∷ []) h.within;
     open_class = h.open_class;
     costs = h.costs;
-    below = each_last (λ x. IsBitSet classes x.class → share ≤ x.share) fares f h.below (λ o. absurd (closed o));
+    below = each_more (λ x. IsBitSet classes x.class → share ≤ x.share) fares f h.below (λ o. absurd (closed o));
   }
 
   -- one that costs no less
@@ -33,7 +25,7 @@ module _ (classes : ℕ) (fares : List GroupedFare) (f : GroupedFare) where
     within = in_left h.fare fares (f ∷ []) h.within;
     open_class = h.open_class;
     costs = h.costs;
-    below = each_last (λ x. IsBitSet classes x.class → share ≤ x.share) fares f h.below (λ o. le);
+    below = each_more (λ x. IsBitSet classes x.class → share ≤ x.share) fares f h.below (λ o. le);
   }
 
   itself : f.share ≤ f.share
@@ -46,7 +38,7 @@ module _ (classes : ℕ) (fares : List GroupedFare) (f : GroupedFare) where
     within = in_right f fares (f ∷ []) (inl refl);
     open_class = open_class;
     costs = refl;
-    below = each_last (λ x. IsBitSet classes x.class → f.share ≤ x.share) fares f (each_to (λ x. IsBitSet classes x.class → ⊥) (λ x. IsBitSet classes x.class → f.share ≤ x.share) fares h (λ x closed o. absurd (closed o))) (λ o. itself);
+    below = each_more (λ x. IsBitSet classes x.class → f.share ≤ x.share) fares f (each_to (λ x. IsBitSet classes x.class → ⊥) (λ x. IsBitSet classes x.class → f.share ≤ x.share) fares h (λ x closed o. absurd (closed o))) (λ o. itself);
   }
 
   -- one that costs less
@@ -56,7 +48,7 @@ module _ (classes : ℕ) (fares : List GroupedFare) (f : GroupedFare) where
     within = in_right f fares (f ∷ []) (inl refl);
     open_class = open_class;
     costs = refl;
-    below = each_last (λ x. IsBitSet classes x.class → f.share ≤ x.share) fares f (each_to (λ x. IsBitSet classes x.class → share ≤ x.share) (λ x. IsBitSet classes x.class → f.share ≤ x.share) fares h.below (λ x below o. let le = below o in omega (arith, le, lt))) (λ o. itself);
+    below = each_more (λ x. IsBitSet classes x.class → f.share ≤ x.share) fares f (each_to (λ x. IsBitSet classes x.class → share ≤ x.share) (λ x. IsBitSet classes x.class → f.share ≤ x.share) fares h.below (λ x below o. let le = below o in omega (arith, le, lt))) (λ o. itself);
   }
 
 pub cheap_more : (classes : ℕ) (fares : List GroupedFare) (i : ℕ) (d f : GroupedFare) (old new : Option ℕ) → i < length fares → f ≡ get_or fares i d → ((fs : List GroupedFare) → Cheapest classes fs old → Cheapest classes (fs ++ f ∷ []) new) → Cheapest classes (take i fares) old → Cheapest classes (take (i + 1) fares) new

@@ -8,29 +8,8 @@ use Rattle.fare_groups.specs.Grouping.{AreFares, AreGroups, HasGroup, IsGroup, P
 use Rattle.fare_groups.specs.Groups.{group_of}
 use Rattle.fare_law.specs.declared.sheets.SheetRow.{SheetRow}
 use Rattle.fare_law.specs.Lists.{AllDifferent, Each, IsIn}
-
-pub in_either : {X : Type 0} (x : X) (xs ys : List X) → IsIn x (xs ++ ys) → IsIn x xs ⊎ IsIn x ys
-in_either x [] ys h = inr h
-in_either x (y ∷ xs) ys (inl e) = inl (inl e)
-in_either x (y ∷ xs) ys (inr h) = elim (in_either x xs ys h) [ inl i ↦ inl (inr i) | inr i ↦ inr i ]
-
-pub in_left : {X : Type 0} (x : X) (xs ys : List X) → IsIn x xs → IsIn x (xs ++ ys)
-in_left x [] ys h = absurd h
-in_left x (y ∷ xs) ys (inl e) = inl e
-in_left x (y ∷ xs) ys (inr h) = inr (in_left x xs ys h)
-
-pub in_right : {X : Type 0} (x : X) (xs ys : List X) → IsIn x ys → IsIn x (xs ++ ys)
-in_right x [] ys h = h
-in_right x (y ∷ xs) ys h = inr (in_right x xs ys h)
-
-pub each_in : {X : Type 0} (P : X → Type 0) (xs : List X) (x : X) → Each P xs → IsIn x xs → P x
-each_in P [] x h i = absurd i
-each_in P (y ∷ xs) x h (inl e) = subst P (sym e) h.0
-each_in P (y ∷ xs) x h (inr i) = each_in P xs x h.1 i
-
-pub in_each : {X : Type 0} (P : X → Type 0) (xs : List X) → ((x : X) → IsIn x xs → P x) → Each P xs
-in_each P [] h = tt
-in_each P (x ∷ xs) h = (h x (inl refl), in_each P xs (λ y i. h y (inr i)))
+use Rattle.law_lemmas.proofs.EachOne.{each_from, each_in}
+use Rattle.law_lemmas.proofs.Members.{in_either, in_left, in_right}
 
 -- the fares of a group, with one row more
 fares_in : (key : GroupKey) (place : ℕ) (rows : List SheetRow) (row : SheetRow) (fares : List GroupedFare) → AreFares key place rows fares → group_of row ≡ key → AreFares key place (rows ++ row ∷ []) (fares ++ fare_at (place + length rows) row ∷ [])
@@ -100,7 +79,7 @@ keys_same g h (x ∷ front) back e = ap (λ ks. x.key ∷ ks) (keys_same g h fro
 
 differ_last : (g : FareGroup) (groups : List FareGroup) → AllDifferent (map (λ g. g.key) groups) → Each (λ h. h.key ≢ g.key) groups → AllDifferent (map (λ g. g.key) (groups ++ g ∷ []))
 differ_last g [] d h = (tt, tt)
-differ_last g (x ∷ groups) d h = (each_keys x.key (groups ++ g ∷ []) (in_each (λ y. x.key ≢ y.key) (groups ++ g ∷ []) (λ y i. other y (in_either y groups (g ∷ []) i))), differ_last g groups d.1 h.1)
+differ_last g (x ∷ groups) d h = (each_keys x.key (groups ++ g ∷ []) (each_from (λ y. x.key ≢ y.key) (groups ++ g ∷ []) (λ y i. other y (in_either y groups (g ∷ []) i))), differ_last g groups d.1 h.1)
   where
     other : (y : FareGroup) → IsIn y groups ⊎ IsIn y (g ∷ []) → x.key ≢ y.key
     other y (inl i) = each_in (λ z. x.key ≢ z.key) groups y (keys_each x.key groups d.0) i
@@ -130,7 +109,7 @@ gains rows row g h e = record { fares = subst (λ n. AreFares g.key 0 (rows ++ r
 
 put_new : (rows : List SheetRow) (row : SheetRow) (old new : List FareGroup) → AreGroups rows old → Each (λ g. g.key ≢ group_of row) old → new ≡ old ++ record { key = group_of row; fares = fare_at (length rows) row ∷ [] } ∷ [] → AreGroups (rows ++ row ∷ []) new
 put_new rows row old new h absent is = subst (AreGroups (rows ++ row ∷ [])) (sym is) (record {
-  each = in_each (IsGroup (rows ++ row ∷ [])) (old ++ g ∷ []) (λ x i. each_one x (in_either x old (g ∷ []) i));
+  each = each_from (IsGroup (rows ++ row ∷ [])) (old ++ g ∷ []) (λ x i. each_one x (in_either x old (g ∷ []) i));
   apart = differ_last g old h.apart absent;
   all = λ x i. found x (in_either x rows (row ∷ []) i);
 })
@@ -159,7 +138,7 @@ put_new rows row old new h absent is = subst (AreGroups (rows ++ row ∷ [])) (s
 
 put_known : (rows : List SheetRow) (row : SheetRow) (old new : List FareGroup) (at : ℕ) (g : FareGroup) → AreGroups rows old → slice_get old at ≡ Some g → g.key ≡ group_of row → new ≡ set old at (record { key = g.key; fares = g.fares ++ fare_at (length rows) row ∷ [] }) → AreGroups (rows ++ row ∷ []) new
 put_known rows row old new at g h stands key_is is = subst (AreGroups (rows ++ row ∷ [])) (sym (is ∙ s.changed grown)) (record {
-  each = in_each (IsGroup (rows ++ row ∷ [])) (s.front ++ grown ∷ s.back) (λ x i. each_one x (in_mid x grown g s.front s.back i));
+  each = each_from (IsGroup (rows ++ row ∷ [])) (s.front ++ grown ∷ s.back) (λ x i. each_one x (in_mid x grown g s.front s.back i));
   apart = subst AllDifferent (keys_same g grown s.front s.back refl) differ;
   all = λ x i. found x (in_either x rows (row ∷ []) i);
 })

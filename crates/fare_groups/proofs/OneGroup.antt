@@ -5,23 +5,16 @@ use Rattle.fare_groups.specs.declared.group.GroupKey.{GroupKey}
 use Rattle.fare_groups.specs.declared.group.GroupedFare.{GroupedFare}
 use Rattle.fare_groups.specs.Grouping.{AreFares, ClassesAreLow, EachStandsOnce, FaresAreRows, IsGroup, fare_at}
 use Rattle.fare_groups.specs.Groups.{group_of}
-use Rattle.fare_groups.proofs.Grouped.{each_in, in_each, keys_each}
+use Rattle.fare_groups.proofs.Grouped.{keys_each}
 use Rattle.fare_law.specs.declared.sheets.SheetRow.{SheetRow}
 use Rattle.fare_law.specs.Lists.{AllDifferent, Each, IsIn}
-
-got_in : {X : Type 0} (xs : List X) (n : ℕ) (x : X) → slice_get xs n ≡ Some x → IsIn x xs
-got_in [] n x e = cc
-got_in (y ∷ xs) zero x e = let same : x ≡ y = cc in inl same
-got_in (y ∷ xs) (suc n) x e = inr (got_in xs n x e)
-
-some_same : {X : Type 0} (x y : X) → Some x ≡ Some y → x ≡ y
-some_same x y e = cc
+use Rattle.law_lemmas.proofs.EachOne.{each_from, each_in}
+use Rattle.law_lemmas.proofs.Members.{got_in}
+use Rattle.law_lemmas.proofs.Numbers.{none_plus}
+use Rattle.law_lemmas.proofs.Options.{some_same}
 
 plus_none : (n : ℕ) → n ≡ n + 0
 plus_none n = omega arith
-
-none_plus : (n : ℕ) → 0 + n ≡ n
-none_plus n = omega arith
 
 later : (n m : ℕ) → suc n + m ≡ n + suc m
 later n m = omega arith
@@ -93,6 +86,6 @@ each_stands_once rows groups h place row stands =
     }
 
 pub classes_are_low : ClassesAreLow
-classes_are_low rows groups h low = in_each (λ (g : FareGroup). Each (λ f. f.class ≤ 25) g.fares) groups (λ g i. in_each (λ (f : GroupedFare). f.class ≤ 25) g.fares (λ f j.
+classes_are_low rows groups h low = each_from (λ (g : FareGroup). Each (λ f. f.class ≤ 25) g.fares) groups (λ g i. each_from (λ (f : GroupedFare). f.class ≤ 25) g.fares (λ f j.
     let x = fares_are_rows rows groups h g i f j in
     subst (λ n. n ≤ 25) (sym (ap (λ y. y.class) x.fare)) (each_in (λ (r : SheetRow). r.fare.class ≤ 25) rows x.row low (got_in rows f.place x.row x.stands))))

@@ -1,7 +1,5 @@
 -- By which categories a component fails a demand, as its calls tell it. Cited where categories are given.
-use Rattle.std.proofs.Common.{◌≡◌, ◌<◌, ◌⊎◌, ◌↔◌, ◌==◌, ◌||◌, ◌∙◌, ℕ, ℤ, zero, suc, Bool, true, false, not, List, [], ◌∷◌, length, map, refl, sym, ap, subst, inl, inr, arith, IfSome, IsTrue}
-use Rattle.std.specs.List.{Any, slice_index_or}
-use Rattle.std.proofs.lemmas.Bool.Decides.{Decides-eqb}
+use Rattle.std.proofs.Common.{◌≡◌, ◌⊎◌, ◌↔◌, ◌||◌, ◌∙◌, ℕ, ℤ, Bool, true, false, not, List, map, refl, sym, ap, subst, inl, inr, IfSome, IsTrue}
 use Rattle.fare_law.specs.declared.requests.Request.{Request}
 use Rattle.fare_law.specs.declared.tickets.Component.{Component}
 use Rattle.fare_law.specs.declared.tickets.Ticket.{Ticket}
@@ -16,8 +14,7 @@ use Rattle.ticket_demands.specs.Categories.{CategoryMeets}
 use Rattle.ticket_demands.specs.Known.{part_of, parts_of}
 use Rattle.fare_verdict.specs.Findings.{FailsInUnit, Misses}
 use Rattle.fare_verdict.specs.Told.{AreCategories}
-use Rattle.fare_verdict.proofs.Stands.{one_split, split_long}
-use Rattle.fare_verdict.proofs.UnitsAlone.{label_split}
+use Rattle.law_lemmas.proofs.Tests.{not_true}
 
 categories_like : (P Q : ℕ → Type 0) (ks : List ℕ) → ((k : ℕ) → P k → Q k) → ((k : ℕ) → Q k → P k) → AreCategories P ks → AreCategories Q ks
 categories_like P Q ks to from h = record { order = h.order; each = λ k. (λ i. to k ((h.each k).0 i), λ q. (h.each k).1 (from k q)) }
@@ -49,10 +46,6 @@ held_told r M category ks m h = categories_like (λ k. (k ≡ category) × (IsTr
     (λ k p. (p.0, m.0 (true_twice r p.1)))
     (λ k p. (p.0, not_both r (m.1 p.1))) h
 
-no_true : (r : Bool) → (r ≡ true → ⊥) → r ≡ false
-no_true true h = absurd (h refl)
-no_true false h = refl
-
 module _ (b : Book) (q : Request) (t : Ticket) (before : List Component) (c : Component) (cs : List Component) (sale : ℤ) (items : cs ≡ t.components) (day : sale ≡ q.sale) where
   part_told : (d e : UnitDemand) (met : Bool) → d ≡ e → IsTrue met ↔ IfSome (part_of b sale c) (PartMeets (parts_of b sale cs) d) → IsTrue met ↔ IfSome (part_of b q.sale c) (PartMeets (parts_of b q.sale t.components) e)
   part_told d e met is m =
@@ -78,7 +71,7 @@ module _ (b : Book) (q : Request) (t : Ticket) (before : List Component) (c : Co
       let here = part_told d Shape met is m in
       subst (λ x. AreCategories (λ k. FailsInUnit b q t x k before c) ks) (sym is)
       (categories_like (λ k. (k ≡ 0) × (IsTrue passed → ⊥)) (λ k. FailsInUnit b q t Shape k before c) ks
-      (λ k x. (x.0, no_true (comes_in c.unit (map (λ (y : Component). y.unit) before)) (λ e. x.1 (p.1 (inr e))), λ y. x.1 (p.1 (inl (here.1 y)))))
+      (λ k x. (x.0, not_true (comes_in c.unit (map (λ (y : Component). y.unit) before)) (λ e. x.1 (p.1 (inr e))), λ y. x.1 (p.1 (inl (here.1 y)))))
       (λ k x. (x.0, λ y. elim (p.0 y) [ inl l ↦ x.2 (here.0 l) | inr e ↦ let f = x.1 in absurd (cc) ])) h)
 
   -- a category of the unit's days
@@ -94,18 +87,3 @@ or_first a b h = ap (λ x. x || b) h
 or_second : (a b : Bool) → b ≡ true → (a || b) ≡ true
 or_second true b h = refl
 or_second false b h = h
-
-label_at : (u : ℕ) (cs : List Component) (k : ℕ) (x : Component) → k < length cs → slice_index_or cs k x ≡ x → x.unit ≡ u → comes_in u (map (λ c. c.unit) cs) ≡ true
-label_at u [] k x l e is = absurd (omega (arith, l))
-label_at u (c ∷ cs) zero x l e is = or_first (u == c.unit) (comes_in u (map (λ (y : Component). y.unit) cs)) ((Decides-eqb u c.unit).1 (sym (ap (λ (y : Component). y.unit) e ∙ is)))
-label_at u (c ∷ cs) (suc k) x l e is = or_second (u == c.unit) (comes_in u (map (λ (y : Component). y.unit) cs)) (label_at u cs k x (omega (arith, l)) e is)
-
-label_in : (u : ℕ) (cs : List Component) → comes_in u (map (λ c. c.unit) cs) ≡ true → Any (λ c. c.unit ≡ u) cs
-label_in u cs h =
-    let s = label_split u cs h in
-    let l = split_long cs s.0 s.1 s.2 s.3 in
-    (length s.0, s.1, omega (arith, l), (one_split cs s.0 s.1 s.2 (length s.0) s.1 s.3 refl).1, sym s.4)
-
--- a label comes exactly where a component has it
-pub label_told : (u : ℕ) (cs : List Component) → Any (λ c. c.unit ≡ u) cs ↔ (comes_in u (map (λ c. c.unit) cs) ≡ true)
-label_told u cs = (λ h. label_at u cs h.0 h.1 h.2 h.3 h.4, label_in u cs)

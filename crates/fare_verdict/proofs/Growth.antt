@@ -4,27 +4,12 @@ use Rattle.fare_law.specs.Lists.{EachPair, IsIn}
 use Rattle.fare_verdict.specs.declared.finding.Finding.{Finding}
 use Rattle.fare_verdict.specs.Findings.{AreAll, Before}
 use Rattle.fare_verdict.specs.Told.{Extends}
-
-pub in_append : {A : Type 0} (x : A) (xs ys : List A) → IsIn x (xs ++ ys) → IsIn x xs ⊎ IsIn x ys
-in_append x [] ys h = inr h
-in_append x (y ∷ xs) ys h = elim h [ inl e ↦ inl (inl e) | inr k ↦ elim (in_append x xs ys k) [ inl a ↦ inl (inr a) | inr b ↦ inr b ] ]
-
-pub in_left : {A : Type 0} (x : A) (xs ys : List A) → IsIn x xs → IsIn x (xs ++ ys)
-in_left x [] ys h = absurd h
-in_left x (y ∷ xs) ys h = elim h [ inl e ↦ inl e | inr k ↦ inr (in_left x xs ys k) ]
-
-pub in_right : {A : Type 0} (x : A) (xs ys : List A) → IsIn x ys → IsIn x (xs ++ ys)
-in_right x [] ys h = h
-in_right x (y ∷ xs) ys h = inr (in_right x xs ys h)
+use Rattle.law_lemmas.proofs.Members.{in_either, in_left, in_right}
+use Rattle.law_lemmas.proofs.Pairs.{pairs_append}
 
 pair_front : {A : Type 0} (R : A → A → Type 0) (x : A) (ys : List A) → ((y : A) → IsIn y ys → R x y) → EachPair R ys → EachPair R (x ∷ ys)
 pair_front R x [] h k = tt
 pair_front R x (y ∷ ys) h k = (h y (inl refl), k)
-
-pub pairs_append : {A : Type 0} (R : A → A → Type 0) (xs ys : List A) → EachPair R xs → EachPair R ys → ((x y : A) → IsIn x xs → IsIn y ys → R x y) → EachPair R (xs ++ ys)
-pairs_append R [] ys h k below = k
-pairs_append R (x ∷ []) ys h k below = pair_front R x ys (λ y i. below x y (inl refl) i) k
-pairs_append R (x ∷ z ∷ xs) ys h k below = (h.0, pairs_append R (z ∷ xs) ys h.1 k (λ v y i j. below v y (inr i) j))
 
 pub none_all : (P : Finding → Type 0) → ((f : Finding) → P f → ⊥) → AreAll P []
 none_all P none = record { order = tt; each = λ f. (λ i. absurd i, λ p. absurd (none f p)) }
@@ -36,7 +21,7 @@ pub all_append : (P Q : Finding → Type 0) (xs ys : List Finding) → AreAll P 
 all_append P Q xs ys h k below = record {
   order = pairs_append Before xs ys h.order k.order (λ f g i j. below f g ((h.each f).0 i) ((k.each g).0 j));
   each = λ f. (
-    λ i. elim (in_append f xs ys i) [ inl a ↦ inl ((h.each f).0 a) | inr b ↦ inr ((k.each f).0 b) ],
+    λ i. elim (in_either f xs ys i) [ inl a ↦ inl ((h.each f).0 a) | inr b ↦ inr ((k.each f).0 b) ],
     λ p. elim p [ inl a ↦ in_left f xs ys ((h.each f).1 a) | inr b ↦ in_right f xs ys ((k.each f).1 b) ],
   );
 }

@@ -1,11 +1,9 @@
 -- Findings in order are one list. Cited by the laws on them.
-use Rattle.std.proofs.Common.{◌≡◌, ◌<◌, ◌⊎◌, ℕ, List, [], ◌∷◌, refl, sym, ap, ap₂, subst, ◌∙◌, inl, inr, arith}
+use Rattle.std.proofs.Common.{◌≡◌, ◌⊎◌, List, [], ◌∷◌, refl, sym, ap, ap₂, subst, ◌∙◌, inl, inr, arith}
 use Rattle.fare_law.specs.Lists.{EachPair, IsIn}
 use Rattle.fare_verdict.specs.declared.finding.Finding.{Finding}
 use Rattle.fare_verdict.specs.Findings.{AreAll, Before}
-
-less_less : (a b c : ℕ) → a < b → b < c → a < c
-less_less a b c h k = omega (arith, h, k)
+use Rattle.law_lemmas.proofs.Numbers.{less_less}
 
 through : (f x g : Finding) → Before f x → Before x g → Before f g
 through f x g h k = elim h [

@@ -1,5 +1,5 @@
 -- Findings of the rules up to one, and what a finding breaks.
-use Rattle.std.proofs.Common.{◌≡◌, ◌<◌, ◌≤◌, ◌+◌, ◌⊎◌, ◌↔◌, ℕ, List, [], sym, subst, ◌∙◌, inl, inr, arith, IfSome, Option, Some, None}
+use Rattle.std.proofs.Common.{◌≡◌, ◌<◌, ◌≤◌, ◌+◌, ◌⊎◌, ◌↔◌, ℕ, List, [], sym, subst, ◌∙◌, inl, inr, arith, IfSome}
 use Rattle.fare_law.specs.declared.requests.Request.{Request}
 use Rattle.fare_law.specs.declared.tickets.Component.{Component}
 use Rattle.fare_law.specs.declared.tickets.Ticket.{Ticket}
@@ -21,6 +21,7 @@ use Rattle.fare_verdict.specs.Findings.{AreAll, Fails, FailsInUnit, IsFinding, I
 use Rattle.fare_verdict.specs.Stages.{IsTested}
 use Rattle.fare_verdict.specs.Told.{Extends}
 use Rattle.fare_verdict.proofs.Growth.{all_like, all_more, none_all}
+use Rattle.law_lemmas.proofs.Options.{if_some}
 
 -- the demands of a part by their categories
 pub record ByCategory : Type 0 where
@@ -54,10 +55,6 @@ number_some (OfUnit Stay) = omega arith
 number_some (OfUnit Combination) = omega arith
 number_some EndOnEnd = omega arith
 number_some Straddling = omega arith
-
-if_some : {X : Type 0} (o : Option X) (P Q : X → Type 0) → ((x : X) → P x → Q x) → IfSome o P → IfSome o Q
-if_some None P Q to h = h
-if_some (Some x) P Q to h = to x h
 
 module _ (b : Book) (q : Request) (t : Ticket) where
   -- a finding by one of the rules below this one

@@ -17,6 +17,7 @@ use Rattle.ticket_demands.specs.Breaches.{BrokenAt, FirstBroken, PartMeets, Stan
 use Rattle.ticket_demands.specs.Known.{IsUnknown, ends_of, known_flights, live_row, part_of, part_over, parts_of}
 use Rattle.fare_verdict.specs.Stages.{JoinedMet, KnownMet}
 use Rattle.fare_verdict.proofs.Stands.{split_long}
+use Rattle.law_lemmas.proofs.Options.{some_same}
 
 pub if_none : {X : Type 0} (o : Option X) (P : X → Type 0) → (IfSome o P → ⊥) → (x : X) × (o ≡ Some x) × (P x → ⊥)
 if_none None P h = absurd (h tt)
@@ -33,9 +34,6 @@ label_here u c cs more false e k later = let r = later k in (c ∷ r.0, r.1, r.2
 pub label_split : (u : ℕ) (cs : List Component) → comes_in u (map (λ (d : Component). d.unit) cs) ≡ true → LabelAmong u cs
 label_split u [] h = absurd (cc)
 label_split u (c ∷ cs) h = label_here u c cs (comes_in u (map (λ (d : Component). d.unit) cs)) (u == c.unit) refl h (λ k. label_split u cs k)
-
-some_same : {X : Type 0} (x y : X) → Some x ≡ Some y → x ≡ y
-some_same {X} x y e = cc
 
 part_label : (b : Book) (sale : ℤ) (c : Component) (part : Part) → part_of b sale c ≡ Some part → part.unit ≡ c.unit
 part_label b sale c part e = go (live_row b c.fare) (ends_of (known_flights b c.flights)) e

@@ -1,20 +1,13 @@
 -- Steps that keep the rule of the store: what is published grows, someone looks, a new reader comes and is told what the
 -- writer has seen. For `publish`, `looked` and `watch`.
-use Rattle.std.proofs.Common.{◌≡◌, ℕ, ◌≢◌, List, ◌++◌, [], Option, Some, None, set, refl, sym, subst, ap, ◌∙◌, ⊎_elim, append_assoc}
-use Rattle.std.proofs.lemmas.List.{append-nil}
+use Rattle.std.proofs.Common.{◌≡◌, ℕ, ◌≢◌, List, Option, Some, None, set, refl, subst, ◌∙◌, ⊎_elim}
 use mathlib.Core.Option.{some}
 use lib.ListN.{get_elem?}
 use Rattle.left_right.specs.Register.{Admits, TurnsAt, Forks, Merges}
 use Rattle.atomic_table.proofs.Lists.{at_set, at_snoc}
-use Rattle.fare_law.specs.Lists.{IsPrefix}
 use Rattle.fare_versions.specs.Published.{Published, Grows}
 use Rattle.fare_versions.specs.Growing.{IsNoLater, OnlyGrows, Saw}
-
-prefix_self : {A : Type 0} (xs : List A) → IsPrefix xs xs
-prefix_self xs = ([], sym (append-nil xs))
-
-prefix_trans : {A : Type 0} (xs ys zs : List A) → IsPrefix xs ys → IsPrefix ys zs → IsPrefix xs zs
-prefix_trans xs ys zs p q = (p.0 ++ q.0, q.1 ∙ ap (λ w. w ++ q.0) p.1 ∙ append_assoc xs p.0 q.0)
+use Rattle.law_lemmas.proofs.Lists.{prefix_self, prefix_trans}
 
 pub grows_self : (p : Published) → Grows p p
 grows_self p = record { house = refl; timetable = refl; entries = prefix_self p.book.entries }

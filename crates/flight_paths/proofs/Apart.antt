@@ -9,29 +9,13 @@ use Rattle.flight_paths.specs.Heads.{Stays}
 use Rattle.flight_paths.specs.Paths.{Precedes}
 use Rattle.flight_paths.specs.Ways.{AreFlightsOf}
 use Rattle.flight_paths.proofs.Ended.{precedes_trans}
-use Rattle.flight_paths.proofs.Places.{in_list}
-use Rattle.flight_paths.proofs.Parting.{each_both, each_right, same_some}
+use Rattle.flight_paths.proofs.Parting.{each_right}
+use Rattle.law_lemmas.proofs.EachOne.{each_append}
+use Rattle.law_lemmas.proofs.Members.{in_list}
+use Rattle.law_lemmas.proofs.Options.{some_same}
 
 pub same_path : (p q : Path) → p.flights ≡ q.flights → p.after ≡ q.after → p ≡ q
 same_path p q e a = λ i. record { flights = e i; after = a i }
-
--- lists of one length that are put before others
-pub cancel : (xs ys us vs : List ℕ) → length xs ≡ length ys → xs ++ us ≡ ys ++ vs → (xs ≡ ys) × (us ≡ vs)
-cancel [] [] us vs n e = (refl, e)
-cancel [] (y ∷ ys) us vs n e = absurd (omega (arith, n))
-cancel (x ∷ xs) [] us vs n e = absurd (omega (arith, n))
-cancel (x ∷ xs) (y ∷ ys) us vs n e =
-    let r = cancel xs ys us vs (omega (arith, n)) (tail e) in
-    (two (head e) r.0, r.1)
-  where
-    head : x ∷ (xs ++ us) ≡ y ∷ (ys ++ vs) → x ≡ y
-    head h = cc
-
-    tail : x ∷ (xs ++ us) ≡ y ∷ (ys ++ vs) → xs ++ us ≡ ys ++ vs
-    tail h = cc
-
-    two : x ≡ y → xs ≡ ys → x ∷ xs ≡ y ∷ ys
-    two a b = λ i. a i ∷ b i
 
 -- the flights of numbers are one list
 pub flights_one : (flights : List Flight) (ns : List ℕ) (fs gs : List Flight) → AreFlightsOf flights ns fs → AreFlightsOf flights ns gs → fs ≡ gs
@@ -40,7 +24,7 @@ flights_one flights [] [] (g ∷ gs) h k = absurd k
 flights_one flights [] (f ∷ fs) gs h k = absurd h
 flights_one flights (n ∷ ns) [] gs h k = absurd h
 flights_one flights (n ∷ ns) (f ∷ fs) [] h k = absurd k
-flights_one flights (n ∷ ns) (f ∷ fs) (g ∷ gs) h k = two (same_some f g (sym h.0 ∙ k.0)) (flights_one flights ns fs gs h.1 k.1)
+flights_one flights (n ∷ ns) (f ∷ fs) (g ∷ gs) h k = two (some_same f g (sym h.0 ∙ k.0)) (flights_one flights ns fs gs h.1 k.1)
   where
     two : f ≡ g → fs ≡ gs → f ∷ fs ≡ g ∷ gs
     two a b = λ i. a i ∷ b i
@@ -146,7 +130,7 @@ module _ {X : Type 0} (P : X → Type 0) (xs : List X) (i : ℕ) (x : X) (next :
   next_apart h = (each_right P (take i xs) (x ∷ []) (subst (Each P) next (each_taken P xs (suc i) h))).0
 
   pub more_apart : Each P (take i xs) → P x → Each P (take (i + 1) xs)
-  more_apart h k = subst (λ n. Each P (take n xs)) (one_more i) (subst (Each P) (sym next) (each_both P (take i xs) (x ∷ []) h (k, tt)))
+  more_apart h k = subst (λ n. Each P (take n xs)) (one_more i) (subst (Each P) (sym next) (each_append P (take i xs) (x ∷ []) h (k, tt)))
     where
       one_more : (i : ℕ) → suc i ≡ i + 1
       one_more i = omega arith

@@ -5,8 +5,8 @@ use Rattle.std.specs.List.Sorted.{IsPartitionPoint, IsPartitionedBy}
 use Rattle.fare_law.specs.Lists.{Each, IsIn}
 use Rattle.flight_paths.specs.declared.positions.Path.{Path}
 use Rattle.flight_paths.specs.Heads.{chosen, numbered_before, put_one, stands_before}
-use Rattle.flight_paths.proofs.Parting.{same_some}
-use Rattle.flight_paths.proofs.Places.{get_some}
+use Rattle.law_lemmas.proofs.Lists.{got_read}
+use Rattle.law_lemmas.proofs.Options.{some_same}
 
 pub chosen_both : (ps : List Path) (ms ns : List ℕ) → chosen ps (ms ++ ns) ≡ chosen ps ms ++ chosen ps ns
 chosen_both ps [] ns = refl
@@ -18,7 +18,7 @@ chosen_both ps (m ∷ ms) ns = ap (put_one (slice_get ps m)) (chosen_both ps ms 
 
 -- the path of a number in range, before others
 chosen_first : (ps : List Path) (n : ℕ) (ns : List ℕ) (d : Path) → n < length ps → chosen ps (n ∷ ns) ≡ get_or ps n d ∷ chosen ps ns
-chosen_first ps n ns d lt = ap (λ o. put_one o (chosen ps ns)) (get_some ps n d lt)
+chosen_first ps n ns d lt = ap (λ o. put_one o (chosen ps ns)) (got_read ps n d lt)
 
 -- and any such path, where there is no other to name
 any_path : (ps : List Path) (n : ℕ) → n < length ps → Path
@@ -30,7 +30,7 @@ chosen_one ps n p e = ap (λ o. put_one o []) e
 
 pub in_chosen : (ps : List Path) (ns : List ℕ) (i n : ℕ) (p : Path) → slice_get ns i ≡ Some n → slice_get ps n ≡ Some p → IsIn p (chosen ps ns)
 in_chosen ps [] i n p e k = absurd (cc)
-in_chosen ps (m ∷ ns) zero n p e k = subst (λ o. IsIn p (put_one o (chosen ps ns))) (sym (ap (slice_get ps) (same_some m n e) ∙ k)) (inl refl)
+in_chosen ps (m ∷ ns) zero n p e k = subst (λ o. IsIn p (put_one o (chosen ps ns))) (sym (ap (slice_get ps) (some_same m n e) ∙ k)) (inl refl)
 in_chosen ps (m ∷ ns) (suc i) n p e k = later (slice_get ps m) (chosen ps ns) (in_chosen ps ns i n p e k)
   where
     later : (o : Option Path) (xs : List Path) → IsIn p xs → IsIn p (put_one o xs)
@@ -43,7 +43,7 @@ chosen_length ps (n ∷ ns) h = ap length (chosen_first ps n ns (any_path ps n h
 
 pub chosen_at : (ps : List Path) (ns : List ℕ) (i d : ℕ) (q : Path) → Each (λ n. n < length ps) ns → i < length ns → slice_get ps (get_or ns i d) ≡ Some (get_or (chosen ps ns) i q)
 chosen_at ps [] i d q h lt = absurd (omega (arith, lt))
-chosen_at ps (n ∷ ns) zero d q h lt = get_some ps n q h.0 ∙ ap (λ xs. Some (get_or xs 0 q)) (sym (chosen_first ps n ns q h.0))
+chosen_at ps (n ∷ ns) zero d q h lt = got_read ps n q h.0 ∙ ap (λ xs. Some (get_or xs 0 q)) (sym (chosen_first ps n ns q h.0))
 chosen_at ps (n ∷ ns) (suc i) d q h lt = chosen_at ps ns i d q h.1 (omega (arith, lt)) ∙ ap (λ xs. Some (get_or xs (suc i) q)) (sym (chosen_first ps n ns q h.0))
 
 pub chosen_take : (ps : List Path) (ns : List ℕ) (m : ℕ) → Each (λ n. n < length ps) ns → chosen ps (take m ns) ≡ take m (chosen ps ns)

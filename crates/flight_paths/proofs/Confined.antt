@@ -1,5 +1,5 @@
 -- Heads are the paths of the slices up to the position's.
-use Rattle.std.proofs.Common.{◌≡◌, ◌≢◌, ◌⊎◌, ℕ, zero, suc, ◌+◌, ◌-◌, ◌≤◌, ◌<◌, List, [], ◌∷◌, ◌++◌, length, take, get_or, slice_get, is_some, true, false, Option, Some, None, refl, sym, ap, subst, ◌∙◌, inl, inr, arith}
+use Rattle.std.proofs.Common.{◌≡◌, ◌≢◌, ◌⊎◌, ℕ, zero, suc, ◌+◌, ◌-◌, ◌≤◌, ◌<◌, List, [], ◌∷◌, length, take, get_or, slice_get, is_some, true, Option, Some, None, refl, sym, ap, subst, ◌∙◌, inl, inr, arith}
 use Rattle.fare_law.specs.declared.flights.Flight.{Flight}
 use Rattle.fare_law.specs.declared.requests.Slice.{Slice}
 use Rattle.fare_law.specs.Book.{Book}
@@ -12,8 +12,8 @@ use Rattle.flight_paths.specs.Positions.{Flies, IsPath, LeadsTo, before_slice, p
 use Rattle.flight_paths.specs.Ways.{AreFlightsOf}
 use Rattle.flight_paths.proofs.Growing.{flies_one}
 use Rattle.flight_paths.proofs.Growth.{flies_numbers}
-use Rattle.flight_paths.proofs.Levels.{matched_length}
-use Rattle.flight_paths.proofs.Parting.{same_some}
+use Rattle.law_lemmas.proofs.Options.{some_none, some_same}
+use Rattle.law_lemmas.proofs.Pairs.{matched_length}
 
 -- a list up to a place
 pub taken_here : {X : Type 0} (xs : List X) (n : ℕ) (x : X) → slice_get xs n ≡ Some x → slice_get (take (suc n) xs) n ≡ Some x
@@ -38,9 +38,6 @@ pub record HeadOf (b : Book) (sl : List Slice) (at : Position) (p q : Path) : Ty
   pub flights : List Flight
   pub head : IsHead b sl at q.flights flights q.after
 
-some_none : {X : Type 0} (x : X) → Some x ≡ None → ⊥
-some_none x e = cc
-
 module _ (b : Book) (sl up : List Slice) (s : Slice) where
   -- a step in the slices up to the position's goes on in the slice, or ends there
   up_end : (at : Position) (o : Option Position) (f : Flight) (s' : Slice) → s' ≡ s → slice_get up (suc at.slice) ≡ None → LeadsTo b up s' at f o
@@ -57,7 +54,7 @@ module _ (b : Book) (sl up : List Slice) (s : Slice) where
   inward at (n ∷ ns) (f ∷ fs) o k k' z (s', k'', t, m, l, r) = by (up_end at m f s' same z l) (λ p e e' w h. inward p ns fs o e e' w h)
     where
       same : s' ≡ s
-      same = same_some s' s (sym k'' ∙ k')
+      same = some_same s' s (sym k'' ∙ k')
 
       here : slice_get sl at.slice ≡ Some s'
       here = k ∙ ap Some (sym same)
@@ -110,7 +107,7 @@ module _ (b : Book) (sl up : List Slice) (s : Slice) where
   outward at (n ∷ []) (f ∷ []) next k k' z (s', k'', t, o, l, r) st = by l
     where
       same : s' ≡ s
-      same = same_some s' s (sym k'' ∙ k)
+      same = some_same s' s (sym k'' ∙ k)
 
       here : slice_get up at.slice ≡ Some s'
       here = k' ∙ ap Some (sym same)
@@ -121,7 +118,7 @@ module _ (b : Book) (sl up : List Slice) (s : Slice) where
   outward at (n ∷ ns) (f ∷ g ∷ fs) next k k' z (s', k'', t, o, l, r) st = by l (λ p e e' w h. outward p ns (g ∷ fs) next e e' w h st.1)
     where
       same : s' ≡ s
-      same = same_some s' s (sym k'' ∙ k)
+      same = some_same s' s (sym k'' ∙ k)
 
       here : slice_get up at.slice ≡ Some s'
       here = k' ∙ ap Some (sym same)
@@ -147,7 +144,7 @@ module _ (b : Book) (sl up : List Slice) (s : Slice) where
   leg_room at (n ∷ ns) (f ∷ g ∷ fs) next k (s', k', t, o, l, r) st some = by l (λ p e h. leg_room p ns (g ∷ fs) next e h st.1 (λ e. cc))
     where
       by : LeadsTo b sl s' at f o → ((p : Position) → slice_get sl p.slice ≡ Some s → Flies b sl (Some p) ns (g ∷ fs) next → length (g ∷ fs) + p.leg ≤ 3) → length (f ∷ g ∷ fs) + at.leg ≤ 3
-      by (inl h) more = absurd (st.0 (h.0 ∙ ap (λ x. x.to) (same_some s' s (sym k' ∙ k))))
+      by (inl h) more = absurd (st.0 (h.0 ∙ ap (λ x. x.to) (some_same s' s (sym k' ∙ k))))
       by (inr h) more =
           let w = more (position_inside b at.slice (suc at.leg) f.to (via_after at) f.arr) k (subst (λ y. Flies b sl y ns (g ∷ fs) next) h.2 r) in
           one_less (length fs) at.leg w
@@ -162,7 +159,7 @@ module _ (b : Book) (sl up : List Slice) (s : Slice) where
         let r = inward at ns fs o k k' z h.flies in
         record {
           path = record { some = h.some; flies = r.2 next w; shape = h.shape; called = λ x e. h.called x (k' ∙ sym k ∙ e) };
-          stays = λ x e. subst (λ y. Stays y fs) (same_some s x (sym k ∙ e)) r.0;
+          stays = λ x e. subst (λ y. Stays y fs) (some_same s x (sym k ∙ e)) r.0;
         }
 
     pub head_path : (ns : List ℕ) (fs : List Flight) (next : Option Position) → IsHead b sl at ns fs next → (o : Option Position) × IsPath b up at ns fs o × Onward b sl s at fs o next
@@ -221,17 +218,6 @@ module _ (b : Book) (sl up : List Slice) (s : Slice) where
 pub onward_some : (b : Book) (sl : List Slice) (s : Slice) (at : Position) (fs : List Flight) (o : Option Position) → is_some o ≡ true → Onward b sl s at fs o o
 onward_some b sl s at fs (Some p) e = refl
 onward_some b sl s at fs None e = absurd (cc)
-
-pub is_none_of : {X : Type 0} (o : Option X) → is_some o ≡ false → o ≡ None
-is_none_of (Some x) e = absurd (cc)
-is_none_of None e = refl
-
--- matched lists grow at the end
-pub matched_snoc : {X Y : Type 0} (R : X → Y → Type 0) (xs : List X) (ys : List Y) (x : X) (y : Y) → Matched R xs ys → R x y → Matched R (xs ++ x ∷ []) (ys ++ y ∷ [])
-matched_snoc R [] [] x y m r = (r, tt)
-matched_snoc R [] (z ∷ ys) x y m r = absurd m
-matched_snoc R (w ∷ xs) [] x y m r = absurd m
-matched_snoc R (w ∷ xs) (z ∷ ys) x y m r = (m.0, matched_snoc R xs ys x y m.1 r)
 
 -- the last flight is that of the last number
 pub last_known : (flights : List Flight) (ns : List ℕ) (fs : List Flight) (P : Flight → Type 0) (d : ℕ) → AreFlightsOf flights ns fs → OnLast P fs → (f : Flight) × (slice_get flights (get_or ns (length ns - 1) d) ≡ Some f) × P f × ((Q : Flight → Type 0) → Q f → OnLast Q fs)

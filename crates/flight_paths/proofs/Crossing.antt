@@ -10,9 +10,11 @@ use Rattle.flight_paths.specs.Heads.{Crosses, HeadsAndTails, IsHead, Stays}
 use Rattle.flight_paths.specs.Positions.{Flies, IsPath, KeepsOff, called_at, position_before}
 use Rattle.flight_paths.specs.Ways.{Leads, arrivals_of}
 use Rattle.flight_paths.proofs.Growth.{flies_numbers}
-use Rattle.flight_paths.proofs.Levels.{matched_length}
-use Rattle.flight_paths.proofs.Parting.{all_left, all_on, calls_both, different_apart, different_both, different_left, different_right, each_in, joins_both, joins_left, joins_right, joins_there, keeps, last_in, same_some}
+use Rattle.flight_paths.proofs.Parting.{all_left, all_on, calls_both, different_apart, different_both, different_left, different_right, joins_both, joins_left, joins_right, joins_there, keeps, last_in}
 use Rattle.flight_paths.proofs.Cutting.{Cut, bind, crossed, cut, first_slice, flies_both, last_of, lead_of, path_of_lead, set_free, some_flights}
+use Rattle.law_lemmas.proofs.EachOne.{each_in}
+use Rattle.law_lemmas.proofs.Options.{some_same}
+use Rattle.law_lemmas.proofs.Pairs.{matched_length}
 
 module _ (b : Book) (sl : List Slice) (at : Position) (ns : List ℕ) (fs : List Flight) (next : Option Position) where
   -- a path is cut
@@ -22,7 +24,7 @@ module _ (b : Book) (sl : List Slice) (at : Position) (ns : List ℕ) (fs : List
       by f.0 f.1 (cut b sl at f.0 ns fs next f.1 h.flies)
     where
       head : (s : Slice) → slice_get sl at.slice ≡ Some s → Stays s fs → IsHead b sl at ns fs next
-      head s k h' = record { path = h; stays = λ t e. subst (λ x. Stays x fs) (same_some s t (sym k ∙ e)) h' }
+      head s k h' = record { path = h; stays = λ t e. subst (λ x. Stays x fs) (some_same s t (sym k ∙ e)) h' }
 
       two : (s : Slice) → slice_get sl at.slice ≡ Some s → Cut b sl at s ns fs next → Crosses b sl at ns fs next
       two s k c =
@@ -49,7 +51,7 @@ module _ (b : Book) (sl : List Slice) (at : Position) (ns : List ℕ) (fs : List
             flies = free.0;
             joined = joins_right c.head_flights c.tail_flights joined;
             apart = (off, different_right (calls at.place c.head_flights) (arrivals_of c.tail_flights) different);
-            called = λ x e. let same : t ≡ x = same_some t x (sym c.there ∙ e) in
+            called = λ x e. let same : t ≡ x = some_same t x (sym c.there ∙ e) in
                 (keeps x x.from c.tail_flights (subst (λ y. Each (λ q. y.from ≢ q) (arrivals_of c.tail_flights)) same off), (keeps x t.from c.tail_flights off, tt));
           } in
           record {
@@ -58,7 +60,7 @@ module _ (b : Book) (sl : List Slice) (at : Position) (ns : List ℕ) (fs : List
             head = c.head;
             head_flights = c.head_flights;
             middle = position_before b i t (Some c.arrival);
-            is_head = record { path = path_of_lead b sl at c.head c.head_flights (Some (position_before b i t (Some c.arrival))) c.some_head front; stays = λ x e. subst (λ y. Stays y c.head_flights) (same_some s x (sym k ∙ e)) c.stays };
+            is_head = record { path = path_of_lead b sl at c.head c.head_flights (Some (position_before b i t (Some c.arrival))) c.some_head front; stays = λ x e. subst (λ y. Stays y c.head_flights) (some_same s x (sym k ∙ e)) c.stays };
             arrives = c.arrives;
             tail = c.tail;
             tail_flights = c.tail_flights;
@@ -108,7 +110,7 @@ module _ (b : Book) (sl : List Slice) (at : Position) (ns : List ℕ) (fs : List
         flies = flies;
         joined = joins_both s.to c.head_flights c.tail_flights c.arrives c.begins front.joined back.joined;
         apart = subst AllDifferent (sym (calls_both at.place c.head_flights c.tail_flights)) (different_both (calls at.place c.head_flights) (arrivals_of c.tail_flights) front.apart back.apart.1 c.apart);
-        called = λ x e. let same : s ≡ x = same_some s x (sym c.here ∙ e) in
+        called = λ x e. let same : s ≡ x = some_same s x (sym c.here ∙ e) in
             all_on x (called_at x at) c.head_flights c.tail_flights (subst (λ y. OnLast (λ f. f.to ≡ y.to) c.head_flights) same c.arrives) (front.called x e);
       } in
       path_of_lead b sl at ns fs next (λ e. some c.head c.is_head.path.some (sym c.numbers ∙ e)) (subst (λ xs. Leads b sl at ns xs next) (sym c.flights) lead)

@@ -10,7 +10,7 @@ use Rattle.flight_paths.specs.Heads.{Stays}
 use Rattle.flight_paths.specs.Positions.{Flies, IsPath, LeadsTo, Takes, before_slice, position_before, position_inside, via_after}
 use Rattle.flight_paths.specs.Ways.{Leads}
 use Rattle.flight_paths.proofs.Between.{before_range}
-use Rattle.flight_paths.proofs.Parting.{same_some}
+use Rattle.law_lemmas.proofs.Options.{some_same}
 
 pub some_flights : (b : Book) (sl : List Slice) (start : Option Position) (ns : List ℕ) (fs : List Flight) (next : Option Position) → ns ≢ [] → Flies b sl start ns fs next → fs ≢ []
 some_flights b sl start [] fs next some h = absurd (some refl)
@@ -76,7 +76,7 @@ module _ (b : Book) (sl : List Slice) where
   cut at s (n ∷ m ∷ ns) (f ∷ g ∷ fs) next k (s', k', t, o, l, r) = by l (λ p e h. cut p s (m ∷ ns) (g ∷ fs) next e h)
     where
       same : s' ≡ s
-      same = same_some s' s (sym k' ∙ k)
+      same = some_same s' s (sym k' ∙ k)
 
       cross : f.to ≡ s.to → (x : Option Slice) → slice_get sl (suc at.slice) ≡ x → o ≡ before_slice b (suc at.slice) x (Some f.arr) → Stays s (f ∷ g ∷ fs) ⊎ Cut at s (n ∷ m ∷ ns) (f ∷ g ∷ fs) next
       cross e None z q = absurd (subst (λ y. Flies b sl y (m ∷ ns) (g ∷ fs) next) q r)
@@ -141,7 +141,7 @@ module _ (b : Book) (sl : List Slice) where
     set_free arrival [] fs next some h = absurd (some refl)
     set_free arrival (n ∷ ns) [] next some h = absurd h
     set_free arrival (n ∷ ns) (f ∷ fs) next some (s, k, u, o, l, r) =
-        let e : s ≡ t = same_some s t (sym k ∙ known) in
+        let e : s ≡ t = some_same s t (sym k ∙ known) in
         let range = before_range b t None n f u.known u.departs (subst (λ x. InWindow x f) e (u.window refl)) tt in
         let takes : Takes b s (position_before b i t None) n f = record { few = u.few; known = u.known; departs = u.departs; low = range.0; high = range.1; window = u.window; not_origin = u.not_origin; not_here = u.not_here; not_via = u.not_via } in
         ((s, k, takes, o, l, r), (u.low, u.high))
@@ -169,16 +169,16 @@ module _ (b : Book) (sl : List Slice) (s t : Slice) where
   crossed at (n ∷ ns) (f ∷ []) middle k z (s', k', u, o, l, r) st a = by ns r l
     where
       same : s' ≡ s
-      same = same_some s' s (sym k' ∙ k)
+      same = some_same s' s (sym k' ∙ k)
 
       by : (ms : List ℕ) → Flies b sl o ms [] (Some middle) → LeadsTo b sl s' at f o → middle ≡ position_before b (suc at.slice) t (Some f.arr)
-      by [] e (inl h) = same_some middle (position_before b (suc at.slice) t (Some f.arr)) (e ∙ h.1 ∙ ap (λ x. before_slice b (suc at.slice) x (Some f.arr)) z)
+      by [] e (inl h) = some_same middle (position_before b (suc at.slice) t (Some f.arr)) (e ∙ h.1 ∙ ap (λ x. before_slice b (suc at.slice) x (Some f.arr)) z)
       by [] e (inr h) = absurd (h.0 (a ∙ ap (λ x. x.to) (sym same)))
       by (m ∷ ms) e l = absurd e
   crossed at (n ∷ ns) (f ∷ g ∷ fs) middle k z (s', k', u, o, l, r) st a = by l (λ p e w h. crossed p ns (g ∷ fs) middle e w h st.1 a)
     where
       same : s' ≡ s
-      same = same_some s' s (sym k' ∙ k)
+      same = some_same s' s (sym k' ∙ k)
 
       by : LeadsTo b sl s' at f o
           → ((p : Position) → slice_get sl p.slice ≡ Some s → slice_get sl (suc p.slice) ≡ Some t → Flies b sl (Some p) ns (g ∷ fs) (Some middle) → OnLast (λ x. middle ≡ position_before b (suc p.slice) t (Some x.arr)) (g ∷ fs))

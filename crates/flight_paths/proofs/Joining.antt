@@ -11,10 +11,11 @@ use Rattle.flight_paths.specs.Positions.{Flies, LeadsTo, before_slice, position_
 use Rattle.flight_paths.specs.Ways.{AreFlightsOf}
 use Rattle.flight_paths.proofs.Growing.{flies_one}
 use Rattle.flight_paths.proofs.Growth.{flies_numbers}
-use Rattle.flight_paths.proofs.Levels.{matched_length}
 use Rattle.flight_paths.proofs.Cutting.{crossed, last_of}
-use Rattle.flight_paths.proofs.Apart.{cancel, cut_one, flights_both, flights_one, never_past, same_path}
-use Rattle.flight_paths.proofs.Parting.{same_some}
+use Rattle.flight_paths.proofs.Apart.{cut_one, flights_both, flights_one, never_past, same_path}
+use Rattle.law_lemmas.proofs.Lists.{parts_same}
+use Rattle.law_lemmas.proofs.Options.{some_same}
+use Rattle.law_lemmas.proofs.Pairs.{matched_length}
 
 module _ (b : Book) (sl : List Slice) (at : Position) where
   -- where a head stands that leads on
@@ -28,7 +29,7 @@ module _ (b : Book) (sl : List Slice) (at : Position) where
   pub crossing_stands : (h : Path) (middle : Position) → Crossing b sl at h middle → (middle.slice ≡ suc at.slice) × ((s : Slice) → slice_get sl at.slice ≡ Some s → middle.place ≡ s.to)
   crossing_stands h middle c =
       let r = last_of _ c.flights (crossed b sl c.slice c.following at h.flights c.flights middle c.here c.there c.is_head.path.flies (c.is_head.stays c.slice c.here) c.arrives) in
-      (ap (λ p. p.slice) r.1, λ s k. ap (λ p. p.place) r.1 ∙ c.origin ∙ ap (λ x. x.to) (same_some c.slice s (sym c.here ∙ k)))
+      (ap (λ p. p.slice) r.1, λ s k. ap (λ p. p.place) r.1 ∙ c.origin ∙ ap (λ x. x.to) (some_same c.slice s (sym c.here ∙ k)))
 
 -- a head that leads on stands in its slice, or before the next
 pub stands : (b : Book) (sl : List Slice) (s : Slice) (at : Position) (ns : List ℕ) (fs : List Flight) (middle : Position) → ns ≢ [] → slice_get sl at.slice ≡ Some s → Flies b sl (Some at) ns fs (Some middle) → Stays s fs → Arrived b sl at s fs middle ⊎ (middle.slice ≡ at.slice)
@@ -42,11 +43,11 @@ stands b sl s at (n ∷ []) (f ∷ []) middle some k (s', k', t, o, l, r) st = b
       where
         wrong : Some middle ≡ None → ⊥
         wrong w = cc
-    to (Some t) z e q = inl (record { arrives = e; following = t; there = z; place = ap (λ p. p.place) (same_some middle (position_before b (suc at.slice) t (Some f.arr)) q) })
+    to (Some t) z e q = inl (record { arrives = e; following = t; there = z; place = ap (λ p. p.place) (some_same middle (position_before b (suc at.slice) t (Some f.arr)) q) })
 
     by : LeadsTo b sl s' at f o → Arrived b sl at s (f ∷ []) middle ⊎ (middle.slice ≡ at.slice)
-    by (inl h) = to (slice_get sl (suc at.slice)) refl (h.0 ∙ ap (λ x. x.to) (same_some s' s (sym k' ∙ k))) (r ∙ h.1)
-    by (inr h) = inr (ap (λ p. p.slice) (same_some middle (position_inside b at.slice (suc at.leg) f.to (via_after at) f.arr) (r ∙ h.2)))
+    by (inl h) = to (slice_get sl (suc at.slice)) refl (h.0 ∙ ap (λ x. x.to) (some_same s' s (sym k' ∙ k))) (r ∙ h.1)
+    by (inr h) = inr (ap (λ p. p.slice) (some_same middle (position_inside b at.slice (suc at.leg) f.to (via_after at) f.arr) (r ∙ h.2)))
 stands b sl s at (n ∷ []) (f ∷ g ∷ fs) middle some k (s', k', t, o, l, r) st = absurd r
 stands b sl s at (n ∷ m ∷ ns) (f ∷ g ∷ fs) middle some k (s', k', t, o, l, r) st = by l (λ p e h. stands b sl s p (m ∷ ns) (g ∷ fs) middle (λ w. cc) e h st.1)
   where
@@ -55,7 +56,7 @@ stands b sl s at (n ∷ m ∷ ns) (f ∷ g ∷ fs) middle some k (s', k', t, o, 
     more_is (inr e) = inr e
 
     by : LeadsTo b sl s' at f o → ((p : Position) → slice_get sl p.slice ≡ Some s → Flies b sl (Some p) (m ∷ ns) (g ∷ fs) (Some middle) → Arrived b sl p s (g ∷ fs) middle ⊎ (middle.slice ≡ p.slice)) → Arrived b sl at s (f ∷ g ∷ fs) middle ⊎ (middle.slice ≡ at.slice)
-    by (inl h) more = absurd (st.0 (h.0 ∙ ap (λ x. x.to) (same_some s' s (sym k' ∙ k))))
+    by (inl h) more = absurd (st.0 (h.0 ∙ ap (λ x. x.to) (some_same s' s (sym k' ∙ k))))
     by (inr h) more = more_is (more (position_inside b at.slice (suc at.leg) f.to (via_after at) f.arr) k (subst (λ y. Flies b sl y (m ∷ ns) (g ∷ fs) (Some middle)) h.2 r))
 
 -- a head that leads on out of its slice, to its destination, crosses
@@ -86,21 +87,21 @@ module _ (b : Book) (sl : List Slice) (at : Position) where
       let c = j.follows.crossing in
       let c' = j'.follows.crossing in
       let s = c.slice in
-      let same = same_some c'.slice s (sym c'.here ∙ c.here) in
+      let same = some_same c'.slice s (sym c'.here ∙ c.here) in
       let is = flights_one b.timetable.flights p.flights (c.flights ++ j.follows.flights) (c'.flights ++ j'.follows.flights) (flights_of_joined h t p j) (flights_of_joined h' t' p j') in
       let long = cut_one s c.flights c'.flights j.follows.flights j'.follows.flights (c.is_head.stays s c.here) c.arrives (c'.is_head.stays s c.here) (subst (λ x. OnLast (λ f. f.to ≡ x.to) c'.flights) same c'.arrives) is in
       let n = matched_length _ h.flights c.flights (head_flights h.flights c.flights (Some j.follows.middle) c.is_head) in
       let n' = matched_length _ h'.flights c'.flights (head_flights h'.flights c'.flights (Some j'.follows.middle) c'.is_head) in
-      let e = (cancel h.flights h'.flights t.flights t'.flights (n ∙ long ∙ sym n') (sym j.numbers ∙ j'.numbers)).0 in
+      let e = (parts_same h.flights h'.flights t.flights t'.flights (n ∙ long ∙ sym n') (sym j.numbers ∙ j'.numbers)).0 in
       let o = flies_one b sl (Some at) h'.flights c.flights c'.flights (Some j.follows.middle) (Some j'.follows.middle) (subst (λ ns. Flies b sl (Some at) ns c.flights (Some j.follows.middle)) e c.is_head.path.flies) c'.is_head.path.flies in
       same_path h h' e (c.after ∙ o.1 ∙ sym c'.after)
 
   -- after one head, a path has one tail
   pub joined_tail : (h t t' p : Path) → IsJoined b sl at h t p → IsJoined b sl at h t' p → t ≡ t'
-  joined_tail h t t' p j j' = same_path t t' (cancel h.flights h.flights t.flights t'.flights refl (sym j.numbers ∙ j'.numbers)).1 (sym j.after ∙ j'.after)
+  joined_tail h t t' p j j' = same_path t t' (parts_same h.flights h.flights t.flights t'.flights refl (sym j.numbers ∙ j'.numbers)).1 (sym j.after ∙ j'.after)
 
   pub same_middle : (h t : Path) (middle : Position) → Crossing b sl at h middle → (f : Follows b sl at h t) → f.middle ≡ middle
-  same_middle h t middle c f = same_some f.middle middle (sym f.crossing.after ∙ c.after)
+  same_middle h t middle c f = some_same f.middle middle (sym f.crossing.after ∙ c.after)
 
   pub tail_count : (i : ℕ) (ts : List Path) → AreSomeTails b sl i ts → (t : Path) → IsIn t ts → (1 ≤ length t.flights) × (length t.flights ≤ 3)
   tail_count i ts d t k =
@@ -129,7 +130,7 @@ module _ (b : Book) (sl : List Slice) (at : Position) where
   joined_crosses h t p j =
       let c = j.follows.crossing in
       let f = j.follows in
-      let same = same_some c.following f.is_tail.slice (sym c.there ∙ f.is_tail.known) in
+      let same = some_same c.following f.is_tail.slice (sym c.there ∙ f.is_tail.known) in
       record {
         slice = c.slice;
         here = c.here;

@@ -1,5 +1,5 @@
 -- Lists of flights, their places and their joins, put together and parted.
-use Rattle.std.proofs.Common.{◌≡◌, ◌≢◌, List, [], ◌∷◌, ◌++◌, Some, refl, sym, ap, subst, ◌∙◌, inl, inr}
+use Rattle.std.proofs.Common.{◌≡◌, ◌≢◌, List, [], ◌∷◌, ◌++◌, refl, sym, ap, ◌∙◌, inl, inr}
 use Rattle.fare_law.specs.declared.flights.Flight.{Flight}
 use Rattle.fare_law.specs.declared.names.Place.{Place}
 use Rattle.fare_law.specs.declared.requests.Slice.{Slice}
@@ -7,27 +7,11 @@ use Rattle.fare_law.specs.Journey.{Joins, calls}
 use Rattle.fare_law.specs.Lists.{AllDifferent, Each, EachPair, IsIn, OnFirst, OnLast}
 use Rattle.flight_paths.specs.Positions.{KeepsOff}
 use Rattle.flight_paths.specs.Ways.{arrivals_of}
-
-pub same_some : {X : Type 0} (x y : X) → Some x ≡ Some y → x ≡ y
-same_some x y e = cc
-
--- lists put together
-pub each_left : {X : Type 0} (P : X → Type 0) (xs ys : List X) → Each P (xs ++ ys) → Each P xs
-each_left P [] ys h = tt
-each_left P (x ∷ xs) ys h = (h.0, each_left P xs ys h.1)
+use Rattle.law_lemmas.proofs.EachOne.{each_append, each_left}
 
 pub each_right : {X : Type 0} (P : X → Type 0) (xs ys : List X) → Each P (xs ++ ys) → Each P ys
 each_right P [] ys h = h
 each_right P (x ∷ xs) ys h = each_right P xs ys h.1
-
-pub each_both : {X : Type 0} (P : X → Type 0) (xs ys : List X) → Each P xs → Each P ys → Each P (xs ++ ys)
-each_both P [] ys h k = k
-each_both P (x ∷ xs) ys h k = (h.0, each_both P xs ys h.1 k)
-
-pub each_in : {X : Type 0} (P : X → Type 0) (xs : List X) (x : X) → Each P xs → IsIn x xs → P x
-each_in P [] x h i = absurd i
-each_in P (y ∷ xs) x h (inl e) = subst P (sym e) h.0
-each_in P (y ∷ xs) x h (inr i) = each_in P xs x h.1 i
 
 pub arrivals_both : (fs gs : List Flight) → arrivals_of (fs ++ gs) ≡ arrivals_of fs ++ arrivals_of gs
 arrivals_both [] gs = refl
@@ -50,7 +34,7 @@ different_apart (p ∷ ps) qs h = (each_right (λ y. p ≢ y) ps qs h.0, differe
 
 pub different_both : (ps qs : List Place) → AllDifferent ps → AllDifferent qs → Each (λ p. Each (λ q. p ≢ q) qs) ps → AllDifferent (ps ++ qs)
 different_both [] qs h k a = k
-different_both (p ∷ ps) qs h k a = (each_both (λ y. p ≢ y) ps qs h.0 a.0, different_both ps qs h.1 k a.1)
+different_both (p ∷ ps) qs h k a = (each_append (λ y. p ≢ y) ps qs h.0 a.0, different_both ps qs h.1 k a.1)
 
 pub joins_left : (fs gs : List Flight) → EachPair Joins (fs ++ gs) → EachPair Joins fs
 joins_left [] gs h = tt

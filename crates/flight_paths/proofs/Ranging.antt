@@ -1,5 +1,5 @@
 -- The tails of one length that begin in a range stand together.
-use Rattle.std.proofs.Common.{◌≡◌, ◌⊎◌, ℕ, zero, suc, ◌+◌, ◌-◌, ◌≤◌, ◌<◌, Bool, true, false, ◌&&◌, ◌||◌, nat_eq, nat_lt, List, [], ◌∷◌, ◌++◌, length, take, drop, get_or, refl, sym, ap, subst, ◌∙◌, inl, inr, arith}
+use Rattle.std.proofs.Common.{◌≡◌, ◌⊎◌, ℕ, zero, suc, ◌+◌, ◌-◌, ◌≤◌, ◌<◌, true, false, ◌&&◌, ◌||◌, nat_eq, nat_lt, List, [], ◌∷◌, ◌++◌, length, take, drop, get_or, refl, sym, ap, subst, ◌∙◌, inl, inr, arith}
 use Rattle.std.specs.List.Sorted.{IsPartitionPoint, IsPartitionedBy}
 use Rattle.std.proofs.lemmas.Bool.{cases_lt}
 use Rattle.fare_law.specs.declared.requests.Slice.{Slice}
@@ -12,17 +12,14 @@ use Rattle.flight_paths.specs.Paths.{Precedes}
 use Rattle.flight_paths.specs.Ranges.{first_of}
 use Rattle.flight_paths.proofs.Apart.{different_more, first_of_all}
 use Rattle.flight_paths.proofs.Joining.{joined_tail, same_middle, tail_count}
-use Rattle.flight_paths.proofs.Orders.{in_either, in_left, in_right}
-use Rattle.flight_paths.proofs.Places.{in_list}
+use Rattle.law_lemmas.proofs.Members.{in_either, in_left, in_list, in_right}
+use Rattle.law_lemmas.proofs.Tests.{true_false}
 
 told : (l f c n : ℕ) → (nat_lt l c || (nat_eq l c && nat_lt f n)) ≡ true → (l < c) ⊎ ((l ≡ c) × (f < n))
 told l f c n h = grind arith
 
 tells : (l f c n : ℕ) → (l < c) ⊎ ((l ≡ c) × (f < n)) → (nat_lt l c || (nat_eq l c && nat_lt f n)) ≡ true
 tells l f c n h = grind arith
-
-clash : {t : Bool} → t ≡ true → t ≡ false → ⊥
-clash p q = cc
 
 first_less : (ns ms : List ℕ) → length ns ≡ length ms → Less ns ms → first_of ns ≤ first_of ms
 first_less [] [] e h = absurd h
@@ -136,7 +133,7 @@ module _ (b : Book) (sl : List Slice) (at : Position) (h : Path) (middle : Posit
 
       high : (k : ℕ) → k < length ts → get_or ts k t ≡ t → first_of t.flights < middle.hi → (k < to) ⊎ (to ≤ k) → k < to
       high k l g lt (inl a) = a
-      high k l g lt (inr a) = absurd (clash (tells (length t.flights) (first_of t.flights) c middle.hi (inr (e, lt))) (subst (λ x. stands_before c middle.hi x ≡ false) g (q.1 k t a l)))
+      high k l g lt (inr a) = absurd (true_false (tells (length t.flights) (first_of t.flights) c middle.hi (inr (e, lt))) (subst (λ x. stands_before c middle.hi x ≡ false) g (q.1 k t a l)))
 
   pub none_between : to ≤ from → AreRestOf b sl at h ts c []
   none_between le = record { once = tt; are = λ x. (λ i. absurd i, λ w. let k = between w.0 w.1 w.2 w.3.follows in empty k.0 k.1 k.2) }
@@ -159,7 +156,7 @@ module _ (b : Book) (sl : List Slice) (at : Position) (h : Path) (middle : Posit
           (t, at_index ts k t w.3 w.4, same no_lo (told (length t.flights) (first_of t.flights) c middle.hi yes_hi), j)
         where
           same : stands_before c middle.lo t ≡ false → (length t.flights < c) ⊎ ((length t.flights ≡ c) × (first_of t.flights < middle.hi)) → length t.flights ≡ c
-          same n (inl a) = absurd (clash (tells (length t.flights) (first_of t.flights) c middle.lo (inl a)) n)
+          same n (inl a) = absurd (true_false (tells (length t.flights) (first_of t.flights) c middle.lo (inl a)) n)
           same n (inr a) = a.0
 
 module _ (b : Book) (sl : List Slice) (at : Position) (h : Path) (ts : List Path) where

@@ -10,11 +10,11 @@ use Rattle.flight_paths.specs.Heads.{AreRest, AreSomeTails, Crossing, IsTail, Ne
 use Rattle.flight_paths.specs.Paths.{Precedes}
 use Rattle.flight_paths.proofs.Apart.{first_of_all, not_itself}
 use Rattle.flight_paths.proofs.Choosing.{chosen_both, chosen_one, chosen_part, front_and_more}
-use Rattle.flight_paths.proofs.Orders.{in_right}
-use Rattle.flight_paths.proofs.Places.{front_is}
 use Rattle.flight_paths.proofs.Ranging.{part_of, part_ordered}
 use Rattle.flight_paths.proofs.Seeing.{rest_both, rest_none, rest_not, rest_one, saw_more, saw_none, saw_one}
 use Rattle.flight_paths.proofs.Skipping.{follows_or}
+use Rattle.law_lemmas.proofs.Lists.{front_at}
+use Rattle.law_lemmas.proofs.Members.{in_right}
 
 abbrev pub InOrder : List Path → Type 0
 InOrder ps = EachPair (λ p q. Precedes p.flights q.flights) ps
@@ -72,7 +72,7 @@ module _ (b : Book) (sl : List Slice) (at : Position) (h : Path) (middle : Posit
         → k < length ns → n ≡ get_or ns k n → slice_get all n ≡ Some t → Saw told new (AreRest b sl at h (t ∷ [])) → Saw told new (AreRest b sl at h (chosen all (take (k + 1) ns)))
     run_and_one new ns k n t known d skipped lt is at_n one =
         let parts : chosen all (take (k + 1) ns) ≡ chosen all (take k ns) ++ t ∷ [] =
-        ap (chosen all) (front_is ns k n lt ∙ ap (λ x. take k ns ++ x ∷ []) (sym is)) ∙ chosen_both all (take k ns) (n ∷ []) ∙ ap (λ xs. chosen all (take k ns) ++ xs) (chosen_one all n t at_n) in
+        ap (chosen all) (front_at ns k n lt ∙ ap (λ x. take k ns ++ x ∷ []) (sym is)) ∙ chosen_both all (take k ns) (n ∷ []) ∙ ap (λ xs. chosen all (take k ns) ++ xs) (chosen_one all n t at_n) in
         let order = (part_tails b sl (suc at.slice) all ns 0 (k + 1) known d).in_order in
         subst (λ xs. Saw told new (AreRest b sl at h xs)) (sym parts)
         (saw_parts told told new (chosen all (take k ns)) (t ∷ []) (subst InOrder parts order) (run_skipped ns k skipped (part_tails b sl (suc at.slice) all ns 0 k known d)) one)

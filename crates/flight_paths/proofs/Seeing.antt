@@ -9,10 +9,10 @@ use Rattle.flight_paths.specs.declared.positions.Path.{Path}
 use Rattle.flight_paths.specs.declared.positions.Position.{Position}
 use Rattle.flight_paths.specs.Heads.{AreFrom, AreHeads, AreReached, AreRest, AreSomeTails, Crosses, Crossing, EndWanted, Follows, HasTails, IsHead, IsJoined, Saw}
 use Rattle.flight_paths.specs.Positions.{IsPath}
-use Rattle.flight_paths.proofs.Orders.{in_either, in_left, in_one, in_right}
 use Rattle.flight_paths.proofs.Crossing.{heads_and_tails}
 use Rattle.flight_paths.proofs.Apart.{different_more, longer_not, none_is, same_path}
 use Rattle.flight_paths.proofs.Joining.{crosses_joined, head_not_joined, joined_crosses, joined_head, joined_tail}
+use Rattle.law_lemmas.proofs.Members.{in_either, in_left, in_one, in_right}
 
 -- the last of two parts is the second's
 last_right : {X : Type 0} (P Q : X → Type 0) (xs ys : List X) → OnFirst Q ys → OnLast P (xs ++ ys) → OnLast P ys

@@ -11,7 +11,9 @@ use Rattle.flight_paths.specs.Paths.{Precedes}
 use Rattle.flight_paths.specs.Positions.{IsPath}
 use Rattle.flight_paths.specs.Ways.{AreWays, IsWay}
 use Rattle.flight_paths.proofs.Levels.{path_way, way_path}
-use Rattle.flight_paths.proofs.Orders.{in_either, in_left, in_right, pairs_append, pairs_each}
+use Rattle.flight_paths.proofs.Orders.{pairs_each}
+use Rattle.law_lemmas.proofs.Members.{in_either, in_left, in_right}
+use Rattle.law_lemmas.proofs.Pairs.{pairs_append}
 
 module _ (b : Book) (sl : List Slice) (start : Position) where
   pub shorts_are : (one two three : List Path) → AreWays b sl start 1 one → AreWays b sl start 2 two → AreWays b sl start 3 three → AreShort b sl start (one ++ (two ++ three))

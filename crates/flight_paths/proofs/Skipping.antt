@@ -1,4 +1,4 @@
--- Whether a tail may follow a head can be told without a call, so that the visitor may be asked first whether it skips the path.
+-- Whether a tail may follow a head can be told without a call, so that the visitor may be asked first whether it skips the path. Given on to the crates above.
 use Rattle.std.proofs.Common.{◌≡◌, ◌≢◌, ◌⊎◌, ℕ, zero, suc, ◌+◌, ◌≤◌, ◌<◌, Bool, true, false, Decides, List, [], ◌∷◌, length, Some, refl, sym, subst, ◌∙◌, inl, inr, arith}
 use Rattle.fare_law.specs.declared.flights.Flight.{Flight}
 use Rattle.fare_law.specs.declared.names.Place.{Place}
@@ -51,7 +51,7 @@ each : (P : Place → Type 0) (ps : List Place) → ((p : Place) → Told (P p))
 each P [] f = inl tt
 each P (p ∷ ps) f = both (P p) (Each P ps) (f p) (each P ps f)
 
-some_same : (x y : Position) → Some x ≡ Some y → x ≡ y
+pub some_same : (x y : Position) → Some x ≡ Some y → x ≡ y
 some_same x y e = cc
 
 module _ (b : Book) (sl : List Slice) (at : Position) (h t : Path) where

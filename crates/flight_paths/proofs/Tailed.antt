@@ -11,8 +11,8 @@ use Rattle.flight_paths.specs.Heads.{AreHeads, AreReached, AreShort, AreTails, H
 use Rattle.flight_paths.specs.Positions.{IsPath, position_before}
 use Rattle.flight_paths.proofs.AnyBook.{Alike, alike_back, before_same, path_same}
 use Rattle.flight_paths.proofs.Growth.{flies_numbers}
-use Rattle.flight_paths.proofs.Levels.{matched_length}
-use Rattle.flight_paths.proofs.Parting.{same_some}
+use Rattle.law_lemmas.proofs.Options.{some_same}
+use Rattle.law_lemmas.proofs.Pairs.{matched_length}
 
 module _ (b : Book) (sl : List Slice) (i : ℕ) where
   pub tails_are : (t : Slice) (paths : List Path) → slice_get sl i ≡ Some t → AreShort b sl (position_before b i t None) paths → AreTails b sl i paths
@@ -26,7 +26,7 @@ module _ (b : Book) (sl : List Slice) (i : ℕ) where
 
       back : (p : Path) → (fs : List Flight) × IsTail b sl i p.flights fs p.after → IsIn p paths
       back p (fs, w) =
-          let path = subst (λ x. IsPath b sl (position_before b i x None) p.flights fs p.after) (same_some w.slice t (sym w.known ∙ k)) w.path in
+          let path = subst (λ x. IsPath b sl (position_before b i x None) p.flights fs p.after) (some_same w.slice t (sym w.known ∙ k)) w.path in
           (h.are p).1 (fs, path, omega (arith, w.few, numbers p fs path))
 
   pub no_tails : slice_get sl i ≡ None → AreTails b sl i []

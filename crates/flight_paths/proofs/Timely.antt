@@ -13,8 +13,9 @@ use Rattle.flight_paths.proofs.Between.{before_late, before_range}
 use Rattle.flight_paths.proofs.Confined.{leg_room}
 use Rattle.flight_paths.proofs.Cutting.{crossed, first_slice, last_of, some_flights}
 use Rattle.flight_paths.proofs.Growth.{flies_numbers}
-use Rattle.flight_paths.proofs.Levels.{matched_length}
-use Rattle.flight_paths.proofs.Parting.{same_some}
+use Rattle.law_lemmas.proofs.Ends.{last_both, last_like}
+use Rattle.law_lemmas.proofs.Options.{some_same}
+use Rattle.law_lemmas.proofs.Pairs.{matched_length}
 
 pub heads_are_short : HeadsAreShort
 heads_are_short b sl at ns fs next = (head, λ h. path ns fs h.some h.flies)
@@ -30,16 +31,6 @@ heads_are_short b sl at ns fs next = (head, λ h. path ns fs h.some h.flies)
         let room = leg_room b sl sl f.0 at ns fs next f.1 h.path.flies (h.stays f.0 f.1) (some_flights b sl (Some at) ns fs next h.path.some h.path.flies) in
         omega (arith, room, matched_length _ ns fs (flies_numbers b sl (Some at) ns fs next h.path.flies))
 
-last_both : {X : Type 0} (P Q : X → Type 0) (xs : List X) → OnLast P xs → OnLast Q xs → OnLast (λ x. P x × Q x) xs
-last_both P Q [] h k = absurd h
-last_both P Q (x ∷ []) h k = (h, k)
-last_both P Q (x ∷ y ∷ xs) h k = last_both P Q (y ∷ xs) h k
-
-last_like : {X : Type 0} (P Q : X → Type 0) (xs : List X) → OnLast P xs → ((x : X) → P x → Q x) → OnLast Q xs
-last_like P Q [] h f = absurd h
-last_like P Q (x ∷ []) h f = f x h
-last_like P Q (x ∷ y ∷ xs) h f = last_like P Q (y ∷ xs) h f
-
 module _ (b : Book) (sl : List Slice) (i : ℕ) (t : Slice) (known : slice_get sl i ≡ Some t) (asc : Ascending b.timetable.flights) (arrival : ℤ) where
   late : (ns : List ℕ) (gs : List Flight) (next : Option Position) → Flies b sl (Some (position_before b i t None)) ns gs next → OnFirst (λ n. ((position_before b i t (Some arrival)).lo ≤ n) × (n < (position_before b i t (Some arrival)).hi)) ns → OnFirst (λ g. (arrival +ℤ pos (connect b g.from)) ≤ℤ g.dep) gs
   late [] gs next h r = absurd r
@@ -50,7 +41,7 @@ module _ (b : Book) (sl : List Slice) (i : ℕ) (t : Slice) (known : slice_get s
   range [] [] next h r = absurd r
   range [] (g ∷ gs) next h r = absurd h
   range (n ∷ ns) [] next h r = absurd h
-  range (n ∷ ns) (g ∷ gs) next (s, k, u, o, l, w) r = before_range b t (Some arrival) n g u.known u.departs (subst (λ x. InWindow x g) (same_some s t (sym k ∙ known)) (u.window refl)) r
+  range (n ∷ ns) (g ∷ gs) next (s, k, u, o, l, w) r = before_range b t (Some arrival) n g u.known u.departs (subst (λ x. InWindow x g) (some_same s t (sym k ∙ known)) (u.window refl)) r
 
 pub crosses_in_time : CrossesInTime
 crosses_in_time b sl at h middle asc c ns gs next w = (forth, back)

@@ -14,9 +14,9 @@ use Rattle.flight_paths.specs.Ways.{AreFlightsOf}
 use Rattle.flight_paths.proofs.Apart.{first_of_all}
 use Rattle.flight_paths.proofs.Choosing.{chosen_both, chosen_one}
 use Rattle.flight_paths.proofs.Growth.{flies_numbers}
-use Rattle.flight_paths.proofs.Parting.{each_both}
-use Rattle.flight_paths.proofs.Places.{get_some}
 use Rattle.schedule_book.specs.Plan.{Plan}
+use Rattle.law_lemmas.proofs.EachOne.{each_append}
+use Rattle.law_lemmas.proofs.Lists.{got_read}
 
 pub last_number : (flights : List Flight) (wanted : Place → Bool) (ns : List ℕ) (d : ℕ) → 1 ≤ length ns → number_wanted flights wanted (get_or ns (length ns - 1) d) ≡ last_wanted flights wanted ns
 last_number flights wanted [] d lt = absurd (omega arith)
@@ -108,11 +108,11 @@ module _ (t : Path → Bool) (ps : List Path) (ns : List ℕ) (i : ℕ) (x : Pat
 
   pub kept_next : t x ≡ true → chosen ps ns ++ filter t (drop i ps) ≡ filter t ps → chosen ps (ns ++ i ∷ []) ++ filter t (drop (i + 1) ps) ≡ filter t ps
   kept_next e h =
-      ap (λ ys. ys ++ filter t (drop (i + 1) ps)) (chosen_both ps ns (i ∷ []) ∙ ap (λ ys. chosen ps ns ++ ys) (chosen_one ps i x (get_some ps i x lt ∙ ap Some (sym is))))
+      ap (λ ys. ys ++ filter t (drop (i + 1) ps)) (chosen_both ps ns (i ∷ []) ∙ ap (λ ys. chosen ps ns ++ ys) (chosen_one ps i x (got_read ps i x lt ∙ ap Some (sym is))))
       ∙ append_assoc (chosen ps ns) (x ∷ []) (filter t (drop (i + 1) ps)) ∙ ap (λ ys. chosen ps ns ++ ys) (sym (next_is true e)) ∙ h
 
   pub left_next : t x ≡ false → chosen ps ns ++ filter t (drop i ps) ≡ filter t ps → chosen ps ns ++ filter t (drop (i + 1) ps) ≡ filter t ps
   left_next e h = ap (λ ys. chosen ps ns ++ ys) (sym (next_is false e)) ∙ h
 
   pub known_next : Each (λ n. n < length ps) ns → Each (λ n. n < length ps) (ns ++ i ∷ [])
-  known_next h = each_both (λ n. n < length ps) ns (i ∷ []) h (lt, tt)
+  known_next h = each_append (λ n. n < length ps) ns (i ∷ []) h (lt, tt)

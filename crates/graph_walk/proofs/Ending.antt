@@ -8,8 +8,11 @@ use Rattle.graph_walk.specs.declared.outcome.Outcome.{Outcome}
 use Rattle.graph_walk.specs.declared.faults.WalkFault.{WalkFault}
 use Rattle.graph_walk.specs.declared.faults.WalkFault.TheVariants.{TooLarge, Mem}
 use Rattle.graph_walk.specs.Steps.{AreOutcomes, LeadToLive, outcome_of, outcomes_of, ExceedsIf, lesser, Good, Walked}
-use Rattle.graph_walk.proofs.RowFacts.{each_in, in_each, row_in, at_in, states_length, outcome_in}
+use Rattle.graph_walk.proofs.RowFacts.{row_in, states_length, outcome_in}
 use Rattle.graph_walk.proofs.Going.{Going, sooner, follows, goes_on}
+use Rattle.law_lemmas.proofs.EachOne.{each_from, each_member}
+use Rattle.law_lemmas.proofs.Members.{in_list}
+use Rattle.law_lemmas.proofs.Options.{none_some, some_same}
 
 -- from the empty rows all is new
 all_new : {X : Type 0} (L : X → Option X → ℕ → Type 0) (Known Known' : X → Type 0) (root : X) (rows : List (X × Option ℕ)) → Walked L Known Known' root [] rows
@@ -29,10 +32,10 @@ are_reached L Known Known' root rows w g = record {
 }
 
 pub are_least : {X : Type 0} (L : X → Option X → ℕ → Type 0) (Known Known' : X → Type 0) (root : X) (rows : List (X × Option ℕ)) → Walked L Known Known' root [] rows → AreLeast L rows
-are_least L Known Known' root rows w = in_each (λ row. LeastBy (Costs L (Some row.0)) row.1) rows (λ row i. (all_new L Known Known' root rows w row.0 (row_in row.0 row.1 rows i)).1.least row.1 i)
+are_least L Known Known' root rows w = each_from (λ row. LeastBy (Costs L (Some row.0)) row.1) rows (λ row i. (all_new L Known Known' root rows w row.0 (row_in row.0 row.1 rows i)).1.least row.1 i)
 
 pub are_known : {X : Type 0} (L : X → Option X → ℕ → Type 0) (Known Known' : X → Type 0) (root : X) (rows : List (X × Option ℕ)) → Walked L Known Known' root [] rows → Each Known' (states rows)
-are_known L Known Known' root rows w = in_each Known' (states rows) (λ y i. (all_new L Known Known' root rows w y i).1.known)
+are_known L Known Known' root rows w = each_from Known' (states rows) (λ y i. (all_new L Known Known' root rows w y i).1.known)
 
 -- no room for one more
 pub too_many : {X : Type 0} (L : X → Option X → ℕ → Type 0) (x : X) (rows : List (X × Option ℕ)) (budget : ℕ) → AllDifferent (states rows) → (IsIn x (states rows) → ⊥) → length rows ≡ budget
@@ -40,12 +43,12 @@ pub too_many : {X : Type 0} (L : X → Option X → ℕ → Type 0) (x : X) (row
 too_many L x rows budget once none full = let n = states_length rows in (
   x ∷ states rows,
   omega (arith, n, full),
-  (in_each (λ y. x ≢ y) (states rows) (λ y i e. none (subst (λ z. IsIn z (states rows)) (sym e) i)), once),
-  (inr here, in_each _ (states rows) (λ y i. inl i)),
+  (each_from (λ y. x ≢ y) (states rows) (λ y i e. none (subst (λ z. IsIn z (states rows)) (sym e) i)), once),
+  (inr here, each_from _ (states rows) (λ y i. inl i)),
 )
 
 pub exceeds_as : {X : Type 0} (P Q : X → Type 0) (budget : ℕ) → ((x : X) → P x → Q x) → HasMany (suc budget) P → HasMany (suc budget) Q
-exceeds_as P Q budget f e = (e.0, e.1, e.2, in_each Q e.0 (λ x i. f x (each_in P x e.0 e.3 i)))
+exceeds_as P Q budget f e = (e.0, e.1, e.2, each_from Q e.0 (λ x i. f x (each_member P x e.0 e.3 i)))
 
 -- what is left of a list of what is reached from a state
 pub short_after : {X : Type 0} (L : X → Option X → ℕ → Type 0) (level : X → ℕ) (x y : X) (price : ℕ) → L x (Some y) price → IsShort L level x → IsShort L level y
@@ -92,30 +95,24 @@ low_rest L level x next price (Some r) s l c = let h = low_costs L level x (pric
 pub move_of : {K X : Type 0} (L : X → Option X → ℕ → Type 0) (state : K → X) (x : X) (os items : List (Outcome K)) (i : ℕ) (o : Outcome K) → AreOutcomes L x (outcomes_of state items) → os ≡ items → i < length os → o ≡ get_or os i o
     → L x (outcome_of state o).next o.price
 move_of L state x os items i o a same h is =
-    let one : IsIn o items = subst (λ l. IsIn o l) same (subst (λ z. IsIn z os) (sym is) (at_in os i o h)) in
-    each_in (λ z. L x z.next z.price) (outcome_of state o) (outcomes_of state items) a.attained (outcome_in state o items one)
+    let one : IsIn o items = subst (λ l. IsIn o l) same (subst (λ z. IsIn z os) (sym is) (in_list os i o h)) in
+    each_member (λ z. L x z.next z.price) (outcome_of state o) (outcomes_of state items) a.attained (outcome_in state o items one)
 
 -- and leads to a live key
 pub live_of : {K : Type 0} (live : K → Type 0) (os items : List (Outcome K)) (i : ℕ) (o : Outcome K) (next : K) → LeadToLive live items → os ≡ items → i < length os → o ≡ get_or os i o → o.next ≡ Some next → live next
 live_of live os items i o next all same h is e =
-    let one : IsIn o items = subst (λ l. IsIn o l) same (subst (λ z. IsIn z os) (sym is) (at_in os i o h)) in
-    subst (λ n. IfSome n live) e (each_in (λ z. IfSome z.next live) o items all one)
+    let one : IsIn o items = subst (λ l. IsIn o l) same (subst (λ z. IsIn z os) (sym is) (in_list os i o h)) in
+    subst (λ n. IfSome n live) e (each_member (λ z. IfSome z.next live) o items all one)
 
 pub least_over : {X : Type 0} (L : X → Option X → ℕ → Type 0) (next : Option X) (rest : Option ℕ) → next ≡ None → rest ≡ Some 0 → LeastBy (Costs L next) rest
 least_over L next rest e z = subst (λ n. LeastBy (Costs L n) rest) (sym e) (subst (λ r. LeastBy (Costs L None) r) (sym z) (over 0 refl, λ p c. omega arith))
-
-some_none : {X : Type 0} (y : X) → None ≡ Some y → ⊥
-some_none y e = cc
 
 -- one turn
 pub turn_over : {X S : Type 0} (L : X → Option X → ℕ → Type 0) (K : S → X → Type 0) (s0 s1 s2 : S) (x : X) (rows0 rows1 rows2 : List (X × Option ℕ)) (done : List (Outcome X)) (o : Outcome X) (least rest : Option ℕ)
     → s2 ≡ s1 → rows2 ≡ rows1 → rest ≡ Some 0 → o.next ≡ None → Going L (K s0) (K s1) x rows0 rows1 done least → Going L (K s0) (K s2) x rows0 rows2 (done ++ o ∷ []) (lesser least rest o.price)
 turn_over L K s0 s1 s2 x rows0 rows1 rows2 done o least rest es er ez en g =
     let g2 = subst (λ s. Going L (K s0) (K s) x rows0 rows2 done least) (sym es) (subst (λ rs. Going L (K s0) (K s1) x rows0 rs done least) (sym er) g) in
-    follows L (K s0) (K s2) x rows0 rows2 done o least rest g2 (λ y e. absurd (some_none y (sym en ∙ e))) (least_over L o.next rest en ez)
-
-same_some : {X : Type 0} (a b : X) → Some a ≡ Some b → a ≡ b
-same_some a b e = cc
+    follows L (K s0) (K s2) x rows0 rows2 done o least rest g2 (λ y e. absurd (none_some y (sym en ∙ e))) (least_over L o.next rest en ez)
 
 pub turn_on : {X S : Type 0} (L : X → Option X → ℕ → Type 0) (K : S → X → Type 0) (s0 s1 s2 s3 : S) (x next : X) (rows0 rows1 rows2 rows3 : List (X × Option ℕ)) (done : List (Outcome X)) (o : Outcome X) (least rest rest3 : Option ℕ)
     → s2 ≡ s3 → rows2 ≡ rows3 → rest ≡ rest3 → o.next ≡ Some next → L x o.next o.price → ((y : X) → K s1 y → K s3 y) → Walked L (K s1) (K s3) next rows1 rows3 → Good L (K s3) rows3 next → LeastBy (Costs L (Some next)) rest3
@@ -124,5 +121,5 @@ turn_on L K s0 s1 s2 s3 x next rows0 rows1 rows2 rows3 done o least rest rest3 e
     let g3 = goes_on L (K s0) (K s1) (K s3) x next o.price rows0 rows1 rows3 done least stays (subst (λ n. L x n o.price) en l) g w in
     let g2 = subst (λ s. Going L (K s0) (K s) x rows0 rows2 done least) (sym es) (subst (λ rs. Going L (K s0) (K s3) x rows0 rs done least) (sym er) g3) in
     follows L (K s0) (K s2) x rows0 rows2 done o least rest g2
-    (λ y e. subst (λ rs. IsIn y (states rs)) (sym er) (subst (λ z. IsIn z (states rows3)) (same_some next y (sym en ∙ e)) here_good.has))
+    (λ y e. subst (λ rs. IsIn y (states rs)) (sym er) (subst (λ z. IsIn z (states rows3)) (some_same next y (sym en ∙ e)) here_good.has))
     (subst (λ n. LeastBy (Costs L n) rest) (sym en) (subst (λ r. LeastBy (Costs L (Some next)) r) (sym ez) c))

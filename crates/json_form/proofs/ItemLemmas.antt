@@ -4,8 +4,8 @@ use Rattle.std.proofs.lemmas.List.{drop_all}
 use Rattle.serde_json.specs.Data.{Data}
 use Rattle.serde_json.specs.View.{view, items_view}
 use Rattle.serde_json.specs.declared.value.Value.{Value}
-use Rattle.fare_law.specs.Lists.{Each}
 use Rattle.json_form.specs.Items.{each_item, only_item}
+use Rattle.law_lemmas.proofs.EachOne.{each_more}
 
 -- items that stand before the others
 abbrev pub after : {A : Type 0} → List A → Option (List A) → Option (List A)
@@ -38,11 +38,6 @@ module _ {A : Type 0} (f : Data → Option A) where
 
   pub items_all : (front : List A) (vs : List Value) (i : ℕ) → length vs ≤ i → after front (each_item f (items_view (drop i vs))) ≡ each_item f (items_view vs) → Some front ≡ each_item f (items_view vs)
   items_all front vs i l h = sym (ap (λ ys. after front (each_item f (items_view ys))) (drop_all i vs l) ∙ ap Some (append-nil front)) ∙ h
-
--- one more that has P
-pub each_more : {A : Type 0} (P : A → Type 0) (front : List A) (a : A) → Each P front → P a → Each P (front ++ a ∷ [])
-each_more P [] a h p = (p, tt)
-each_more P (x ∷ xs) a h p = (h.0, each_more P xs a h.1 p)
 
 pub ruleset item_steps = (after_none, items_more, items_bad, items_all, each_more)
 

@@ -13,7 +13,8 @@ use Rattle.lowfare.specs.Refusals.{HasRefusal}
 use Rattle.lowfare.specs.declared.status.Status.{Status}
 use Rattle.lowfare.specs.declared.status.Status.TheVariants.{Done, Refused, Usage, ReadFault, WriteFault, OutOfMemory, TooLarge, No, TooLong}
 use Rattle.program_words.specs.declared.commands.Command.TheVariants.{Check}
-use Rattle.lowfare.proofs.Apart.{ok_same, spelled_refused}
+use Rattle.lowfare.proofs.Apart.{spelled_refused}
+use Rattle.law_lemmas.proofs.Options.{ok_same}
 
 module _ (best at : Option ℕ) (bytes : List ℕ) where
   pub check_made : (status : Status) (text : List ℕ) → Makes (Check best at) bytes status text → Owes (Check best at) bytes status

@@ -11,13 +11,11 @@ use Rattle.lowfare.specs.declared.status.Status.TheVariants.{Done, Refused, Usag
 use Rattle.lowfare.proofs.Owing.{made_owed}
 use Rattle.program_words.specs.declared.commands.Command.{Command}
 use Rattle.program_words.specs.declared.commands.Command.TheVariants.{Search, Check, Make, Serve, Calendar, Verdict}
+use Rattle.law_lemmas.proofs.Options.{some_same}
 
 -- of one input a command owes one status
 abbrev OneOwed : Type 0
 OneOwed = (c : Command) (bytes : List ℕ) (status due : Status) → Owes c bytes status → Owes c bytes due → status ≡ due
-
-some_same : {A : Type 0} (a b : A) → Some a ≡ Some b → a ≡ b
-some_same a b e = cc
 
 -- memory ran out, or a text is due with the status
 settled : (carries : Carried) (status : Status) (words : List (List ℕ)) (left left' held held' : Option (List ℕ)) (r r' w w' s s' : ℕ) → NoneRose r r' w w' s s' → Says carries status words left left' held held' r r' w w' s s'

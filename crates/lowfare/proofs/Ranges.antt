@@ -10,13 +10,7 @@ use Rattle.program_words.specs.Numbers.{is_numeral, number_in, required, value, 
 use Rattle.program_words.specs.Parser.{parser}
 use Rattle.program_words.specs.Texts.{GivenTexts, texts_in}
 use Rattle.program_words.specs.declared.commands.Command.{Command}
-
--- ---- a number of tickets
-some_same : {A : Type 0} (a b : A) → Some a ≡ Some b → a ≡ b
-some_same a b e = cc
-
-none_some : {A : Type 0} (a : A) → ◌≡◌ {A = Option A} None (Some a) → ⊥
-none_some a e = cc
+use Rattle.law_lemmas.proofs.Options.{none_some, some_same}
 
 within_range : (low high m n : ℕ) → within low high m ≡ Some n → IsInRange low high n
 within_range low high m n e = by (nat_le low m) (nat_le m high) refl refl e

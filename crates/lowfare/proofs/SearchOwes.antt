@@ -10,7 +10,8 @@ use Rattle.lowfare.specs.Refusals.{HasRefusal}
 use Rattle.lowfare.specs.declared.status.Status.{Status}
 use Rattle.lowfare.specs.declared.status.Status.TheVariants.{Done, Refused, Usage, ReadFault, WriteFault, OutOfMemory, TooLarge, No, TooLong}
 use Rattle.program_words.specs.declared.commands.Command.TheVariants.{Search}
-use Rattle.lowfare.proofs.Apart.{ok_same, spelled_refused}
+use Rattle.lowfare.proofs.Apart.{spelled_refused}
+use Rattle.law_lemmas.proofs.Options.{ok_same}
 
 module _ (best : Option ℕ) (budget : ℕ) (at : Option ℕ) (bytes : List ℕ) where
   pub search_made : (status : Status) (text : List ℕ) → Makes (Search best budget at) bytes status text → Owes (Search best budget at) bytes status

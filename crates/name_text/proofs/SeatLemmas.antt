@@ -5,18 +5,14 @@ use Rattle.std.specs.Char.{is_ascii_digit, is_ascii_uppercase}
 use Rattle.std.proofs.lemmas.Bool.Decides.{nat_tests}
 use Rattle.fare_law.specs.Lists.{Each}
 use Rattle.fare_law.specs.Limits.{AreSeats}
-
-zeros_at : (n i : ℕ) → ◌≡◌ {A = ℕ} (get_or (replicate n 0) i 0) 0
-zeros_at zero i = refl
-zeros_at (suc n) zero = refl
-zeros_at (suc n) (suc i) = zeros_at n i
+use Rattle.law_lemmas.proofs.Lists.{all_zero}
 
 few_zeros : (n : ℕ) → Each (λ k. k ≤ 9) (replicate {A = ℕ} n 0)
 few_zeros zero = tt
 few_zeros (suc n) = (omega arith, few_zeros n)
 
 pub no_seats : AreSeats (replicate 32 0)
-no_seats = record { many = refl; few = few_zeros 32; none = λ class h. zeros_at 32 class }
+no_seats = record { many = refl; few = few_zeros 32; none = λ class h. all_zero 32 class }
 
 few_set : (seats : List ℕ) (i n : ℕ) → n ≤ 9 → Each (λ k. k ≤ 9) seats → Each (λ k. k ≤ 9) (set seats i n)
 few_set [] i n l h = tt

@@ -1,38 +1,24 @@
--- Names as text: they are ASCII, and each is read again as itself.
-use Rattle.std.proofs.Common.{◌≡◌, ◌≤◌, ◌+◌, ◌-◌, ℕ, zero, suc, nat_le, eq-eqb, true, List, [], ◌∷◌, length, Some, refl, arith, ap}
-use Rattle.std.specs.Char.{is_ascii_uppercase}
+-- Names as text: they are ASCII, and each is read again as itself. Given on to the crates above.
+use Rattle.std.proofs.Common.{◌≡◌, ◌+◌, ◌-◌, ℕ, zero, suc, eq-eqb, true, List, [], ◌∷◌, length, Some, refl, arith, ap}
 use Rattle.std.specs.List.{list_all}
 use Rattle.std.specs.Str.{IsAscii, IsUtf8}
 use Rattle.std.proofs.lemmas.Bool.Decides.{nat_tests}
 use Rattle.std.proofs.lemmas.Str.{IsUtf8-from_ascii}
 use Rattle.fare_law.specs.Lists.{Each}
-use Rattle.fare_law.specs.Limits.{IsCapital, IsClass, IsPlace}
+use Rattle.fare_law.specs.Limits.{IsClass, IsPlace}
 use Rattle.fare_law.specs.Names.{IsBasis, IsCarrier, IsCharacter}
 use Rattle.fare_law.specs.declared.names.Basis.{Basis}
 use Rattle.fare_law.specs.declared.names.Carrier.{Carrier}
 use Rattle.fare_law.specs.declared.names.Place.{Place}
 use Rattle.name_text.specs.Names.{place_of, carrier_of, basis_of, class_of, is_character}
+use Rattle.law_lemmas.proofs.Names.{carrier_is_ascii, place_is_ascii}
+use Rattle.law_lemmas.proofs.Tests.{le_true}
+use Rattle.law_lemmas.proofs.Words.{capital_again, capitals_again, characters_are_ascii}
 
 pub ascii_is_utf8 : (bs : List ℕ) → IsAscii bs → IsUtf8 bs
 ascii_is_utf8 = IsUtf8-from_ascii
 
 -- names are ASCII
-
-capitals_are_ascii : (cs : List ℕ) → Each IsCapital cs → IsAscii cs
-capitals_are_ascii [] h i = omega arith
-capitals_are_ascii (c ∷ cs) h zero = omega arith
-capitals_are_ascii (c ∷ cs) h (suc i) = capitals_are_ascii cs h.1 i
-
-characters_are_ascii : (cs : List ℕ) → Each IsCharacter cs → IsAscii cs
-characters_are_ascii [] h i = omega arith
-characters_are_ascii (c ∷ cs) h zero = grind arith
-characters_are_ascii (c ∷ cs) h (suc i) = characters_are_ascii cs h.1 i
-
-pub place_is_ascii : (p : Place) → IsPlace p → IsAscii p.0
-place_is_ascii p h = capitals_are_ascii p.0 h.1
-
-pub carrier_is_ascii : (c : Carrier) → IsCarrier c → IsAscii c.0
-carrier_is_ascii c h = characters_are_ascii c.0 h.1
 
 pub basis_is_ascii : (b : Basis) → IsBasis b → IsAscii b.0
 basis_is_ascii b h = characters_are_ascii b.0 h.2
@@ -43,20 +29,10 @@ letter_is_ascii class h (suc i) = omega arith
 
 -- names are read again
 
-le_true : (a b : ℕ) → a ≤ b → nat_le a b ≡ true
-le_true a b h = grind (arith, nat_tests)
-
-capital_again : (c : ℕ) → IsCapital c → is_ascii_uppercase c ≡ true
-capital_again c h = grind (arith, nat_tests)
-
-capitals_again : (cs : List ℕ) → Each IsCapital cs → list_all is_ascii_uppercase cs ≡ true
-capitals_again [] h = refl
-capitals_again (c ∷ cs) h = rw (capital_again c h.0) (capitals_again cs h.1)
-
-character_again : (c : ℕ) → IsCharacter c → is_character c ≡ true
+pub character_again : (c : ℕ) → IsCharacter c → is_character c ≡ true
 character_again c h = grind (arith, nat_tests)
 
-characters_again : (cs : List ℕ) → Each IsCharacter cs → list_all is_character cs ≡ true
+pub characters_again : (cs : List ℕ) → Each IsCharacter cs → list_all is_character cs ≡ true
 characters_again [] h = refl
 characters_again (c ∷ cs) h = rw (character_again c h.0) (characters_again cs h.1)
 

@@ -1,8 +1,8 @@
 -- What a walk over the home cells of a key knows.
-use Rattle.std.proofs.Common.{◌≡◌, ◌≢◌, ◌⊎◌, ℕ, ◌+◌, ◌<◌, ◌∙◌, ap, sym, subst, List, length, Some, inl, inr, ⊎_elim, arith}
-use Rattle.std.proofs.lemmas.Bool.{cases_lt}
+use Rattle.std.proofs.Common.{◌≡◌, ◌≢◌, ◌⊎◌, ℕ, ◌+◌, ◌<◌, ◌∙◌, ap, sym, subst, List, length, Some, inl, inr, ⊎_elim}
 use Rattle.fare_component.specs.Keys.{Asked}
 use Rattle.node_publish.specs.Homes.{Known, at_cell, at_home, home, homes, Keeps, ReadsAt, IsTaken, Knows, HasNoRoom, StaysPublished}
+use Rattle.law_lemmas.proofs.Numbers.{here_or_before}
 
 pub keeps_trans : (a b c : Known) → Keeps a b → Keeps b c → Keeps a c
 keeps_trans a b c p q = record { cells = q.cells ∙ p.cells; kept = λ i k e. q.kept i k (p.kept i k e) }
@@ -17,9 +17,6 @@ taken_stays p q h a j t = record { other = t.other; here = moved p q h a j t.oth
 -- the home cells before the n-th hold nodes of other keys
 pub record TakenBelow (p : Known) (a : Asked) (n : ℕ) : Type 0 where
   pub each : (j : ℕ) → j < n → IsTaken p a j
-
-here_or_before : (m n : ℕ) → m < n + 1 → m < n ⊎ (m ≡ n)
-here_or_before m n less = ⊎_elim (λ (h : m < n). inl h) (λ h. inr (omega arith)) (cases_lt m n)
 
 -- one more home cell holds a node of another key
 pub taken_more : (p q : Known) (a found : Asked) (n at : ℕ) (names : List ℕ) → p.cells ≡ names → TakenBelow p a n → ReadsAt p q at (Some found) → at ≡ home (length names) a n → found ≢ a → TakenBelow q a (n + 1)

@@ -60,7 +60,7 @@ closing_returns u p kind f e m =
     subst (λ (x : JoinedFares). AllowReturn x p.first_day p.last_day) (sym (are_one u p f e)) ((m.least, m.greatest), m.by)
 
 -- a fare was there
-not_not_yet : (mark : CarrierMark) (c : Carrier) → carrier_with mark c ≢ NotYet
+pub not_not_yet : (mark : CarrierMark) (c : Carrier) → carrier_with mark c ≢ NotYet
 not_not_yet NotYet c e = cc
 not_not_yet (One d) c e = elim (same_carrier d c) as (λ b. cond b (One d) Mixed ≡ NotYet → ⊥) [ true ↦ λ h. cc | false ↦ λ h. cc ] e
 not_not_yet Mixed c e = cc

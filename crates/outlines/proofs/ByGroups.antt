@@ -6,7 +6,6 @@ use Rattle.fare_groups.specs.declared.group.GroupedFare.{GroupedFare}
 use Rattle.fare_groups.specs.Grouping.{Cheapest, IsRowOf, StandsOnce, fare_at}
 use Rattle.fare_groups.specs.Groups.{HasClass, Permits, extra_of, group_of, share_of}
 use Rattle.fare_groups.proofs.ByGroup.{offered_by_group, priced_by_group}
-use Rattle.fare_groups.proofs.Grouped.{each_in}
 use Rattle.fare_groups.proofs.OneGroup.{each_stands_once, fares_are_rows}
 use Rattle.fare_law.specs.declared.flights.Flight.{Flight}
 use Rattle.fare_law.specs.declared.requests.Request.{Request}
@@ -27,10 +26,13 @@ use Rattle.outlines.specs.Outlines.{OfferedAs, Outlined}
 use Rattle.outlines.proofs.Offering.{filed_over, keyed, move_with, offers_give, outlines_ask}
 use Rattle.residual_keys.specs.Gathered.{AreLegs, FiledOver}
 use Rattle.residual_keys.proofs.Offered.{filed_market, market_filed}
-use Rattle.residual_keys.proofs.OneNext.{flies_one, numbers_one, some_one}
+use Rattle.residual_keys.proofs.OneNext.{flies_one}
 use Rattle.residual_keys.proofs.Runs.{flies_numbers}
-use Rattle.residual_keys.proofs.Sheeted.{got_in, place_of}
 use Rattle.residual_keys.proofs.StepFacts.{key_directed}
+use Rattle.law_lemmas.proofs.EachOne.{each_in}
+use Rattle.law_lemmas.proofs.LawFacts.{numbers_one}
+use Rattle.law_lemmas.proofs.Members.{got_in, in_got}
+use Rattle.law_lemmas.proofs.Options.{some_one}
 
 module _ (b : Book) (q : Request) (at : Position) (path : Path) (fs : List Flight) (legs : List Leg) (classes : ℕ) (reverse : Bool) (sheet : Sheet) (groups : List FareGroup) (is : OverMarket b q at path fs legs classes reverse sheet groups) where
   -- a row of the sheet is live, filed over the flights, and of a class below 32
@@ -132,7 +134,7 @@ module _ (b : Book) (q : Request) (at : Position) (path : Path) (fs : List Fligh
       asked = outlines_ask b q at o price h legs (class_low row i) (subst (λ gs. AreLegs b q gs legs) (sym fs_is) is.legs_are)
 
       place : (n : ℕ) × (slice_get sheet.rows n ≡ Some row)
-      place = place_of sheet.rows row i
+      place = in_got sheet.rows row i
 
       once : StandsOnce place.0 row groups
       once = each_stands_once sheet.rows groups is.groups_are place.0 row place.1

@@ -14,10 +14,12 @@ use Rattle.outlines.specs.declared.outline.Entry.{Entry}
 use Rattle.outlines.specs.declared.outline.Outcome.{Outcome}
 use Rattle.outlines.specs.Marks.{AreLists, GivenAlone, GivenByUnit, GivenOpening, IsAlone, IsGiven, IsOfUnit, IsOpening, ListsAreOutcomes, MarkLeaves, ends_of, mark_of, part_by, units_by, written}
 use Rattle.outlines.specs.Outcomes.{IsTried, LeadsAs}
-use Rattle.outlines.proofs.TriedAll.{each_in, least_are_outcomes}
+use Rattle.outlines.proofs.TriedAll.{least_are_outcomes}
 use Rattle.residual_keys.specs.declared.residual.Next.{Next}
 use Rattle.residual_keys.specs.Residuals.{PartAllows, State, UnitStep, begins, ends_with, part_with, with_end}
 use Rattle.residual_keys.specs.Steps.{Leaves, left_at}
+use Rattle.law_lemmas.proofs.EachOne.{each_in}
+use Rattle.law_lemmas.proofs.Options.{some_same}
 
 ends_same : (c : Option CombineRule) (ends : ℕ) → with_end (ends_of c) ends ≡ ends_with c ends
 ends_same None ends = refl
@@ -45,9 +47,6 @@ module _ (q : Request) (r : State) (e : Entry) where
       = record { part = subst PartAllows (sym (part_same (begins role) u)) l.part; done = l.done; left = l.left ∙ ap (left_at e.outline.after l.units) (sym (part_same (begins role) u)) } in
       subst (λ x. MarkLeaves r x (begins role) us next) (sym is) (subst (λ x. MarkLeaves r (mark_of e u) (begins role) x next) same h)
 
-some_is : {X : Type 0} (x y : X) → Some x ≡ Some y → x ≡ y
-some_is x y e = cc
-
 module _ (q : Request) (r : State) (table : List Entry) (alone opens : List Listed) (of_unit : ℕ → List Listed) (lists : AreLists q r table alone opens of_unit) where
   -- what a list gives was tried
   alone_tried : (o : Outcome) → GivenAlone r alone o → IsTried q r table o
@@ -58,7 +57,7 @@ module _ (q : Request) (r : State) (table : List Entry) (alone opens : List List
   opening_tried : (o : Outcome) → GivenOpening r opens o → IsTried q r table o
   opening_tried o g =
       let a = each_in (λ (x : Listed). (e : Entry) × IsIn e table × IsOpening r.at.place q.sale e x.mark × (x.price ≡ e.price)) opens g.listed lists.opens_is.attained g.within in
-      let unit : g.unit ≡ opened (written r.at.place q.sale a.0) = some_is g.unit (opened (written r.at.place q.sale a.0)) (sym g.opens ∙ ap (λ (m : Mark). m.unit) a.2.1) in (
+      let unit : g.unit ≡ opened (written r.at.place q.sale a.0) = some_same g.unit (opened (written r.at.place q.sale a.0)) (sym g.opens ∙ ap (λ (m : Mark). m.unit) a.2.1) in (
         a.0,
         a.1,
         (

@@ -1,4 +1,4 @@
--- Lists of outcomes, as they grow.
+-- Lists of outcomes, as they grow. Given on to the crates above.
 use Rattle.std.proofs.Common.{◌≡◌, ◌⊎◌, ◌↔◌, ℕ, ℤ, zero, suc, ◌+◌, ◌≤◌, ◌<◌, List, [], ◌∷◌, ◌++◌, append-nil, append_assoc, length, take, get_or, slice_get, Some, refl, sym, ap, ap₂, subst, ◌∙◌, inl, inr, arith}
 use Rattle.std.proofs.Math.Seq.{take-suc}
 use Rattle.fare_law.specs.declared.moves.Role.{Role}
@@ -16,8 +16,8 @@ use Rattle.outlines.specs.Outlines.{piece_of}
 use Rattle.residual_keys.specs.declared.residual.Next.{Next}
 use Rattle.residual_keys.specs.Residuals.{State, begins, part_with}
 use Rattle.residual_keys.specs.Steps.{Leaves, left_at}
-use Rattle.residual_keys.proofs.Adding.{in_either, in_left, in_right}
 use Rattle.residual_keys.proofs.OneNext.{units_one}
+use Rattle.law_lemmas.proofs.Members.{in_either, in_left, in_right}
 
 pub grows_none : (P : Outcome → Type 0) (old : List Outcome) → ((o : Outcome) → P o → ⊥) → Grows P old old
 grows_none P old none = record { more = []; joined = sym (append-nil old); are = λ o. (λ i. absurd i, λ h. absurd (none o h)) }
@@ -38,7 +38,7 @@ grows_then P Q a b c h k = record {
 pub grows_like : (P Q : Outcome → Type 0) (a b : List Outcome) → Grows P a b → ((o : Outcome) → P o ↔ Q o) → Grows Q a b
 grows_like P Q a b h same = record { more = h.more; joined = h.joined; are = λ o. (λ i. (same o).0 ((h.are o).0 i), λ k. (h.are o).1 ((same o).1 k)) }
 
-places : (us : List OpenUnit) (slot : ℕ) (u : OpenUnit) → length us ≤ 2 → slice_get us slot ≡ Some u → (◌≡◌ {A = ℕ} slot 0) ⊎ (◌≡◌ {A = ℕ} slot 1)
+pub places : (us : List OpenUnit) (slot : ℕ) (u : OpenUnit) → length us ≤ 2 → slice_get us slot ≡ Some u → (◌≡◌ {A = ℕ} slot 0) ⊎ (◌≡◌ {A = ℕ} slot 1)
 places us zero u few e = inl refl
 places us (suc zero) u few e = inr refl
 places [] (suc (suc s)) u few e = cc

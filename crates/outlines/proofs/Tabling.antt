@@ -1,5 +1,5 @@
 -- A table in which each path is done is the position's. Given on to the crates above.
-use Rattle.std.proofs.Common.{◌≡◌, ◌≢◌, ◌⊎◌, ℕ, zero, suc, ◌<◌, ◌≤◌, ◌^◌, Bool, List, [], ◌∷◌, ◌++◌, append-nil, append_assoc, Option, Some, None, IsBitSet, bit_and, refl, sym, subst, ◌∙◌, inl, inr, arith}
+use Rattle.std.proofs.Common.{◌≡◌, ◌≢◌, ◌⊎◌, ℕ, zero, suc, ◌≤◌, ◌^◌, Bool, List, [], ◌∷◌, ◌++◌, append-nil, append_assoc, Option, Some, None, IsBitSet, bit_and, refl, sym, subst, ◌∙◌, inl, inr, arith}
 use Rattle.fare_book.specs.Keeping.{NoFare}
 use Rattle.fare_groups.specs.declared.group.FareGroup.{FareGroup}
 use Rattle.fare_groups.specs.declared.group.GroupKey.{GroupKey}
@@ -22,6 +22,8 @@ use Rattle.outlines.proofs.ByGroups.{groups_cover}
 use Rattle.outlines.proofs.Offering.{filed_over}
 use Rattle.residual_keys.proofs.Offered.{filed_market}
 use Rattle.residual_keys.proofs.OneNext.{first_one, last_one}
+use Rattle.law_lemmas.proofs.Numbers.{at_most_or, le_on}
+use Rattle.law_lemmas.proofs.Options.{not_both}
 
 -- a group's outline on some flights is one
 outline_one : (o p : Outline) (after : Option Position) (fs : List Flight) (key : GroupKey) (reverse : Bool) → OutlineOver o after fs key reverse → OutlineOver p after fs key reverse → o ≡ p
@@ -40,11 +42,6 @@ some_or : (n : ℕ) → (n ≢ 0) ⊎ ((n ≢ 0) → ⊥)
 some_or zero = inr (λ h. h refl)
 some_or (suc n) = inl (λ e. absurd (omega (arith, e)))
 
-at_most_or : (a b : ℕ) → (a ≤ b) ⊎ (b < a)
-at_most_or zero b = inl (omega arith)
-at_most_or (suc a) zero = inr (omega arith)
-at_most_or (suc a) (suc b) = elim (at_most_or a b) [ inl h ↦ inl (omega (arith, h)) | inr h ↦ inr (omega (arith, h)) ]
-
 cheapest_next : (classes : ℕ) (fares : List GroupedFare) (f : GroupedFare) (c : Option ℕ) → Cheapest classes fares c → (d : Option ℕ) × Cheapest classes (fares ++ f ∷ []) d
 cheapest_next classes fares f c h = elim (some_or (bit_and classes (2 ^ f.class))) [ inl o ↦ among c o h | inr closed ↦ (c, cheap_skip classes fares f c closed h) ]
   where
@@ -62,12 +59,6 @@ cheapest_on classes fares (f ∷ more) c h =
 cheapest_of : (classes : ℕ) (fares : List GroupedFare) → (c : Option ℕ) × Cheapest classes fares c
 cheapest_of classes fares = cheapest_on classes [] fares None tt
 
-below_both : (x y z : ℕ) → x ≤ y → y ≤ z → x ≤ z
-below_both x y z h k = omega (arith, h, k)
-
-some_none : {X : Type 0} (o : Option X) (x : X) → o ≡ Some x → o ≡ None → ⊥
-some_none o x h k = cc
-
 pub paths_tabled : (b : Book) (q : Request) → PathsTabled b q
 paths_tabled b q at table attained done = record { attained = attained; covered = λ o price h. cover o price h (done (record { flights = h.numbers; after = o.after }) h.flights h.path o.reverse) }
   where
@@ -80,7 +71,7 @@ paths_tabled b q at table attained done = record { attained = attained; covered 
         unfiled : NoFare b d.from d.to → ⊥
         unfiled none =
             let ends = filed_market o.reverse h.flights d.from d.to h.piece.fare.key d.market (filed_over b q h.flights h.piece o.reverse (sym h.outline.reverse) h.stands) in
-            some_none (live_fare b h.piece.fare.key) h.piece.fare h.stands.fare (none h.piece.fare.key ends.0 ends.1)
+            not_both (live_fare b h.piece.fare.key) h.piece.fare h.stands.fare (none h.piece.fare.key ends.0 ends.1)
 
         found : (legs : List Leg) (classes : ℕ) (sheet : Sheet) (groups : List FareGroup) → OverMarket b q at path h.flights legs classes o.reverse sheet groups → HasGroups b path h.flights classes o.reverse groups table → (e : Entry) × IsIn e table × (e.outline ≡ o) × (e.price ≤ price)
         found legs classes sheet groups over has =
@@ -88,4 +79,4 @@ paths_tabled b q at table attained done = record { attained = attained; covered 
             let cheapest = cheapest_of classes c.group.fares in
             let below = c.below cheapest.0 cheapest.1 in
             let e = has c.group c.within c.rule c.live c.permits below.0 (subst (Cheapest classes c.group.fares) below.1 cheapest.1) in
-            (e.0, e.1, outline_one e.0.outline o path.after h.flights c.group.key o.reverse e.2 c.outline, below_both e.0.price _ price e.3 below.2)
+            (e.0, e.1, outline_one e.0.outline o path.after h.flights c.group.key o.reverse e.2 c.outline, le_on e.0.price _ price e.3 below.2)

@@ -1,5 +1,5 @@
 -- A position's table, tried in each role and slot, gives the outcomes of a residual there. Given on to the crates above.
-use Rattle.std.proofs.Common.{◌≡◌, ℕ, ◌≤◌, List, [], ◌∷◌, Result, Ok, Err, IfOk, Some, refl, sym, subst, inl, inr, arith}
+use Rattle.std.proofs.Common.{◌≡◌, ℕ, ◌≤◌, List, [], Some, refl, sym, subst, arith}
 use Rattle.fare_law.specs.declared.moves.Role.{Role}
 use Rattle.fare_law.specs.declared.requests.Request.{Request}
 use Rattle.fare_law.specs.Book.{Book, live_rule}
@@ -13,17 +13,10 @@ use Rattle.outlines.proofs.ByOutline.{acts_all}
 use Rattle.residual_keys.specs.declared.residual.Chosen.{Chosen}
 use Rattle.residual_keys.specs.Residuals.{State}
 use Rattle.residual_keys.specs.Steps.{IsChosen, Leaves}
-use Rattle.residual_keys.proofs.OneNext.{some_one}
 use Rattle.residual_keys.proofs.StepTaken.{whole}
-
-pub each_in : {X : Type 0} (P : X → Type 0) (xs : List X) (x : X) → Each P xs → IsIn x xs → P x
-each_in P [] x h i = absurd i
-each_in P (y ∷ xs) x h (inl e) = subst P (sym e) h.0
-each_in P (y ∷ xs) x h (inr i) = each_in P xs x h.1 i
-
-in_each : {X : Type 0} (P : X → Type 0) (xs : List X) → ((x : X) → IsIn x xs → P x) → Each P xs
-in_each P [] h = tt
-in_each P (x ∷ xs) h = (h x (inl refl), in_each P xs (λ y i. h y (inr i)))
+use Rattle.law_lemmas.proofs.EachOne.{each_from, each_in}
+use Rattle.law_lemmas.proofs.Numbers.{le_itself}
+use Rattle.law_lemmas.proofs.Options.{some_one}
 
 module _ (b : Book) (q : Request) (r : State) (table : List Entry) (outcomes : List Outcome) (rules : Each (HasRule b) table) (tabled : Tabled b q r.at table) (tried : (o : Outcome) → IsIn o outcomes → IsTried q r table o)
     (least : (t : Outcome) → IsTried q r table t → (o : Outcome) × IsIn o outcomes × (o.next ≡ t.next) × (o.price ≤ t.price)) where
@@ -59,22 +52,14 @@ module _ (b : Book) (q : Request) (r : State) (table : List Entry) (outcomes : L
           (x.0, x.1, x.2, below x.0.price e.price c.price x.3 at_most)
 
   all_outcomes : AreOutcomes b q r outcomes
-  all_outcomes = record { attained = in_each (IsAttained b q r) outcomes attained; covered = covered }
+  all_outcomes = record { attained = each_from (IsAttained b q r) outcomes attained; covered = covered }
 
 pub least_are_outcomes : (b : Book) (q : Request) (r : State) → LeastAreOutcomes b q r
 least_are_outcomes b q r table outcomes rules tabled tried least = all_outcomes b q r table outcomes rules tabled tried least
 
-itself : (n : ℕ) → n ≤ n
-itself n = omega arith
-
 pub tried_are_outcomes : (b : Book) (q : Request) (r : State) → TriedAreOutcomes b q r
-tried_are_outcomes b q r table outcomes rules tabled are = least_are_outcomes b q r table outcomes rules tabled (λ o i. (are o).0 i) (λ t h. (t, (are t).1 h, refl, itself t.price))
+tried_are_outcomes b q r table outcomes rules tabled are = least_are_outcomes b q r table outcomes rules tabled (λ o i. (are o).0 i) (λ t h. (t, (are t).1 h, refl, le_itself t.price))
 
 -- what was added to none is the whole list
 pub grown_gives : (q : Request) (r : State) (table : List Entry) (outcomes : List Outcome) → Grows (IsTried q r table) [] outcomes → GivesOutcomes q r table outcomes
 grown_gives q r table outcomes g b rules tabled = tried_are_outcomes b q r table outcomes rules tabled (λ o. (λ i. (g.are o).0 (subst (IsIn o) g.joined i), λ t. subst (IsIn o) (sym g.joined) ((g.are o).1 t)))
-
--- what follows of the value of a success
-pub if_ok : {A E : Type 0} (P Q : A → Type 0) (r : Result A E) → IfOk r P → ((x : A) → P x → Q x) → IfOk r Q
-if_ok P Q (Ok x) h k = k x h
-if_ok P Q (Err e) h k = tt

@@ -16,9 +16,11 @@ use Rattle.search_steps.specs.declared.least.LeastMove.{LeastMove}
 use Rattle.search_steps.specs.LeastMoves.{AreLeastMoves, BoundBy, Counts, IsSooner, LeaveLive, RestIs, least_as}
 use Rattle.pricing_graph.specs.Givers.{step_as}
 use Rattle.pricing_graph.specs.NodeSteps.{BoundIn, HasNodeStep, IsNextNode}
-use Rattle.pricing_graph.proofs.Keyed.{found_in, key_of_row, place_of, row_found, rows_stay, state_in, still_live}
+use Rattle.pricing_graph.proofs.Keyed.{found_in, key_of_row, place_of, row_found, rows_stay, still_live}
 use Rattle.pricing_graph.proofs.Matching.{matched_least}
-use Rattle.pricing_graph.proofs.NodePlaces.{one_node, some_same}
+use Rattle.pricing_graph.proofs.NodePlaces.{one_node}
+use Rattle.graph_walk.proofs.RowFacts.{row_in}
+use Rattle.law_lemmas.proofs.Options.{some_same}
 
 module _ {K : Type 0} (b : Book) (q : Request) (live : K → Type 0) (state : K → State) (same : K → K → Bool) (es : List (K × Option ℕ)) (alive : AreLive live es) (tells : TellsStates live state same)
     (different : AllDifferent (states (rows_of state es))) where
@@ -87,7 +89,7 @@ module _ {K : Type 0} (b : Book) (q : Request) (live : K → Type 0) (state : K 
       next_node (Some key) rest l h = by (node key) p.1
         where
           there' : IsIn (state' key) (states (rows_of state' es))
-          there' = subst (λ z. IsIn (state' key) (states z)) (sym (rows_stay live live' state state' es keeps alive)) (state_in (state' key) (Some rest) nodes (bound_in (state' key) rest h))
+          there' = subst (λ z. IsIn (state' key) (states z)) (sym (rows_stay live live' state state' es keeps alive)) (row_in (state' key) (Some rest) nodes (bound_in (state' key) rest h))
 
           p : (n : ℕ) × (position (same key) (keys_of es) ≡ Some n) × (slice_get (states (rows_of state' es)) n ≡ Some (state' key))
           p = place_of live' state' same tells' es key (still_live live live' state state' es keeps alive) l there'

@@ -71,16 +71,6 @@ module _ {K X : Type 0} (live : K → Type 0) (state : K → X) (same : K → K 
       let lt : position_or_len (same key) (keys_of es) < length (keys_of es) = let a = r.1 in let c = r.2 in omega (arith, a, c) in
       (r.0, ap (λ t. cond t (Some (position_or_len (same key) (keys_of es))) None) ((Decides-ltb (position_or_len (same key) (keys_of es)) (length (keys_of es))).1 lt) ∙ ap Some r.1, r.3)
 
--- the state of a node is one of the nodes' states
-pub state_in : {X : Type 0} (x : X) (bound : Option ℕ) (nodes : List (X × Option ℕ)) → IsIn (x, bound) nodes → IsIn x (states nodes)
-state_in x bound [] i = absurd i
-state_in x bound (node ∷ nodes) (inl e) = inl (ap (λ z. z.0) e)
-state_in x bound (node ∷ nodes) (inr i) = inr (state_in x bound nodes i)
-
-pub as_many_rows : {K X : Type 0} (f : K → X) (es : List (K × Option ℕ)) → length (rows_of f es) ≡ length es
-as_many_rows f [] = refl
-as_many_rows f (e ∷ es) = ap suc (as_many_rows f es)
-
 -- the state at a place is that of its key
 pub state_at : {K X : Type 0} (f : K → X) (es : List (K × Option ℕ)) (n : ℕ) (key : K) → option_map (λ row. row.0) (slice_get es n) ≡ Some key → slice_get (states (rows_of f es)) n ≡ Some (f key)
 state_at f [] n key h = absurd (cc)
@@ -100,6 +90,3 @@ rows_stay live live' state state' (e ∷ es) k h = ap₂ (λ x rest. (x, e.1) �
 pub still_live : {K X : Type 0} (live live' : K → Type 0) (state state' : K → X) (es : List (K × Option ℕ)) → KeepsStates live live' state state' → AreLive live es → AreLive live' es
 still_live live live' state state' [] k h = tt
 still_live live live' state state' (e ∷ es) k h = ((k e.0 h.0).0, still_live live live' state state' es k h.1)
-
-pub keeps_on : {K X : Type 0} (live live' live'' : K → Type 0) (state state' state'' : K → X) → KeepsStates live live' state state' → KeepsStates live' live'' state' state'' → KeepsStates live live'' state state''
-keeps_on live live' live'' state state' state'' f g k l = let a = f k l in let c = g k a.0 in (c.0, c.1 ∙ a.1)

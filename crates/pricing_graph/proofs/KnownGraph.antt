@@ -24,7 +24,7 @@ use Rattle.residual_keys.specs.Searches.{IsLeast, Least}
 use Rattle.residual_keys.specs.Short.{ReachedFits}
 use Rattle.residual_keys.specs.Steps.{IsChosen, left_at}
 use Rattle.residual_keys.specs.Written.{InLimits}
-use Rattle.residual_keys.proofs.LeastOne.{below_all, in_each, pairs_rest, weaken}
+use Rattle.residual_keys.proofs.LeastOne.{below_all, pairs_rest}
 use Rattle.search_steps.specs.Leads.{IsRoot, MovesCostLess, leads_of, level_of}
 use Rattle.search_steps.proofs.Bridge.{reached_is}
 use Rattle.ticket_order.specs.Coding.{Apart, Coded}
@@ -32,6 +32,7 @@ use Rattle.pricing_graph.specs.Graphs.{IsGraph}
 use Rattle.pricing_graph.specs.NodeSteps.{BoundIn}
 use Rattle.pricing_graph.proofs.NodeMoves.{Known, least_one}
 use Rattle.pricing_graph.proofs.Whole.{first_position, low_moves}
+use Rattle.law_lemmas.proofs.EachOne.{each_member, each_weaker}
 
 -- what holds of the moves of a search
 pub record MoveLaws (b : Book) (q : Request) : Type 0 where
@@ -65,7 +66,7 @@ moves_lawful b q limits request charged surcharged short fits one apart parts or
 pub all_different : {X : Type 0} (R : X → X → Type 0) → ((x y z : X) → R x y → R y z → R x z) → ((x : X) → R x x → ⊥) → (xs : List X) → EachPair R xs → AllDifferent xs
 all_different R trans never [] h = tt
 all_different R trans never (x ∷ xs) h = (
-  weaken (R x) (λ y. x ≢ y) (λ y r e. never x (subst (λ z. R x z) (sym e) r)) xs (below_all R trans x xs h),
+  each_weaker (R x) (λ y. x ≢ y) (λ y r e. never x (subst (λ z. R x z) (sym e) r)) xs (below_all R trans x xs h),
   all_different R trans never xs (pairs_rest R x xs h),
 )
 
@@ -111,7 +112,7 @@ module _ (b : Book) (q : Request) (laws : MoveLaws b q) where
 
   module _ (nodes : List (State × Option ℕ)) (graph : IsGraph b q nodes) where
     least_of : (x : State) (bound : Option ℕ) → IsIn (x, bound) nodes → Least b q x bound
-    least_of x bound i = in_each (λ node. Least b q node.0 node.1) (x, bound) nodes graph.least i
+    least_of x bound i = each_member (λ node. Least b q node.0 node.1) (x, bound) nodes graph.least i
 
     whole : (x : State) (rest : ℕ) → IsIn x (states nodes) → IsLeast b q x rest → BoundIn nodes x rest
     whole x rest i l = let r = bound_there nodes x i in by r.0 r.1

@@ -11,9 +11,12 @@ use Rattle.search_steps.specs.declared.least.LeastMove.{LeastMove}
 use Rattle.search_steps.specs.Leads.{next_of}
 use Rattle.search_steps.specs.LeastMoves.{Counts, RestIs}
 use Rattle.pricing_graph.specs.NodeSteps.{HasStep, IsNextNode, level_at}
-use Rattle.pricing_graph.proofs.NodePlaces.{at_in, at_within, level_is, one_node, some_same}
+use Rattle.pricing_graph.proofs.NodePlaces.{level_is, one_node}
 use Rattle.pricing_graph.proofs.NodeMoves.{Known, at_least, ending, first_step, least_one, onward}
 use Rattle.pricing_graph.proofs.StepRuns.{run_low}
+use Rattle.law_lemmas.proofs.Lists.{got_within}
+use Rattle.law_lemmas.proofs.Members.{got_in}
+use Rattle.law_lemmas.proofs.Options.{some_same}
 
 module _ (b : Book) (q : Request) (xs : List State) (Bound : State → ℕ → Type 0) (known : Known b q xs Bound) where
   abbrev Has : ℕ → Step → Type 0
@@ -64,11 +67,11 @@ module _ (b : Book) (q : Request) (xs : List State) (Bound : State → ℕ → T
 
   pub step_laws : StepLaws Has (length xs) (level_at xs)
   step_laws = record {
-    within = λ n m s h e. let o = onward b q xs Bound known n m s h e in at_within xs m o.left o.left_there;
+    within = λ n m s h e. let o = onward b q xs Bound known n m s h e in got_within xs m o.left o.left_there;
     down = λ n m s h e.
         let o = onward b q xs Bound known n m s h e in
-        let up = known.raises o.from o.left o.mv s.price (at_in xs n o.from o.from_there) o.chosen in
-        let low = known.low o.left (at_in xs m o.left o.left_there) in
+        let up = known.raises o.from o.left o.mv s.price (got_in xs n o.from o.from_there) o.chosen in
+        let low = known.low o.left (got_in xs m o.left o.left_there) in
         omega (arith, up, low, level_is xs n o.from o.from_there, level_is xs m o.left o.left_there);
     apart = apart;
     last = λ n s h e. (ending b q xs Bound known n s h e).total;

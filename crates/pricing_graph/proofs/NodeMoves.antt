@@ -21,7 +21,8 @@ use Rattle.search_steps.specs.LeastMoves.{RestIs}
 use Rattle.search_steps.proofs.Bridge.{chosen_ends, chosen_on}
 use Rattle.ticket_order.specs.Coding.{Apart, Coded}
 use Rattle.pricing_graph.specs.NodeSteps.{HasStep, IsNextNode}
-use Rattle.pricing_graph.proofs.NodePlaces.{at_in, in_at, some_same}
+use Rattle.law_lemmas.proofs.Members.{got_in, in_got}
+use Rattle.law_lemmas.proofs.Options.{some_same}
 
 -- What is known of a graph whose nodes are at the places of these states, with these bounds.
 pub record Known (b : Book) (q : Request) (xs : List State) (Bound : State → ℕ → Type 0) : Type 0 where
@@ -94,9 +95,9 @@ module _ (b : Book) (q : Request) (xs : List State) (Bound : State → ℕ → T
   first_step n x (m ∷ k ∷ ms) price e (fs, p, at, us, rest, mv, run, f) =
       let y : State = record { at = at; units = us; part = part_with x.part (begins m.role) p } in
       let c = goes_chosen b q x m fs p at us mv in
-      let i = known.closed x y m (price_of fs p) (at_in xs n x e) c in
+      let i = known.closed x y m (price_of fs p) (got_in xs n x e) c in
       let r = bound_of_run y (k ∷ ms) rest i run in
-      let place = in_at xs y i in
+      let place = in_got xs y i in
       let le = r.2 in
       (_, step_with n x m (price_of fs p) r.0 (Some y) (Some place.0) e c r.1 place.1, omega (arith, f, le))
 

@@ -1,5 +1,5 @@
 -- Runs of steps from the root's node, read as moves, are runs from the root; and what runs cost.
-use Rattle.std.proofs.Common.{◌≡◌, ◌∙◌, ℕ, suc, ◌*◌, ◌≤◌, ◌<◌, ◌^◌, List, [], ◌∷◌, length, map, Option, Some, None, refl, sym, ap, subst, arith}
+use Rattle.std.proofs.Common.{◌≡◌, ◌∙◌, ℕ, ◌*◌, ◌≤◌, ◌<◌, ◌^◌, List, [], ◌∷◌, length, map, Option, Some, None, refl, sym, subst, arith}
 use Rattle.best_k.specs.declared.lattice.Derivation.{Derivation}
 use Rattle.best_k.specs.Derivations.{Under}
 use Rattle.best_steps.specs.Runs.{IsRun, LeastRuns}
@@ -15,7 +15,6 @@ use Rattle.residual_keys.specs.Residuals.{Run, RunFromRoot, State, begins, no_pa
 use Rattle.residual_keys.specs.Searches.{BestRuns, Drawn, DrawnBefore, IsDrawn}
 use Rattle.residual_keys.specs.Short.{RunIsShort}
 use Rattle.residual_keys.specs.Written.{RunsHaveCodes}
-use Rattle.residual_keys.proofs.LeastOne.{weaken}
 use Rattle.search_steps.specs.declared.least.LeastMove.{LeastMove}
 use Rattle.search_steps.specs.Leads.{IsRoot, MovesCostLess, next_of}
 use Rattle.search_steps.specs.LeastMoves.{Counts, RestIs}
@@ -26,10 +25,7 @@ use Rattle.pricing_graph.specs.NodeSteps.{BoundIn, HasNodeStep, IsRootNode}
 use Rattle.pricing_graph.proofs.Matching.{matched_least}
 use Rattle.pricing_graph.proofs.NodeMoves.{Known, ends_chosen, goes_chosen}
 use Rattle.pricing_graph.proofs.StepRuns.{run_steps, steps_run}
-
-pub as_many_nodes : {X : Type 0} (nodes : List (X × Option ℕ)) → length (states nodes) ≡ length nodes
-as_many_nodes [] = refl
-as_many_nodes (node ∷ nodes) = ap suc (as_many_nodes nodes)
+use Rattle.law_lemmas.proofs.EachOne.{each_weaker}
 
 -- ---- what runs cost
 
@@ -90,7 +86,7 @@ module _ (b : Book) (q : Request) (nodes : List (State × Option ℕ)) (root : �
 
   -- one word is the code of one list of moves
   moves_one : (word : List ℕ) (ms ns : List Move) → IsCodeOf word ms → IsCodeOf word ns → ms ≡ ns
-  moves_one word ms ns h k = same ms ns (weaken IsMove Coded (λ m i. i.coded) ms h.each) (weaken IsMove Coded (λ m i. i.coded) ns k.each) (sym h.code_is ∙ k.code_is)
+  moves_one word ms ns h k = same ms ns (each_weaker IsMove Coded (λ m i. i.coded) ms h.each) (each_weaker IsMove Coded (λ m i. i.coded) ns k.each) (sym h.code_is ∙ k.code_is)
 
   to : (d : Derivation) (run : Drawn) → Reads d run → Has d → IsDrawn b q run
   to d run r h =

@@ -10,7 +10,7 @@ use Rattle.residual_keys.specs.AskedKeys.{Keys}
 use Rattle.residual_keys.specs.Residuals.{State}
 use Rattle.pricing_graph.specs.Graphs.{IsGraph}
 use Rattle.pricing_graph.specs.Settled.{AreSettledFrom, HasKeysSettled}
-use Rattle.pricing_graph.proofs.NodePlaces.{some_same}
+use Rattle.law_lemmas.proofs.Options.{some_same}
 
 first_or_behind : (m n : ℕ) → n ≤ m → (n + 1 ≤ m) ⊎ (m ≡ n)
 first_or_behind zero zero h = inr refl

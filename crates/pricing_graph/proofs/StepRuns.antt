@@ -14,8 +14,9 @@ use Rattle.residual_keys.specs.Steps.{IsChosen}
 use Rattle.search_steps.specs.Leads.{level_of, next_of}
 use Rattle.search_steps.proofs.Bridge.{chosen_ends, chosen_on}
 use Rattle.pricing_graph.specs.NodeSteps.{HasStep}
-use Rattle.pricing_graph.proofs.NodePlaces.{at_in, in_at, some_same}
 use Rattle.pricing_graph.proofs.NodeMoves.{Known, bound_of_run, ending, goes_chosen, ends_chosen, onward, step_with}
+use Rattle.law_lemmas.proofs.Members.{got_in, in_got}
+use Rattle.law_lemmas.proofs.Options.{some_same}
 
 module _ (b : Book) (q : Request) (xs : List State) (Bound : State → ℕ → Type 0) (known : Known b q xs Bound) where
   abbrev Has : ℕ → Step → Type 0
@@ -41,13 +42,13 @@ module _ (b : Book) (q : Request) (xs : List State) (Bound : State → ℕ → T
   run_low n x (s ∷ []) e (k, f, h, l) =
       let same : n ≡ k = cc in
       let low = step_low k s h in
-      let level = known.low x (at_in xs n x e) in
+      let level = known.low x (got_in xs n x e) in
       (omega (arith, low.0, level), omega (arith, low.1, level, length-append s.word []))
   run_low n x (s ∷ t ∷ more) e (k, f, h, (m, g, i, l)) =
       let same : k ≡ n = cc in
       let o = onward b q xs Bound known k m s h g in
       let from : o.from ≡ x = some_same o.from x (sym o.from_there ∙ ap (slice_get xs) same ∙ e) in
-      let up = known.raises o.from o.left o.mv s.price (at_in xs k o.from o.from_there) o.chosen in
+      let up = known.raises o.from o.left o.mv s.price (got_in xs k o.from o.from_there) o.chosen in
       let level = ap level_of from in
       let low = step_low k s h in
       let rest = run_low m o.left (t ∷ more) o.left_there (m, refl, i, l) in
@@ -78,9 +79,9 @@ module _ (b : Book) (q : Request) (xs : List State) (Bound : State → ℕ → T
   run_steps n x (m ∷ k ∷ ms) price e (fs, p, at, us, rest, mv, run, f) =
       let y : State = record { at = at; units = us; part = part_with x.part (begins m.role) p } in
       let c = goes_chosen b q x m fs p at us mv in
-      let i = known.closed x y m (price_of fs p) (at_in xs n x e) c in
+      let i = known.closed x y m (price_of fs p) (got_in xs n x e) c in
       let r = bound_of_run b q xs Bound known y (k ∷ ms) rest i run in
-      let place = in_at xs y i in
+      let place = in_got xs y i in
       let more = run_steps place.0 y (k ∷ ms) rest place.1 run in (
         _ ∷ more.0,
         (n, refl, step_with b q xs Bound known n x m (price_of fs p) r.0 (Some y) (Some place.0) e c r.1 place.1, more.1),

@@ -1,8 +1,6 @@
 -- What a walk of the steps of a search has found is what the search reaches, at its least prices; and no move costs much.
-use Rattle.std.proofs.Common.{◌≡◌, ◌↔◌, ◌∙◌, ℕ, ◌≤◌, List, [], ◌∷◌, length, Option, Some, None, refl, sym, ap, subst, arith, slice_get}
+use Rattle.std.proofs.Common.{◌≡◌, ◌↔◌, ◌∙◌, ℕ, ◌≤◌, List, [], ◌∷◌, length, Option, Some, None, refl, sym, ap, arith, slice_get}
 use Rattle.fare_book.specs.Keeping.{Limited}
-use Rattle.fare_law.specs.declared.fares.FareKind.{FareKind}
-use Rattle.fare_law.specs.declared.fares.FareKind.TheVariants.{O, R, S}
 use Rattle.fare_law.specs.declared.flights.Flight.{Flight}
 use Rattle.fare_law.specs.declared.moves.Move.{Move}
 use Rattle.fare_law.specs.declared.requests.Request.{Request}
@@ -11,7 +9,7 @@ use Rattle.fare_law.specs.declared.rules.Rule.{Rule}
 use Rattle.fare_law.specs.declared.tickets.Piece.{Piece}
 use Rattle.fare_law.specs.Book.{Book}
 use Rattle.fare_law.specs.Lists.{Each, IsIn}
-use Rattle.fare_law.specs.Parts.{price_of, share, stopover_charge, surcharges}
+use Rattle.fare_law.specs.Parts.{price_of, stopover_charge, surcharges}
 use Rattle.fare_law.specs.RuleLimits.{IsRule}
 use Rattle.flight_paths.specs.declared.positions.Position.{Position}
 use Rattle.flight_paths.specs.Positions.{before_slice}
@@ -20,13 +18,14 @@ use Rattle.graph_walk.specs.declared.faults.WalkFault.{WalkFault}
 use Rattle.graph_walk.specs.declared.faults.WalkFault.TheVariants.{TooLarge as WalkedTooFar, Mem as NoMemory}
 use Rattle.graph_walk.specs.Steps.{ExceedsIf}
 use Rattle.graph_walk.specs.Walks.{AreLeast, AreReached, Costs, LeastBy, Reached, states}
-use Rattle.graph_walk.proofs.RowFacts.{each_in, in_each}
 use Rattle.graph_walk.proofs.Ending.{exceeds_if}
 use Rattle.residual_keys.specs.Residuals.{Moves, State, no_part}
 use Rattle.residual_keys.specs.Searches.{Least, Reached as ReachedByMoves}
 use Rattle.pricing_graph.specs.Graphs.{AreFound, IsTooLarge, fault_as}
 use Rattle.search_steps.specs.Leads.{IsRoot, MovesCostLess, leads_of}
 use Rattle.search_steps.proofs.Bridge.{reached_is}
+use Rattle.law_lemmas.proofs.EachOne.{each_from, each_member}
+use Rattle.law_lemmas.proofs.LawFacts.{low_share}
 
 pub first_position : (b : Book) (slices : List Slice) → 1 ≤ length slices → (at : Position) × (before_slice b 0 (slice_get slices 0) None ≡ Some at)
 first_position b [] h = absurd (omega (arith, h))
@@ -44,15 +43,10 @@ are_found b q root nodes is h = record { once = h.once; are = is (states nodes) 
 
 pub are_least : (b : Book) (q : Request) (nodes : List (State × Option ℕ)) → ((x : State) (bound : Option ℕ) → LeastBy (Costs (leads_of b q) (Some x)) bound → Least b q x bound)
     → AreLeast (leads_of b q) nodes → Each (λ node. Least b q node.0 node.1) nodes
-are_least b q nodes is h = in_each (λ node. Least b q node.0 node.1) nodes (λ node i. is node.0 node.1 (each_in (λ r. LeastBy (Costs (leads_of b q) (Some r.0)) r.1) node nodes h i))
+are_least b q nodes is h = each_from (λ node. Least b q node.0 node.1) nodes (λ node i. is node.0 node.1 (each_member (λ r. LeastBy (Costs (leads_of b q) (Some r.0)) r.1) node nodes h i))
 
 pub too_large : (b : Book) (q : Request) (root : State) (budget : ℕ) (fault : WalkFault) → IsRoot b q root → ExceedsIf (Reached (leads_of b q) root) budget fault → ExceedsIf (ReachedByMoves b q) budget fault
 too_large b q root budget fault is h = exceeds_if (Reached (leads_of b q) root) (ReachedByMoves b q) budget fault (λ x r. (reached_is b q root x is).0 r) h
-
-share_low : (kind : FareKind) (amount : ℕ) → amount ≤ 1000000000 → share kind amount ≤ 1000000000
-share_low O amount h = h
-share_low R amount h = omega (arith, h)
-share_low S amount h = h
 
 low_piece : (b : Book) (q : Request) (x : State) (m : Move) (fs : List Flight) (p : Piece) (after : Option Position) (us : List OpenUnit) → Limited b
     → ((r : Rule) (gs : List Flight) → IsRule r → length gs ≤ 4 → stopover_charge r gs ≤ 3000000) → ((r : Rule) (gs : List Flight) → IsRule r → length gs ≤ 4 → surcharges r.cat12 gs ≤ 32000000)
@@ -61,7 +55,7 @@ low_piece b q x m fs p after us limited charged surcharged h =
     let fare = (limited.fares p.fare.key p.fare h.stands.fare).1 in
     let rule = limited.rules p.fare.key.carrier p.fare.rule p.rule h.stands.rule in
     let few = h.lawful.shape.few in
-    let one = share_low p.fare.kind p.fare.amount fare.amount in
+    let one = low_share p.fare.kind p.fare.amount fare.amount in
     let two = charged p.rule fs rule few in
     let three = surcharged p.rule fs rule few in
     omega (arith, one, two, three)
@@ -76,7 +70,3 @@ low_moves b q limited charged surcharged x c h =
 pub large_as : (b : Book) (q : Request) (budget : ℕ) (fault : WalkFault) → ExceedsIf (ReachedByMoves b q) budget fault → IsTooLarge b q budget (fault_as budget fault)
 large_as b q budget WalkedTooFar h = (refl, h)
 large_as b q budget NoMemory h = tt
-
--- what is said of a book and a request that are these
-pub said_of : (P : Book → Request → Type 0) (b c : Book) (q r : Request) → b ≡ c → q ≡ r → P b q → P c r
-said_of P b c q r e f h = subst (λ z. P c z) f (subst (λ z. P z q) e h)

@@ -1,20 +1,14 @@
 -- A request within its limits that was written is read again as itself.
-use Rattle.std.proofs.Common.{◌≡◌, ◌≤◌, ℕ, max, pos, nat_le, eq-eqb, true, false, ◌||◌, List, [], ◌∷◌, length, map, Some, Ok, refl, arith, sym, subst, ap, ◌∙◌}
-use Rattle.std.specs.Char.{is_ascii_uppercase}
-use Rattle.std.specs.List.{list_all}
+use Rattle.std.proofs.Common.{◌≡◌, ◌≤◌, ℕ, max, pos, false, ◌||◌, List, [], ◌∷◌, map, Some, Ok, refl, arith, sym, subst, ap, ◌∙◌}
 use Rattle.std.specs.Str.{IsUtf8}
-use Rattle.std.proofs.lemmas.Bool.Decides.{nat_tests}
 use Rattle.std.proofs.lemmas.Str.{is_utf8-from_IsUtf8}
 use Rattle.serde_json.specs.Data.{Data, Items, no_items, item, depth, items_depth}
 use Rattle.serde_json.specs.Read.{read, max_depth}
 use Rattle.serde_json.specs.Written.{has_float, items_have_float}
 use Rattle.fare_law.specs.Lists.{Each}
-use Rattle.fare_law.specs.declared.names.Place.{Place}
 use Rattle.fare_law.specs.declared.requests.Request.{Request}
 use Rattle.fare_law.specs.declared.requests.Slice.{Slice}
 use Rattle.json_form.specs.Items.{each_item}
-use Rattle.name_text.specs.Names.{place_of}
-use Rattle.fare_law.specs.Limits.{IsCapital, IsPlace}
 use Rattle.json_form.specs.Spelled.{spelled}
 use Rattle.request_text.specs.declared.asked.Asked.{Asked}
 use Rattle.request_text.specs.declared.asked.AskedSlice.{AskedSlice}
@@ -25,20 +19,7 @@ use Rattle.request_text.specs.Limits.{allowed, or_refused, request_asked, slice_
 use Rattle.fare_law.specs.Limits.{IsSlice, IsRequest}
 use Rattle.request_text.specs.Reading.{request_of, request_spelled}
 use Rattle.request_text.specs.Text.{WritesSlice, WritesSlices, WritesRequest}
-
-le_true : (a b : ℕ) → a ≤ b → nat_le a b ≡ true
-le_true a b h = grind (arith, nat_tests)
-
-capital_again : (c : ℕ) → IsCapital c → is_ascii_uppercase c ≡ true
-capital_again c h = grind (arith, nat_tests)
-
-capitals_again : (cs : List ℕ) → Each IsCapital cs → list_all is_ascii_uppercase cs ≡ true
-capitals_again [] h = refl
-capitals_again (c ∷ cs) h = rw (capital_again c h.0) (capitals_again cs h.1)
-
-place_again : (p : Place) → IsPlace p → place_of p.0 ≡ Some p
-unfolding place_of
-place_again p h = rw (eq-eqb (length p.0) 3 h.0, capitals_again p.0 h.1) refl
+use Rattle.name_text.proofs.TextLemmas.{place_again}
 
 -- a slice and a request as they are asked for
 

@@ -8,17 +8,13 @@ use Rattle.serde_json.specs.declared.value.Value.{Value}
 use Rattle.fare_law.specs.Lists.{Each}
 use Rattle.fare_law.specs.declared.requests.Slice.{Slice}
 use Rattle.fare_law.specs.declared.names.Place.{Place}
-use Rattle.fare_law.specs.Limits.{IsPlace, IsCapital}
+use Rattle.fare_law.specs.Limits.{IsPlace}
 use Rattle.fare_law.specs.Limits.{IsSlice}
 use Rattle.request_text.specs.Text.{WritesSlice, WritesSlices}
+use Rattle.law_lemmas.proofs.Words.{capitals_are_ascii}
 
 pub ascii_is_utf8 : (bs : List ℕ) → IsAscii bs → IsUtf8 bs
 ascii_is_utf8 = IsUtf8-from_ascii
-
-capitals_are_ascii : (cs : List ℕ) → Each IsCapital cs → IsAscii cs
-capitals_are_ascii [] h i = omega arith
-capitals_are_ascii (c ∷ cs) h zero = omega arith
-capitals_are_ascii (c ∷ cs) h (suc i) = capitals_are_ascii cs h.1 i
 
 pub place_is_ascii : (p : Place) → IsPlace p → IsAscii p.0
 place_is_ascii p h = capitals_are_ascii p.0 h.1

@@ -1,5 +1,5 @@
 -- Slices whose windows were judged, and those that are left.
-use Rattle.std.proofs.Common.{◌≡◌, ◌<◌, ◌≤◌, ◌+◌, ℕ, zero, suc, Bool, true, false, ◌||◌, List, [], ◌∷◌, ◌++◌, length, drop, get_or, refl, ap, sym, ◌∙◌, Option, Some, None, append_assoc, append-nil, drop-cons, add-one, option_map, option_and_then, arith}
+use Rattle.std.proofs.Common.{◌≡◌, ◌<◌, ◌≤◌, ◌+◌, ℕ, zero, suc, false, List, [], ◌∷◌, ◌++◌, length, drop, get_or, refl, ap, sym, ◌∙◌, Option, Some, None, append_assoc, append-nil, drop-cons, add-one, option_map, option_and_then, arith}
 use Rattle.std.proofs.lemmas.List.{drop_all}
 use Rattle.fare_law.specs.declared.requests.Slice.{Slice}
 use Rattle.request_text.specs.declared.asked.AskedSlice.{AskedSlice}
@@ -9,6 +9,7 @@ use Rattle.fare_law.specs.Lists.{Each}
 use Rattle.request_text.specs.Form.{IsAskedSlice}
 use Rattle.request_text.specs.Steps.{windowed, each_windowed, stays}
 use Rattle.fare_law.specs.Limits.{IsSlice, EndsDiffer}
+use Rattle.law_lemmas.proofs.Tests.{neither}
 
 -- slices that stand before the others
 abbrev pub after : List Slice → Option (List Slice) → Option (List Slice)
@@ -53,10 +54,6 @@ windows_grow [] s h w = (w, tt)
 windows_grow (x ∷ xs) s h w = (h.0, windows_grow xs s h.1 w)
 
 pub ruleset window_steps = (after_none, windows_more, windows_bad, windows_all, asked_at, windows_grow)
-
-neither : (a b : Bool) → (a || b) ≡ false → (a ≡ false) × (b ≡ false)
-neither true b e = absurd (cc)
-neither false b e = (refl, e)
 
 departs : (s : Slice) → stays s ≡ false → EndsDiffer s
 departs s e same = let t = (bytes_eq-Decides s.from.0 s.to.0).1 (ap (λ p. p.0) same) in absurd (cc)

@@ -13,7 +13,6 @@ use Rattle.fare_law.specs.Codes.{run_code}
 use Rattle.fare_law.specs.Limits.{HasKeys}
 use Rattle.flight_paths.specs.declared.positions.Position.{Position}
 use Rattle.flight_paths.specs.Positions.{Flies}
-use Rattle.flight_paths.proofs.Fitting.{within}
 use Rattle.open_unit.specs.declared.units.OpenUnit.{OpenUnit}
 use Rattle.open_unit.specs.OpenUnits.{gone_on, opened}
 use Rattle.ticket_order.specs.Coding.{Coded, IsCodeOf, IsMove}
@@ -21,16 +20,17 @@ use Rattle.residual_keys.specs.Residuals.{Moves, Run, RunFromRoot, State, UnitSt
 use Rattle.residual_keys.proofs.NamesKept.{remove_few}
 use Rattle.residual_keys.proofs.OneNext.{run_has_keys}
 use Rattle.residual_keys.proofs.Short.{root_run_short}
+use Rattle.law_lemmas.proofs.Lists.{got_within}
 
 -- a step of at most two open units leaves at most two, and its slot is one of two
 step_few : (role : Role) (slot : ℕ) (us : List OpenUnit) (p : Piece) (us' : List OpenUnit) → length us ≤ 2 → UnitStep role slot us p us' → (slot < 2) × (length us' ≤ 2)
 step_few Alone slot us p us' few s = (omega (arith, s.0), subst (λ xs. length xs ≤ 2) (sym s.2) few)
 step_few Opens slot us p us' few s = (omega (arith, s.0), subst (λ xs. length xs ≤ 2) (sym s.3) (omega (arith, length-append us (opened p ∷ []), s.2)))
-step_few GoesOn slot us p us' few s = (omega (arith, few, within us slot s.0 s.1), subst (λ xs. length xs ≤ 2) (sym s.3) (kept few))
+step_few GoesOn slot us p us' few s = (omega (arith, few, got_within us slot s.0 s.1), subst (λ xs. length xs ≤ 2) (sym s.3) (kept few))
   where
     kept : length us ≤ 2 → length (set us slot (gone_on s.0 p)) ≤ 2
     kept h = rw length-set h
-step_few Closes slot us p us' few s = (omega (arith, few, within us slot s.0 s.1), subst (λ xs. length xs ≤ 2) (sym s.3) (omega (arith, few, remove_few us slot (within us slot s.0 s.1))))
+step_few Closes slot us p us' few s = (omega (arith, few, got_within us slot s.0 s.1), subst (λ xs. length xs ≤ 2) (sym s.3) (omega (arith, few, remove_few us slot (got_within us slot s.0 s.1))))
 
 -- the numbers of flights that lead on are the timetable's, as many as the flights
 numbers_small : (b : Book) (sl : List Slice) (start : Option Position) (ns : List ℕ) (fs : List Flight) (end : Option Position) → length b.timetable.flights ≤ 200000 → Flies b sl start ns fs end
@@ -41,7 +41,7 @@ numbers_small b sl start (n ∷ ns) [] end few h = absurd h
 numbers_small b sl None (n ∷ ns) (f ∷ fs) end few h = absurd h
 numbers_small b sl (Some at) (n ∷ ns) (f ∷ fs) end few (s, is, t, next, leads, rest) =
     let r = numbers_small b sl next ns fs end few rest in
-    ((omega (arith, few, within b.timetable.flights n f t.known), r.0), omega (arith, r.1))
+    ((omega (arith, few, got_within b.timetable.flights n f t.known), r.0), omega (arith, r.1))
 
 move_fits : (b : Book) (q : Request) (x : State) (m : Move) (fs : List Flight) (p : Piece) (next : Option Position) (us : List OpenUnit) → length b.timetable.flights ≤ 200000 → length x.units ≤ 2 → Coded m → Moves b q x m fs p next us
     → IsMove m × (length us ≤ 2)

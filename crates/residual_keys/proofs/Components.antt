@@ -1,34 +1,31 @@
 -- The flights of a component from their numbers, its legs, and its last flight. Given on to the crates above.
-use Rattle.std.proofs.Common.{◌≡◌, ℕ, zero, suc, pos, ◌-◌, ◌≤◌, ◌<◌, List, [], ◌∷◌, ◌++◌, length, take, get_or, slice_get, All, Some, refl, sym, ap, subst, arith}
+use Rattle.std.proofs.Common.{◌≡◌, ℕ, zero, suc, pos, ◌-◌, ◌≤◌, ◌<◌, List, [], ◌∷◌, ◌++◌, length, take, get_or, All, refl, sym, ap, subst, arith}
 use Rattle.std.proofs.lemmas.List.Elements.{All-cons, All-nil}
 use Rattle.fare_law.specs.declared.flights.Flight.{Flight}
 use Rattle.fare_law.specs.declared.sheets.Leg.{Leg}
 use Rattle.fare_law.specs.Book.{Book}
-use Rattle.fare_law.specs.Lists.{Each, Matched, OnFirst, OnLast}
+use Rattle.fare_law.specs.Lists.{Each, OnFirst, OnLast}
 use Rattle.fare_law.specs.Offers.{flights_of}
 use Rattle.fare_law.specs.Parts.{Numbers}
-use Rattle.flight_paths.proofs.Fitting.{within}
+use Rattle.law_lemmas.proofs.EachOne.{each_got}
+use Rattle.law_lemmas.proofs.Ends.{last_like}
+use Rattle.law_lemmas.proofs.Lists.{get_is, got_within}
 
 -- what stands for a flight past the end of a list
 abbrev pub no_flight : Flight
 no_flight = record { carrier = record { 0 = [] }; number = 0; from = record { 0 = [] }; to = record { 0 = [] }; day = pos 0; minute = 0; dep = pos 0; arr = pos 0 }
 
-got_is : {X : Type 0} (xs : List X) (n : ℕ) (x d : X) → slice_get xs n ≡ Some x → get_or xs n d ≡ x
-got_is [] n x d h = cc
-got_is (y ∷ xs) zero x d h = cc
-got_is (y ∷ xs) (suc n) x d h = got_is xs n x d h
-
 pub number_within : (b : Book) (ns : List ℕ) (fs : List Flight) (i : ℕ) → Numbers b ns fs → i < length ns → get_or ns i 0 < length b.timetable.flights
 number_within b [] fs i h lt = absurd (omega arith)
 number_within b (n ∷ ns) [] i h lt = absurd h
-number_within b (n ∷ ns) (f ∷ fs) zero h lt = within b.timetable.flights n f h.0
+number_within b (n ∷ ns) (f ∷ fs) zero h lt = got_within b.timetable.flights n f h.0
 number_within b (n ∷ ns) (f ∷ fs) (suc i) h lt = number_within b ns fs i h.1 (omega arith)
 
 -- the flights so far and one more
 pub flights_next : (b : Book) (ns : List ℕ) (fs : List Flight) (i : ℕ) (d : Flight) → Numbers b ns fs → i < length ns → take (suc i) fs ≡ take i fs ++ get_or b.timetable.flights (get_or ns i 0) d ∷ []
 flights_next b [] fs i d h lt = absurd (omega arith)
 flights_next b (n ∷ ns) [] i d h lt = absurd h
-flights_next b (n ∷ ns) (f ∷ fs) zero d h lt = ap (λ x. x ∷ []) (sym (got_is b.timetable.flights n f d h.0))
+flights_next b (n ∷ ns) (f ∷ fs) zero d h lt = ap (λ x. x ∷ []) (sym (get_is b.timetable.flights n f d h.0))
 flights_next b (n ∷ ns) (f ∷ fs) (suc i) d h lt = ap (λ xs. f ∷ xs) (flights_next b ns fs i d h.1 (omega arith))
 
 pub flights_all : (b : Book) (ns : List ℕ) (fs : List Flight) (i : ℕ) → Numbers b ns fs → length ns ≤ i → take i fs ≡ fs
@@ -38,13 +35,6 @@ flights_all b [] (f ∷ fs) i h le = absurd h
 flights_all b (n ∷ ns) [] i h le = absurd h
 flights_all b (n ∷ ns) (f ∷ fs) zero h le = absurd (omega arith)
 flights_all b (n ∷ ns) (f ∷ fs) (suc i) h le = ap (λ xs. f ∷ xs) (flights_all b ns fs i h.1 (omega arith))
-
--- one more of each
-pub matched_more : {X Y : Type 0} (R : X → Y → Type 0) (xs : List X) (ys : List Y) (x : X) (y : Y) → Matched R xs ys → R x y → Matched R (xs ++ x ∷ []) (ys ++ y ∷ [])
-matched_more R [] [] x y h r = (r, tt)
-matched_more R [] (z ∷ ys) x y h r = absurd h
-matched_more R (w ∷ xs) [] x y h r = absurd h
-matched_more R (w ∷ xs) (z ∷ ys) x y h r = (h.0, matched_more R xs ys x y h.1 r)
 
 pub legs_more : (legs : List Leg) (leg : Leg) → flights_of (legs ++ leg ∷ []) ≡ flights_of legs ++ leg.flight ∷ []
 legs_more [] leg = refl
@@ -58,24 +48,13 @@ last_stands (f ∷ g ∷ fs) d h = subst (λ k. OnLast (λ x. get_or (f ∷ g �
     shift : (k : ℕ) → suc (suc k - 1) ≡ suc (suc k) - 1
     shift k = omega arith
 
-pub on_last_to : {X : Type 0} (P Q : X → Type 0) (xs : List X) → OnLast P xs → ((x : X) → P x → Q x) → OnLast Q xs
-on_last_to P Q [] h to = h
-on_last_to P Q (x ∷ []) h to = to x h
-on_last_to P Q (x ∷ y ∷ ys) h to = on_last_to P Q (y ∷ ys) h to
-
--- flights of a list whose elements are within limits are too
-pub got_holds : {X : Type 0} (P : X → Type 0) (xs : List X) (n : ℕ) (x : X) → Each P xs → slice_get xs n ≡ Some x → P x
-got_holds P [] n x h e = cc
-got_holds P (y ∷ xs) zero x h e = let same : y ≡ x = cc in subst P same h.0
-got_holds P (y ∷ xs) (suc n) x h e = got_holds P xs n x h.1 e
-
 pub numbered_hold : (P : Flight → Type 0) (b : Book) (ns : List ℕ) (fs : List Flight) → Each P b.timetable.flights → Numbers b ns fs → All P fs
 numbered_hold P b [] [] h k = All-nil P
 numbered_hold P b [] (f ∷ fs) h k = absurd k
 numbered_hold P b (n ∷ ns) [] h k = absurd k
-numbered_hold P b (n ∷ ns) (f ∷ fs) h k = All-cons P f fs (got_holds P b.timetable.flights n f h k.0) (numbered_hold P b ns fs h k.1)
+numbered_hold P b (n ∷ ns) (f ∷ fs) h k = All-cons P f fs (each_got P b.timetable.flights n f h k.0) (numbered_hold P b ns fs h k.1)
 
 -- what holds of the last flight, beside what holds of the first
 pub on_ends : (P : Flight → Flight → Type 0) (first last : Flight) (fs : List Flight) → OnFirst (λ f. first ≡ f) fs → OnLast (λ f. last ≡ f) fs → P first last → OnFirst (λ f. OnLast (λ z. P f z) fs) fs
 on_ends P first last [] a b h = absurd a
-on_ends P first last (f ∷ fs) a b h = on_last_to (λ z. last ≡ z) (λ z. P f z) (f ∷ fs) b (λ z e. subst (λ y. P f y) e (subst (λ y. P y last) a h))
+on_ends P first last (f ∷ fs) a b h = last_like (λ z. last ≡ z) (λ z. P f z) (f ∷ fs) b (λ z e. subst (λ y. P f y) e (subst (λ y. P y last) a h))

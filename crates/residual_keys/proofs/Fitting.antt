@@ -11,9 +11,9 @@ use Rattle.fare_law.specs.Lists.{Each}
 use Rattle.fare_law.specs.Parts.{Shape}
 use Rattle.flight_paths.specs.declared.positions.Position.{Position}
 use Rattle.flight_paths.specs.Positions.{via_after, position_inside, Fits, KeepsOff, IsPath, via_places, Flies, LeadsTo, before_slice, start_of_range, end_of_range, before_first, is_zero, fits_before, fits_inside}
-use Rattle.flight_paths.proofs.Fitting.{within}
 use Rattle.residual_keys.specs.Residuals.{State, LeadsFrom, begins, part_with, no_part}
 use Rattle.residual_keys.specs.Searches.{Reached}
+use Rattle.law_lemmas.proofs.Lists.{got_within}
 
 -- a range lies in the timetable
 begins_low : (t : Flight → Bool) (fs : List Flight) → is_zero (end_of_range t fs) ≡ false → before_first t fs ≤ end_of_range t fs
@@ -50,7 +50,7 @@ FitsEnd b sl (Some at) = Fits b sl at
 before_fits : (b : Book) (sl : List Slice) (i : ℕ) (o : Option Slice) (arrival : Option ℤ) → slice_get sl i ≡ o → FitsEnd b sl (before_slice b i o arrival)
 before_fits b sl i None arrival e = tt
 before_fits b sl i (Some s) arrival e = record {
-  slice = within sl i s e;
+  slice = got_within sl i s e;
   leg = omega arith;
   via = (λ h. absurd (true≢false (sym h)), λ h. absurd (never h));
   range = start_low (fits_before b s arrival) b.timetable.flights;
@@ -69,7 +69,7 @@ via_fits l p = elim (cases_eq l 1) [
 pub leads_fits : (b : Book) (sl : List Slice) (s : Slice) (at : Position) (f : Flight) (next : Option Position) → slice_get sl at.slice ≡ Some s → LeadsTo b sl s at f next → FitsEnd b sl next
 leads_fits b sl s at f next is (inl h) = subst (FitsEnd b sl) (sym h.1) (before_fits b sl (suc at.slice) (slice_get sl (suc at.slice)) (Some f.arr) refl)
 leads_fits b sl s at f next is (inr h) = subst (FitsEnd b sl) (sym h.2) (record {
-  slice = within sl at.slice s is;
+  slice = got_within sl at.slice s is;
   leg = omega (arith, h.1);
   via = via_fits at.leg at.place;
   range = start_low (fits_inside b f.to f.arr) b.timetable.flights;

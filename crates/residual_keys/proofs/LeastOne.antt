@@ -1,19 +1,11 @@
 -- In a strict order, total on what is ordered, the list of the k least is one.
 use Rattle.std.proofs.Common.{◌≡◌, ℕ, ◌-◌, ◌⊎◌, List, [], ◌∷◌, sym, ap₂, ◌∙◌, refl, subst, inl, inr, arith}
 use Rattle.fare_law.specs.Lists.{Each, EachPair, IsIn, KLeast}
-
-pub weaken : {X : Type 0} (P Q : X → Type 0) → ((x : X) → P x → Q x) → (xs : List X) → Each P xs → Each Q xs
-weaken P Q f [] h = tt
-weaken P Q f (x ∷ xs) h = (f x h.0, weaken P Q f xs h.1)
+use Rattle.law_lemmas.proofs.EachOne.{each_member, each_weaker}
 
 both : {X : Type 0} (P Q : X → Type 0) (xs : List X) → Each P xs → Each Q xs → Each (λ x. P x × Q x) xs
 both P Q [] h k = tt
 both P Q (x ∷ xs) h k = ((h.0, k.0), both P Q xs h.1 k.1)
-
-pub in_each : {X : Type 0} (P : X → Type 0) (x : X) (xs : List X) → Each P xs → IsIn x xs → P x
-in_each P x [] h i = absurd i
-in_each P x (y ∷ xs) h (inl e) = subst P (sym e) h.0
-in_each P x (y ∷ xs) h (inr i) = in_each P x xs h.1 i
 
 pub pairs_rest : {X : Type 0} (R : X → X → Type 0) (x : X) (xs : List X) → EachPair R (x ∷ xs) → EachPair R xs
 pairs_rest R x [] h = tt
@@ -21,7 +13,7 @@ pairs_rest R x (y ∷ ys) h = h.1
 
 pub below_all : {X : Type 0} (Below : X → X → Type 0) → ((x y z : X) → Below x y → Below y z → Below x z) → (x : X) (xs : List X) → EachPair Below (x ∷ xs) → Each (Below x) xs
 below_all Below trans x [] h = tt
-below_all Below trans x (y ∷ ys) h = (h.0, weaken (Below y) (Below x) (λ z k. trans x y z h.0 k) ys (below_all Below trans y ys h.1))
+below_all Below trans x (y ∷ ys) h = (h.0, each_weaker (Below y) (Below x) (λ z k. trans x y z h.0 k) ys (below_all Below trans y ys h.1))
 
 -- In a strict order, total on what Has names, the list of the k least is one.
 pub k_least_one : {X : Type 0} (Below : X → X → Type 0) → ((x y z : X) → Below x y → Below y z → Below x z) → ((x : X) → Below x x → ⊥)
@@ -56,4 +48,4 @@ k_least_one {X} Below trans never (x ∷ xs) (y ∷ ys) Has k total h g =
   where
     out : (u v : X) (vs : List X) → Below u v → Each (Below v) vs → IsIn u (v ∷ vs) → ⊥
     out u v vs lt all (inl s) = never v (subst (λ w. Below w v) s lt)
-    out u v vs lt all (inr i) = never u (trans u v u lt (in_each (Below v) u vs all i))
+    out u v vs lt all (inr i) = never u (trans u v u lt (each_member (Below v) u vs all i))

@@ -25,7 +25,8 @@ use Rattle.residual_keys.proofs.Adding.{adds_none}
 use Rattle.residual_keys.proofs.Offered.{filed_market}
 use Rattle.residual_keys.proofs.Sheeted.{sheet_one}
 use Rattle.residual_keys.proofs.StepFacts.{moves_key}
-use Rattle.residual_keys.proofs.StepTaken.{flights_same, some_none}
+use Rattle.residual_keys.proofs.StepTaken.{flights_same}
+use Rattle.law_lemmas.proofs.Options.{some_none}
 
 bit_is : (n i : ℕ) → IsBitSet n i ↔ (◌≡◌ {A = ℕ} (bit_at n i) 1)
 bit_is n i = let s = bit_set_by_shift n i in (λ h. sym (shr_and_one n i) ∙ s.1 h, λ h. s.0 (shr_and_one n i ∙ h))

@@ -122,15 +122,6 @@ pub demand_grows : (d : ℕ) (ps : List Piece) → d ≤ end_demand d ps
 demand_grows d [] = omega arith
 demand_grows d (p ∷ ps) = omega (arith, demand_grows (max d (partner_of p.rule.cat10)) ps)
 
-pub with_one : (m : CarrierMark) (c : Carrier) → carrier_with m c ≢ NotYet
-with_one NotYet c e = cc
-with_one (One d) c e = step (same_carrier d c) e
-  where
-    step : (b : Bool) → cond b (One d) Mixed ≡ NotYet → ⊥
-    step true e = cc
-    step false e = cc
-with_one Mixed c e = cc
-
 -- What holds of all fares holds of those so far.
 pub partners_before : (d : ℕ) (m : CarrierMark) (r : RuleMark) (ps : List Piece) → m ≢ NotYet → PartnerHolds (end_demand d ps) (end_carrier m ps) (end_rule m r ps) → PartnerHolds d m r
 partners_before d m r ps ne h = (λ a. was_one m ps (h.0 (omega (arith, demand_grows d ps, a))) ne, λ a. was_one_rule m r ps (h.1 (omega (arith, demand_grows d ps, a))))

@@ -1,4 +1,4 @@
--- What a search reaches has a text: its names are those of flights, slices and fares, and its numbers stay in their ranges.
+-- What a search reaches has a text: its names are those of flights, slices and fares, and its numbers stay in their ranges. Given on to the crates above.
 use Rattle.std.proofs.Common.{◌≡◌, ℕ, ℤ, zero, suc, pos, ◌≤◌, ◌<◌, ◌==◌, Bool, true, false, cond, List, [], ◌∷◌, ◌++◌, length, set, remove, take, drop, length-set, length-append, slice_get, Option, Some, None, IfSome, refl, sym, subst, inl, inr, arith}
 use Rattle.std.proofs.lemmas.Int.{ints}
 use Rattle.std.proofs.lemmas.Nat.{and_le_l}
@@ -23,7 +23,6 @@ use Rattle.fare_law.specs.Parts.{StandsFor}
 use Rattle.fare_law.specs.RuleLimits.{IsRule}
 use Rattle.flight_paths.specs.declared.positions.Position.{Position}
 use Rattle.flight_paths.specs.Positions.{Fits, Flies, IsPath, LeadsTo, before_slice}
-use Rattle.flight_paths.proofs.Fitting.{within}
 use Rattle.open_unit.specs.declared.marks.CarrierMark.{CarrierMark}
 use Rattle.open_unit.specs.declared.marks.CarrierMark.TheVariants.{NotYet, One, Mixed}
 use Rattle.open_unit.specs.declared.marks.RuleMark.{RuleMark}
@@ -34,7 +33,7 @@ use Rattle.open_unit.specs.Ranges.{PieceInRanges, UnitInRanges}
 use Rattle.open_unit.proofs.RoleLemmas.{gone_on_in_ranges}
 use Rattle.rule_unit.specs.Demands.{demand_of, kinds_of}
 use Rattle.rule_unit.specs.Ranges.{DemandInRange, IsDayWithin, StaysInRange}
-use Rattle.rule_unit.proofs.RangeLemmas.{fields_within, met_within}
+use Rattle.rule_unit.proofs.RangeLemmas.{met_within, demand_within}
 use Rattle.residual_keys.specs.declared.parts.TicketPart.{TicketPart}
 use Rattle.residual_keys.specs.declared.residual.Chosen.{Chosen}
 use Rattle.residual_keys.specs.Kept.{PartKept}
@@ -43,9 +42,10 @@ use Rattle.residual_keys.specs.Residuals.{LeadsFrom, Moves, State, UnitStep, beg
 use Rattle.residual_keys.specs.Searches.{Reached}
 use Rattle.residual_keys.specs.Steps.{IsChosen, left_at}
 use Rattle.residual_keys.specs.Written.{InLimits, IsWrittenNext}
-use Rattle.residual_keys.proofs.Components.{got_holds}
 use Rattle.residual_keys.proofs.Fitting.{FitsEnd, flies_fits, leads_fits, root_fits}
 use Rattle.residual_keys.proofs.TicketParts.{with_small}
+use Rattle.law_lemmas.proofs.EachOne.{each_got}
+use Rattle.law_lemmas.proofs.Lists.{got_within}
 
 -- ---- positions
 
@@ -77,7 +77,7 @@ flies_named b sl start [] (g ∷ fs) end h k n f = absurd f
 flies_named b sl start (m ∷ ns) [] end h k n f = absurd f
 flies_named b sl None (m ∷ ns) (g ∷ fs) end h k n f = absurd f
 flies_named b sl (Some at) (m ∷ ns) (g ∷ fs) end h k n (s, is, t, next, leads, rest) =
-    flies_named b sl next ns fs end h k (leads_named b sl s at g next h n.0 (got_holds IsFlight b.timetable.flights m g k t.known) leads) rest
+    flies_named b sl next ns fs end h k (leads_named b sl s at g next h n.0 (each_got IsFlight b.timetable.flights m g k t.known) leads) rest
 
 -- the flights taken hold what all of the timetable do
 flies_hold : (P : Flight → Type 0) (b : Book) (sl : List Slice) (start : Option Position) (ns : List ℕ) (fs : List Flight) (end : Option Position) → Each P b.timetable.flights → Flies b sl start ns fs end → Each P fs
@@ -85,7 +85,7 @@ flies_hold P b sl start [] [] end h f = tt
 flies_hold P b sl start [] (g ∷ fs) end h f = absurd f
 flies_hold P b sl start (m ∷ ns) [] end h f = absurd f
 flies_hold P b sl None (m ∷ ns) (g ∷ fs) end h f = absurd f
-flies_hold P b sl (Some at) (m ∷ ns) (g ∷ fs) end h (s, is, t, next, leads, rest) = (got_holds P b.timetable.flights m g h t.known, flies_hold P b sl next ns fs end h rest)
+flies_hold P b sl (Some at) (m ∷ ns) (g ∷ fs) end h (s, is, t, next, leads, rest) = (each_got P b.timetable.flights m g h t.known, flies_hold P b sl next ns fs end h rest)
 
 -- where some flights lead fits, wherever they begin
 path_fits : (b : Book) (sl : List Slice) (at : Position) (ns : List ℕ) (fs : List Flight) (end : Option Position) → IsPath b sl at ns fs end → FitsEnd b sl end
@@ -112,7 +112,7 @@ pub record PieceNamed (p : Piece) : Type 0 where
   pub rule : p.fare.rule ≤ 9999
   pub in_ranges : PieceInRanges p
 
-day_within : (d : ℤ) → IsCalendarDay d → IsDayWithin (pos 99000) d
+pub day_within : (d : ℤ) → IsCalendarDay d → IsDayWithin (pos 99000) d
 day_within d h = (grind (arith, ints), grind (arith, ints))
 
 of_last : (P Q : Flight → Type 0) (R : Type 0) (fs : List Flight) → ((f : Flight) → P f → Q f → R) → Each P fs → OnLast Q fs → R
@@ -167,9 +167,6 @@ rules_named (One c) (OneRule m) n h = by (m == n)
 -- an open unit with a text of its own
 abbrev Kept : OpenUnit → Type 0
 Kept u = UnitInRanges u × IsNamed u
-
-demand_within : (r : Rule) (first : ℤ) → IsDayWithin (pos 99000) first → StaysInRange r → DemandInRange (demand_of r first)
-demand_within r first f h = fields_within r first _ _ _ _ _ refl refl refl refl refl f h
 
 opened_kept : (p : Piece) → PieceNamed p → Kept (opened p)
 opened_kept p h =
@@ -239,12 +236,12 @@ unfolding AreKept
 units_kept Alone slot us p us' k h s = subst (λ xs. (length xs ≤ 2) × Each Kept xs) (sym s.2) k
 units_kept Opens slot us p us' k h s = subst (λ xs. (length xs ≤ 2) × Each Kept xs) (sym s.3) (omega (arith, length-append us (opened p ∷ []), s.2), each_push Kept us (opened p) k.1 (opened_kept p h))
 units_kept GoesOn slot us p us' k h s =
-    let u = got_holds Kept us slot s.0 k.1 s.1 in
+    let u = each_got Kept us slot s.0 k.1 s.1 in
     subst (λ xs. (length xs ≤ 2) × Each Kept xs) (sym s.3) (few k.0, each_set Kept us slot (gone_on s.0 p) k.1 (gone_on_kept s.0 p u h s.2))
   where
     few : length us ≤ 2 → length (set us slot (gone_on s.0 p)) ≤ 2
     few h = rw length-set h
-units_kept Closes slot us p us' k h s = subst (λ xs. (length xs ≤ 2) × Each Kept xs) (sym s.3) (omega (arith, remove_few us slot (within us slot s.0 s.1), k.0), each_remove Kept us slot k.1)
+units_kept Closes slot us p us' k h s = subst (λ xs. (length xs ≤ 2) × Each Kept xs) (sym s.3) (omega (arith, remove_few us slot (got_within us slot s.0 s.1), k.0), each_remove Kept us slot k.1)
 
 -- ---- the ticket part
 

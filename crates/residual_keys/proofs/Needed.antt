@@ -1,17 +1,14 @@
 -- The list of the needed states is one. Given on to the crates above.
-use Rattle.std.proofs.Common.{◌≡◌, ◌+◌, ◌≤◌, ℕ, refl, List, length, inl, inr, arith, ◌∷◌, []}
+use Rattle.std.proofs.Common.{◌≡◌, ◌+◌, ◌≤◌, ℕ, List, length, arith}
 use Rattle.fare_law.specs.declared.requests.Request.{Request}
 use Rattle.fare_law.specs.Book.{Book}
-use Rattle.fare_law.specs.Lists.{Each, IsIn, KLeast}
+use Rattle.fare_law.specs.Lists.{KLeast}
 use Rattle.residual_keys.specs.ResidualOrder.{StateBefore}
 use Rattle.residual_keys.specs.Residuals.{State}
 use Rattle.residual_keys.specs.Searches.{AreNeeded, Reached}
 use Rattle.residual_keys.proofs.LeastOne.{k_least_one}
 use Rattle.residual_keys.proofs.Ordered.{states}
-
-pub each_from : {X : Type 0} (P : X → Type 0) (xs : List X) → ((x : X) → IsIn x xs → P x) → Each P xs
-each_from P [] f = tt
-each_from P (x ∷ xs) f = (f x (inl refl), each_from P xs (λ y i. f y (inr i)))
+use Rattle.law_lemmas.proofs.EachOne.{each_from}
 
 -- all of what is reached are the least of it
 least : (b : Book) (q : Request) (need : List State) (k : ℕ) → length need ≤ k → AreNeeded StateBefore b q need → KLeast (Reached b q) StateBefore k need

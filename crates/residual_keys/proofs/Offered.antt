@@ -24,13 +24,15 @@ use Rattle.residual_keys.specs.declared.residual.Chosen.{Chosen}
 use Rattle.residual_keys.specs.Gathered.{Adds, AreLegs, FiledOver, IsChosenFiled, IsChosenWith, IsOfferOn, IsOfferedOver, IsPathOf, OffersOn}
 use Rattle.residual_keys.specs.Residuals.{State}
 use Rattle.residual_keys.specs.Steps.{KeyOn, MarketOver}
-use Rattle.residual_keys.proofs.Adding.{adds_like, adds_none, adds_then, in_either, in_left, in_right}
-use Rattle.flight_paths.proofs.Fitting.{within}
-use Rattle.residual_keys.proofs.Components.{on_last_to}
-use Rattle.residual_keys.proofs.OneNext.{last_one, some_one}
-use Rattle.residual_keys.proofs.Sheeted.{got_in, place_of, places_apart}
+use Rattle.residual_keys.proofs.Adding.{adds_like, adds_none, adds_then}
+use Rattle.residual_keys.proofs.OneNext.{last_one}
+use Rattle.residual_keys.proofs.Sheeted.{places_apart}
 use Rattle.residual_keys.proofs.StepFacts.{moves_key}
 use Rattle.residual_keys.proofs.StepTaken.{flights_same, move_offered, whole}
+use Rattle.law_lemmas.proofs.Ends.{last_like}
+use Rattle.law_lemmas.proofs.Lists.{got_within}
+use Rattle.law_lemmas.proofs.Members.{got_in, in_either, in_got, in_left, in_one, in_right}
+use Rattle.law_lemmas.proofs.Options.{some_one}
 
 -- a move with the fare of the row at an offer's place
 pub record IsAt (rows : List SheetRow) (o : Offer) (c : Chosen) : Type 0 where
@@ -43,26 +45,13 @@ pub record IsAt (rows : List SheetRow) (o : Offer) (c : Chosen) : Type 0 where
 pub record Upto (b : Book) (q : Request) (r : State) (ns : List ℕ) (reverse : Bool) (rows : List SheetRow) (offers : List Offer) (c : Chosen) : Type 0 where
   pub filed : IsChosenFiled b q r ns reverse c
   pub offer : Offer
-  pub within : IsIn offer offers
+  pub got_within : IsIn offer offers
   pub at : IsAt rows offer c
-
--- an element that is read from a list
-pub got_read : {X : Type 0} (xs : List X) (n : ℕ) (d : X) → n < length xs → slice_get xs n ≡ Some (get_or xs n d)
-got_read [] n d h = absurd (omega arith)
-got_read (y ∷ xs) zero d h = refl
-got_read (y ∷ xs) (suc n) d h = got_read xs n d (omega arith)
-
-pub read_is : {X : Type 0} (xs : List X) (n : ℕ) (d x : X) → n < length xs → x ≡ get_or xs n d → slice_get xs n ≡ Some x
-read_is xs n d x lt e = got_read xs n d lt ∙ ap Some (sym e)
-
-in_one : {X : Type 0} (x y : X) → IsIn x (y ∷ []) → x ≡ y
-in_one x y (inl e) = e
-in_one x y (inr n) = absurd n
 
 -- the fares of a sheet are filed as its market is
 pub market_filed : (reverse : Bool) (fs : List Flight) (from to : Place) (key : FareKey) → MarketOver reverse fs from to → key.from ≡ from → key.to ≡ to → FiledOver reverse fs key
 market_filed reverse [] from to key h a b = absurd h
-market_filed reverse (f ∷ fs) from to key h a b = on_last_to (λ z. MatchBool reverse ((from ≡ z.to) × (to ≡ f.from)) ((from ≡ f.from) × (to ≡ z.to))) (λ z. MatchBool reverse ((key.from ≡ z.to) × (key.to ≡ f.from)) ((key.from ≡ f.from) × (key.to ≡ z.to))) (f ∷ fs) h
+market_filed reverse (f ∷ fs) from to key h a b = last_like (λ z. MatchBool reverse ((from ≡ z.to) × (to ≡ f.from)) ((from ≡ f.from) × (to ≡ z.to))) (λ z. MatchBool reverse ((key.from ≡ z.to) × (key.to ≡ f.from)) ((key.from ≡ f.from) × (key.to ≡ z.to))) (f ∷ fs) h
     (λ z k. of reverse z k)
   where
     of : (t : Bool) (z : Flight) → MatchBool t ((from ≡ z.to) × (to ≡ f.from)) ((from ≡ f.from) × (to ≡ z.to)) → MatchBool t ((key.from ≡ z.to) × (key.to ≡ f.from)) ((key.from ≡ f.from) × (key.to ≡ z.to))
@@ -106,12 +95,12 @@ module _ (b : Book) (q : Request) (r : State) (ns : List ℕ) (reverse : Bool) (
           (sym u.at.carrier ∙ ap (λ z. z.carrier) e ∙ w.1) (sym u.at.basis ∙ ap (λ z. z.basis) e ∙ w.2)
 
       forth : (x : Chosen) → Upto b q r ns reverse rows (take i offers) x ⊎ IsChosenWith b q r ns reverse row x → Upto b q r ns reverse rows (take (i + 1) offers) x
-      forth x (inl u) = record { filed = u.filed; offer = u.offer; within = subst (IsIn u.offer) (sym front) (in_left u.offer (take i offers) (o ∷ []) u.within); at = u.at }
-      forth x (inr w) = record { filed = w.0; offer = o; within = subst (IsIn o) (sym front) (in_right o (take i offers) (o ∷ []) (inl refl)); at = record { row = row; stands = stands; carrier = w.1; basis = w.2 } }
+      forth x (inl u) = record { filed = u.filed; offer = u.offer; got_within = subst (IsIn u.offer) (sym front) (in_left u.offer (take i offers) (o ∷ []) u.within); at = u.at }
+      forth x (inr w) = record { filed = w.0; offer = o; got_within = subst (IsIn o) (sym front) (in_right o (take i offers) (o ∷ []) (inl refl)); at = record { row = row; stands = stands; carrier = w.1; basis = w.2 } }
 
       back : (x : Chosen) → Upto b q r ns reverse rows (take (i + 1) offers) x → Upto b q r ns reverse rows (take i offers) x ⊎ IsChosenWith b q r ns reverse row x
       back x u = elim (in_either u.offer (take i offers) (o ∷ []) (subst (IsIn u.offer) front u.within)) [
-        | inl l ↦ inl (record { filed = u.filed; offer = u.offer; within = l; at = u.at })
+        | inl l ↦ inl (record { filed = u.filed; offer = u.offer; got_within = l; at = u.at })
         | inr l ↦
             let row_is : u.at.row ≡ row = some_one (slice_get rows o.place) u.at.row row (subst (λ z. slice_get rows z.place ≡ Some u.at.row) (in_one u.offer o l) u.at.stands) stands in
             inr (u.filed, u.at.carrier ∙ ap (λ z. z.fare.key.carrier) row_is, u.at.basis ∙ ap (λ z. z.fare.key.basis) row_is)
@@ -133,14 +122,14 @@ module _ (b : Book) (q : Request) (r : State) (path : Path) (fs : List Flight) (
       let filed : FiledOver reverse fs p.fare.key = subst (λ t. FiledOver t fs p.fare.key) way key.ends in
       let ends = filed_market reverse fs sheet.from sheet.to p.fare.key market filed in
       let live : IsLiveRow b sheet.from sheet.to row = record { filed_from = ends.0; filed_to = ends.1; fare = h.stands.fare; rule = h.stands.rule } in
-      let place = place_of sheet.rows row ((s.live row).1 live) in
+      let place = in_got sheet.rows row ((s.live row).1 live) in
       let class = (limited.fares p.fare.key p.fare h.stands.fare).1.class in
       let offered = move_offered b q r m fs path.after at_path row legs (record { key = key; fare = h.stands.fare; rule = h.stands.rule }) are.each are.flights (omega (arith, class)) c.next (c.price, (whole b q r c).0 chosen) in
       let o : Offer = record { place = place.0; price = row_price (flights_of legs) row } in
       record {
         filed = ((chosen, ns), way);
         offer = o;
-        within = (on.exact o).1 (record { row = row; stands = place.1; offered = offered; costs = refl });
+        got_within = (on.exact o).1 (record { row = row; stands = place.1; offered = offered; costs = refl });
         at = record { row = row; stands = place.1; carrier = h.carrier; basis = h.basis };
       }
 
@@ -167,7 +156,7 @@ module _ (b : Book) (q : Request) (r : State) (path : Path) (fs : List Flight) (
       ((limited.fares row.fare.key row.fare live.fare).1, limited.rules row.fare.key.carrier row.fare.rule row.rule live.rule)
 
   pub place_within : (o : Offer) → IsIn o offers → o.place < length sheet.rows
-  place_within o i = within sheet.rows o.place ((on.exact o).0 i).row ((on.exact o).0 i).stands
+  place_within o i = got_within sheet.rows o.place ((on.exact o).0 i).row ((on.exact o).0 i).stands
 
 -- offers before one stand at earlier places
 pub offers_behind : (offers : List Offer) (i : ℕ) (d o : Offer) → EachPair StandsBefore offers → i < length offers → IsIn o (take i offers) → o.place < (get_or offers i d).place

@@ -17,10 +17,12 @@ use Rattle.residual_keys.specs.Searches.{Drawn, IsDrawn, DrawnBefore, BestRuns}
 use Rattle.residual_keys.proofs.Known.{Known}
 use Rattle.residual_keys.proofs.LeastOne.{k_least_one}
 use Rattle.residual_keys.proofs.NothingLost.{ticket_run}
-use Rattle.residual_keys.proofs.OneNext.{numbers_one, run_has_keys, some_one}
+use Rattle.residual_keys.proofs.OneNext.{run_has_keys}
 use Rattle.residual_keys.proofs.OneTicket.{ticket_one}
 use Rattle.residual_keys.proofs.RunsBest.{cheaper}
 use Rattle.ticket_order.specs.Coding.{Coded}
+use Rattle.law_lemmas.proofs.LawFacts.{numbers_one}
+use Rattle.law_lemmas.proofs.Options.{some_one}
 
 -- a component costs one price
 part_one : (b : Book) (q : Request) (c : Component) (x y : Part) → IsPart b q c x → IsPart b q c y → price_of x.flights x.piece ≡ price_of y.flights y.piece

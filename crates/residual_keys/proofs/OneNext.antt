@@ -8,7 +8,7 @@ use Rattle.fare_law.specs.Book.{Book, live_fare, live_rule}
 use Rattle.fare_law.specs.Lists.{Each, OnFirst, OnLast}
 use Rattle.fare_law.specs.Limits.{HasKeys}
 use Rattle.fare_law.specs.Names.{IsCarrier, IsBasis}
-use Rattle.fare_law.specs.Parts.{Numbers, Filed, StandsFor, price_of}
+use Rattle.fare_law.specs.Parts.{Filed, StandsFor, price_of}
 use Rattle.fare_law.specs.declared.moves.Move.{Move}
 use Rattle.open_unit.specs.declared.units.OpenUnit.{OpenUnit}
 use Rattle.flight_paths.specs.declared.positions.Position.{Position}
@@ -23,14 +23,8 @@ use Rattle.ticket_order.specs.Coding.{Coded}
 use Rattle.residual_keys.proofs.Known.{Known}
 use Rattle.residual_keys.proofs.Runs.{flies_numbers}
 use Rattle.residual_keys.proofs.NothingLost.{run_ticket, ticket_run}
-
-pub numbers_one : (b : Book) (ns : List ℕ) (fs gs : List Flight) → Numbers b ns fs → Numbers b ns gs → fs ≡ gs
-numbers_one b [] [] [] h k = refl
-numbers_one b [] [] (g ∷ gs) h k = absurd k
-numbers_one b [] (f ∷ fs) gs h k = absurd h
-numbers_one b (n ∷ ns) [] gs h k = absurd h
-numbers_one b (n ∷ ns) (f ∷ fs) [] h k = absurd k
-numbers_one b (n ∷ ns) (f ∷ fs) (g ∷ gs) h k = let e : f ≡ g = cc in ap₂ (λ x xs. x ∷ xs) e (numbers_one b ns fs gs h.1 k.1)
+use Rattle.law_lemmas.proofs.LawFacts.{numbers_one}
+use Rattle.law_lemmas.proofs.Options.{some_one}
 
 leads_one : (b : Book) (sl : List Slice) (s : Slice) (at : Position) (f : Flight) (x y : Option Position) → LeadsTo b sl s at f x → LeadsTo b sl s at f y → x ≡ y
 leads_one b sl s at f x y (inl h) (inl k) = h.1 ∙ sym k.1
@@ -66,9 +60,6 @@ direction Closes s us us' p h = h.2.1.reverse
 pub filed_ends : (p : Piece) (r : Bool) → p.reverse ≡ r → Filed p → (p.fare.key.from ≡ cond r p.end p.begin) × (p.fare.key.to ≡ cond r p.begin p.end)
 filed_ends p true e h = subst (λ r. MatchBool r ((p.fare.key.from ≡ p.end) × (p.fare.key.to ≡ p.begin)) ((p.fare.key.from ≡ p.begin) × (p.fare.key.to ≡ p.end))) e h
 filed_ends p false e h = subst (λ r. MatchBool r ((p.fare.key.from ≡ p.end) × (p.fare.key.to ≡ p.begin)) ((p.fare.key.from ≡ p.begin) × (p.fare.key.to ≡ p.end))) e h
-
-pub some_one : {X : Type 0} (o : Option X) (x y : X) → o ≡ Some x → o ≡ Some y → x ≡ y
-some_one o x y h k = cc
 
 pub piece_one : (b : Book) (sale : ℤ) (fs : List Flight) (p q : Piece) (r : Bool) → StandsFor b sale p.fare.key fs p → StandsFor b sale q.fare.key fs q → p.reverse ≡ r → q.reverse ≡ r
     → p.fare.key.carrier ≡ q.fare.key.carrier → p.fare.key.basis ≡ q.fare.key.basis → p ≡ q

@@ -15,12 +15,13 @@ use Rattle.open_unit.specs.OpenUnits.{opened, gone_on, unit_steps}
 use Rattle.fare_law.specs.Moves.{move_of, moves_after, moves_of}
 use Rattle.residual_keys.proofs.NothingLost.{ticket_sides}
 use Rattle.ticket_order.proofs.LiveKeys.{live_key}
-use Rattle.residual_keys.proofs.OneNext.{numbers_one, filed_ends, first_one, last_one}
+use Rattle.residual_keys.proofs.OneNext.{filed_ends, first_one, last_one}
 use Rattle.residual_keys.proofs.Runs.{mark_of}
 use Rattle.residual_keys.proofs.Wholes.{pieces}
 use Rattle.unit_labels.specs.Labels.{LabelRun, Part as Mark, Alone as StaysAlone, Opens as Opening, GoesOn as GoingOn, Closes as Closing}
 use Rattle.unit_labels.specs.UnitRuns.{UnitRun}
 use Rattle.residual_keys.proofs.Known.{Known}
+use Rattle.law_lemmas.proofs.LawFacts.{numbers_one}
 
 ends' : Mark → Bool
 ends' StaysAlone = false

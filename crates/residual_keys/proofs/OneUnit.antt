@@ -15,7 +15,9 @@ use Rattle.unit_labels.specs.UnitRuns.{Completes, Accepted}
 use Rattle.rule_unit.proofs.DayLemmas.{later_holds, later_parts, earlier_holds, earlier_parts, stay_holds, stay_parts, most_holds, most_parts, by_holds, by_parts}
 use Rattle.rule_unit.proofs.KindLemmas.{common_holds, common_parts, kind_from, kind_to}
 use Rattle.residual_keys.proofs.FareFacts.{fourteen, some_kind}
-use Rattle.residual_keys.proofs.Marks.{end_carrier, end_rule, end_demand, partners_before, with_one, partners_marks, marks_partners}
+use Rattle.residual_keys.proofs.Marks.{end_carrier, end_rule, end_demand, partners_before, partners_marks, marks_partners}
+use Rattle.law_lemmas.proofs.Ends.{on_last}
+use Rattle.open_unit.proofs.RoleLemmas.{not_not_yet}
 
 -- each begins where the one before ended, the first at a place
 abbrev ChainFrom : Place → List Piece → Type 0
@@ -46,16 +48,6 @@ record Ends (u : OpenUnit) (kind : UnitKind) (back last : ℤ) (ps : List Piece)
   greatest : AtMost u.greatest back
   by : AtMost u.by last
   partners : PartnerHolds (end_demand u.partner ps) (end_carrier u.carrier ps) (end_rule u.carrier u.rule ps)
-
-on_last : {X : Type 0} (P Q : X → Type 0) → ((x : X) → P x → Q x) → (xs : List X) → OnLast P xs → OnLast Q xs
-on_last P Q f [] h = h
-on_last P Q f (x ∷ []) h = f x h
-on_last P Q f (x ∷ y ∷ ys) h = on_last P Q f (y ∷ ys) h
-
-on_last_both : {X : Type 0} (P Q : X → Type 0) (xs : List X) → OnLast P xs → OnLast Q xs → OnLast (λ x. P x × Q x) xs
-on_last_both P Q [] h k = h
-on_last_both P Q (x ∷ []) h k = (h, k)
-on_last_both P Q (x ∷ y ∷ ys) h k = on_last_both P Q (y ∷ ys) h k
 
 -- fares of kind O and R stand in every unit of several components
 stands_several : (k l : UnitKind) (f : FareKind) → l ≢ OneWay → k ≢ OneWay → MayStand f k → MayStand f l
@@ -156,7 +148,7 @@ ends_go_on u p q qs back last one e = record {
   follows = e.shape.2.0;
   kind = common_holds u.kinds (kinds_of p.rule.cat10) Circle e.allowed (kind_to p.rule.cat10 Circle e.fares.0.allowed);
   days = e.fares.0.days;
-  partners = partners_before (partner_with u p) (carriers_with u p) (rules_with u p) (q ∷ qs) (with_one u.carrier p.fare.key.carrier) e.partners;
+  partners = partners_before (partner_with u p) (carriers_with u p) (rules_with u p) (q ∷ qs) (not_not_yet u.carrier p.fare.key.carrier) e.partners;
 }
 
 ends_close : (u : OpenUnit) (p : Piece) (kind : UnitKind) → Ends u kind p.first_day p.last_day (p ∷ []) → MayClose u p kind

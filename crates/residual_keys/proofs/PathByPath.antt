@@ -1,6 +1,5 @@
 -- The moves of a residual, path by path.
 use Rattle.std.proofs.Common.{◌≡◌, ◌⊎◌, ℕ, zero, suc, ◌+◌, ◌≤◌, ◌<◌, List, [], ◌∷◌, ◌++◌, length, take, get_or, refl, sym, ap, subst, ◌∙◌, inl, inr, arith}
-use Rattle.std.proofs.Math.Seq.{take-suc}
 use Rattle.fare_law.specs.declared.flights.Flight.{Flight}
 use Rattle.fare_law.specs.declared.market.OfferKey.{OfferKey}
 use Rattle.fare_law.specs.declared.requests.Request.{Request}
@@ -16,8 +15,10 @@ use Rattle.residual_keys.specs.declared.residual.Chosen.{Chosen}
 use Rattle.residual_keys.specs.Gathered.{Adds, IsChosenOn, IsPathOf}
 use Rattle.residual_keys.specs.Residuals.{State}
 use Rattle.residual_keys.specs.Steps.{IsChosen}
-use Rattle.residual_keys.proofs.Adding.{adds_like, adds_none, adds_then, in_either, in_left, in_right}
+use Rattle.residual_keys.proofs.Adding.{adds_like, adds_none, adds_then}
 use Rattle.residual_keys.proofs.StepTaken.{slice_known, whole}
+use Rattle.law_lemmas.proofs.Lists.{front_read}
+use Rattle.law_lemmas.proofs.Members.{in_either, in_left, in_one, in_right}
 
 -- a move on one of these paths
 pub record OnPaths (b : Book) (q : Request) (r : State) (paths : List Path) (c : Chosen) : Type 0 where
@@ -29,18 +30,6 @@ pub record OnPaths (b : Book) (q : Request) (r : State) (paths : List Path) (c :
 -- what the keys of these paths ask for holds
 abbrev pub HoldsOn : Book → Request → State → (OfferKey → Type 0) → List Path → Type 0
 HoldsOn b q r Settled paths = (path : Path) → IsIn path paths → (fs : List Flight) → IsPathOf b q r path fs → (key : OfferKey) → KeyOfFlights b q r fs key → Settled key
-
-in_one : {X : Type 0} (x y : X) → IsIn x (y ∷ []) → x ≡ y
-in_one x y (inl e) = e
-in_one x y (inr n) = absurd n
-
-one_more : {X : Type 0} (xs : List X) (i : ℕ) (d x : X) → i < length xs → x ≡ get_or xs i d → take (i + 1) xs ≡ take i xs ++ x ∷ []
-one_more xs i d x lt e = let one : i + 1 ≡ suc i = omega arith in ap (λ n. take n xs) one ∙ take-suc xs i d lt ∙ ap (λ z. take i xs ++ z ∷ []) (sym e)
-
-pub read_in : {X : Type 0} (xs : List X) (i : ℕ) (d x : X) → i < length xs → x ≡ get_or xs i d → IsIn x xs
-read_in [] i d x lt e = absurd (omega arith)
-read_in (y ∷ xs) zero d x lt e = inl e
-read_in (y ∷ xs) (suc i) d x lt e = inr (read_in xs i d x (omega arith) e)
 
 module _ (less_never : (w : List ℕ) → Less w w → ⊥) (less_trans : (u v w : List ℕ) → Less u v → Less v w → Less u w) where
   precedes_never : (ns : List ℕ) → Precedes ns ns → ⊥
@@ -77,7 +66,7 @@ module _ (less_never : (w : List ℕ) → Less w w → ⊥) (less_trans : (u v w
         (adds_then (OnPaths b q r (take i paths)) (IsChosenOn b q r path.flights) a m c h k apart) (λ x. (forth x, back x))
       where
         front : take (i + 1) paths ≡ take i paths ++ path ∷ []
-        front = one_more paths i d path lt e
+        front = front_read paths i d path lt e
 
         apart : (x y : Chosen) → OnPaths b q r (take i paths) x → IsChosenOn b q r path.flights y → x.mv ≡ y.mv → ⊥
         apart x y u w f =
@@ -100,7 +89,7 @@ module _ (b : Book) (q : Request) (r : State) (paths : List Path) where
 
   pub holds_more : (Settled : OfferKey → Type 0) (i : ℕ) (d path : Path) → i < length paths → path ≡ get_or paths i d → HoldsOn b q r Settled (take i paths)
       → ((fs : List Flight) → IsPathOf b q r path fs → (key : OfferKey) → KeyOfFlights b q r fs key → Settled key) → HoldsOn b q r Settled (take (i + 1) paths)
-  holds_more Settled i d path lt e h k p w = elim (in_either p (take i paths) (path ∷ []) (subst (IsIn p) (one_more paths i d path lt e) w)) [
+  holds_more Settled i d path lt e h k p w = elim (in_either p (take i paths) (path ∷ []) (subst (IsIn p) (front_read paths i d path lt e) w)) [
     | inl l ↦ h p l
     | inr l ↦ subst (λ z. (fs : List Flight) → IsPathOf b q r z fs → (key : OfferKey) → KeyOfFlights b q r fs key → Settled key) (sym (in_one p path l)) k
   ]

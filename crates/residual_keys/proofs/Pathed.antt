@@ -13,9 +13,7 @@ use Rattle.residual_keys.specs.Gathered.{Adds, IsChosenFiled, IsChosenOn, IsPath
 use Rattle.residual_keys.specs.Residuals.{State, UnitStep, closes}
 use Rattle.residual_keys.proofs.Adding.{adds_like, adds_then}
 use Rattle.residual_keys.proofs.Runs.{flies_numbers}
-
-clash : {b : Bool} → b ≡ true → b ≡ false → ⊥
-clash p q = cc
+use Rattle.law_lemmas.proofs.Tests.{true_false}
 
 module _ (b : Book) (q : Request) (r : State) (ns : List ℕ) where
   -- where no unit is open, none is closed
@@ -36,7 +34,7 @@ module _ (b : Book) (q : Request) (r : State) (ns : List ℕ) where
 
   pub both_ways : (a m c : List Chosen) → Adds (IsChosenFiled b q r ns false) a m → Adds (IsChosenFiled b q r ns true) m c → Adds (IsChosenOn b q r ns) a c
   both_ways a m c h k = adds_like (λ x. IsChosenFiled b q r ns false x ⊎ IsChosenFiled b q r ns true x) (IsChosenOn b q r ns) a c
-      (adds_then (IsChosenFiled b q r ns false) (IsChosenFiled b q r ns true) a m c h k (λ x y i j e. clash (ap (λ z. closes z.role) e ∙ j.1) i.1)) (λ x. (forth x, back x))
+      (adds_then (IsChosenFiled b q r ns false) (IsChosenFiled b q r ns true) a m c h k (λ x y i j e. true_false (ap (λ z. closes z.role) e ∙ j.1) i.1)) (λ x. (forth x, back x))
     where
       forth : (x : Chosen) → IsChosenFiled b q r ns false x ⊎ IsChosenFiled b q r ns true x → IsChosenOn b q r ns x
       forth x (inl i) = i.0

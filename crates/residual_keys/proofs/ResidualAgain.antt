@@ -15,7 +15,8 @@ use Rattle.residual_keys.specs.Residuals.{State}
 use Rattle.residual_keys.proofs.WordFacts.{Words, space, slash, colon, angle, free_decimal, free_place, free_via, free_signed, free_day, free_carriers, free_unit, free_joined, first_within}
 use Rattle.word_text.specs.Laws.{LastCutTells}
 use Rattle.word_text.specs.Words.{IsFreeOf}
-use Rattle.residual_keys.proofs.WordsAgain.{longer, place_again, via_again, day_again, set_day_again, carriers_again, rules_again}
+use Rattle.residual_keys.proofs.WordsAgain.{longer, via_again, day_again, set_day_again, carriers_again, rules_again}
+use Rattle.name_text.proofs.TextLemmas.{place_again}
 
 pub position_again : Words → (a : Position) (rest : List ℕ) → IsPosition a
     → position_in (decimal a.slice ++ 32 ∷ (decimal a.leg ++ 32 ∷ (a.place.0 ++ 32 ∷ (via_word a.via ++ 32 ∷ (decimal a.lo ++ 32 ∷ (decimal a.hi ++ 32 ∷ rest)))))) ≡ Some (a, rest)

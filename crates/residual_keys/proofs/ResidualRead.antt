@@ -18,10 +18,11 @@ use Rattle.residual_keys.specs.ResidualReading.{via_in, day_in, set_day_in, carr
 use Rattle.residual_keys.specs.ResidualText.{AreCarriers, IsNamed, IsPosition, IsWritten, Spells, via_word, day_word, carriers_word, rules_word, unit_text, units_text, part_text, residual_text}
 use Rattle.residual_keys.specs.Residuals.{State}
 use Rattle.residual_keys.proofs.WordFacts.{Words}
-use Rattle.residual_keys.proofs.WordsAgain.{marked, mapped, place_read, via_read, day_read, set_day_read, carriers_read, rules_read}
+use Rattle.residual_keys.proofs.WordsAgain.{marked, place_read, via_read, day_read, set_day_read, carriers_read, rules_read}
 use Rattle.residual_keys.proofs.ResidualAgain.{parts_of, parts_again}
 use Rattle.word_text.specs.Laws.{LastCutTells}
 use Rattle.word_text.specs.Words.{IsFreeOf, cut_at, cut_last_at, number_in}
+use Rattle.law_lemmas.proofs.Options.{from_step, option_mapped}
 
 -- one step of a reading that came to its end
 record Step {A B : Type 0} (o : Option A) (f : A → Option B) (b : B) : Type 0 where
@@ -35,11 +36,6 @@ step (Some x) f b e = record { value = x; was = refl; next = e }
 
 abbrev position_text : Position → List ℕ → List ℕ
 position_text a rest = decimal a.slice ++ 32 ∷ (decimal a.leg ++ 32 ∷ (a.place.0 ++ 32 ∷ (via_word a.via ++ 32 ∷ (decimal a.lo ++ 32 ∷ (decimal a.hi ++ 32 ∷ rest)))))
-
--- the same step, where the rest goes on from the value
-from_step : {A B P : Type 0} (o : Option A) (f : A → Option B) (b : B) → option_and_then f o ≡ Some b → ((x : A) → o ≡ Some x → f x ≡ Some b → P) → P
-from_step None f b e go = absurd (cc)
-from_step (Some x) f b e go = go x refl e
 
 -- a cut text of these parts
 joined : (c : ℕ) (text : List ℕ) (p : List ℕ × List ℕ) (w t : List ℕ) → (text ≡ p.0 ++ c ∷ p.1) × IsFreeOf c p.0 → p.0 ≡ w → p.1 ≡ t → text ≡ w ++ c ∷ t
@@ -200,7 +196,7 @@ SpellUnits text p = AreNamed p.0 p.1 × (text ≡ units_text (open_units p.0 p.1
 
 parted_read : Words → (text : List ℕ) (o : Option (List ℕ × List ℕ)) (p : Option OpenUnit × Option OpenUnit) → cut_at 47 text ≡ o → units_parted text o ≡ Some p → SpellUnits text p
 parted_read k text None p was e =
-    let m = mapped (λ (u : OpenUnit). (Some u, None)) (unit_in text) p e in
+    let m = option_mapped (λ (u : OpenUnit). (Some u, None)) (unit_in text) p e in
     let r = unit_read k text m.0 m.1 in
     subst (SpellUnits text) m.2 ((r.0, tt), r.1)
 parted_read k text (Some q) p was e =

@@ -1,5 +1,5 @@
 -- The rows of a book's sheet: in a strict order, live, within limits, and the sheet is one. Given on to the crates above.
-use Rattle.std.proofs.Common.{◌≡◌, ◌≢◌, ◌⊎◌, ℕ, zero, suc, ◌+◌, ◌≤◌, ◌<◌, List, [], ◌∷◌, length, map, slice_get, Option, Some, None, IsSome, All, refl, sym, ap, subst, ◌∙◌, inl, inr, arith}
+use Rattle.std.proofs.Common.{◌≡◌, ◌≢◌, ◌⊎◌, ℕ, zero, suc, ◌+◌, ◌≤◌, ◌<◌, List, [], ◌∷◌, length, map, slice_get, Some, All, refl, sym, ap, subst, ◌∙◌, inl, inr, arith}
 use Rattle.fare_book.specs.Keeping.{IsLive, Limited}
 use Rattle.std.proofs.lemmas.List.Elements.{All-head, All-tail}
 use Rattle.fare_component.specs.Keys.{IsKey, IsLeg, IsRow}
@@ -16,22 +16,8 @@ use Rattle.fare_law.specs.Book.{Book, live_fare, live_rule}
 use Rattle.fare_law.specs.Lists.{AllDifferent, Each, EachPair, IsIn, KLeast, Less}
 use Rattle.fare_law.specs.Sheets.{IsLiveRow, IsSheet, RowBefore, Sheet, SheetOf}
 use Rattle.residual_keys.proofs.LeastOne.{k_least_one}
-use Rattle.residual_keys.proofs.Needed.{each_from}
-use Rattle.residual_keys.proofs.OneNext.{some_one}
-
-pub got_in : {X : Type 0} (xs : List X) (n : ℕ) (x : X) → slice_get xs n ≡ Some x → IsIn x xs
-got_in [] n x e = cc
-got_in (y ∷ xs) zero x e = let same : x ≡ y = cc in inl same
-got_in (y ∷ xs) (suc n) x e = inr (got_in xs n x e)
-
-pub place_of : {X : Type 0} (xs : List X) (x : X) → IsIn x xs → (n : ℕ) × (slice_get xs n ≡ Some x)
-place_of [] x i = absurd i
-place_of (y ∷ xs) x (inl e) = (0, ap Some (sym e))
-place_of (y ∷ xs) x (inr i) = let r = place_of xs x i in (suc r.0, r.1)
-
-is_some : {X : Type 0} (o : Option X) (x : X) → o ≡ Some x → IsSome o
-is_some None x e = cc
-is_some (Some y) x e = refl
+use Rattle.law_lemmas.proofs.EachOne.{each_from}
+use Rattle.law_lemmas.proofs.Options.{some_one, some_there}
 
 -- all keys that a later row may not have
 keys_apart : (k : FareKey) (rows : List SheetRow) → Each (λ row. k ≢ row.fare.key) rows → Each (λ l. k ≢ l) (map (λ row. row.fare.key) rows)
@@ -89,7 +75,7 @@ module _ (never : (w : List ℕ) → Less w w → ⊥) (trans : (u v w : List �
 
     keys_live : (rows : List SheetRow) → ((row : SheetRow) → IsIn row rows → IsIn row sheet.rows) → Each (IsLive b) (map (λ row. row.fare.key) rows)
     keys_live [] f = tt
-    keys_live (r ∷ rows) f = (is_some (live_fare b r.fare.key) r.fare (live r (f r (inl refl))).fare, keys_live rows (λ s i. f s (inr i)))
+    keys_live (r ∷ rows) f = (some_there (live_fare b r.fare.key) r.fare (live r (f r (inl refl))).fare, keys_live rows (λ s i. f s (inr i)))
 
     map_length : (rows : List SheetRow) → length (map (λ row. row.fare.key) rows) ≡ length rows
     map_length [] = refl

@@ -11,8 +11,8 @@ use Rattle.flight_paths.specs.declared.positions.Position.{Position}
 use Rattle.flight_paths.specs.Positions.{IsPath, Flies, LeadsTo, before_slice}
 use Rattle.open_unit.specs.declared.units.OpenUnit.{OpenUnit}
 use Rattle.residual_keys.specs.Residuals.{State, Moves, Run, RunFromRoot, begins, part_with, no_part}
-use Rattle.flight_paths.proofs.Fitting.{within}
 use Rattle.residual_keys.specs.Short.{flights_before, Earlier}
+use Rattle.law_lemmas.proofs.Lists.{got_within, some_length}
 
 -- how many flights lead on
 LegEnd : Option Position → Type 0
@@ -26,7 +26,7 @@ leads_on b q s at f next is le (inl h) =
     subst (λ z. (suc (flights_before q (Some at)) ≤ flights_before q z) × LegEnd z) (sym h.1) (go (slice_get q.slices (suc at.slice)))
   where
     go : (o : Option Slice) → (suc (flights_before q (Some at)) ≤ flights_before q (before_slice b (suc at.slice) o (Some f.arr))) × LegEnd (before_slice b (suc at.slice) o (Some f.arr))
-    go None = (omega (arith, le, within q.slices at.slice s is), tt)
+    go None = (omega (arith, le, got_within q.slices at.slice s is), tt)
     go (Some t) = (omega (arith, le), omega arith)
 leads_on b q s at f next is le (inr h) =
     subst (λ z. (suc (flights_before q (Some at)) ≤ flights_before q z) × LegEnd z) (sym h.2) (omega (arith, h.1), omega (arith, h.1))
@@ -50,10 +50,6 @@ pub flies_few : (b : Book) (q : Request) (at : Position) (ns : List ℕ) (fs : L
 flies_few b q at [] [] end h = subst (λ z. 0 + flights_before q (Some at) ≤ flights_before q z) (sym h) (omega arith)
 flies_few b q at [] (f ∷ fs) end h = absurd h
 flies_few b q at (n ∷ ns) fs end h = (flies_on b q at n ns fs end h).0
-
-some_length : (ns : List ℕ) → (ns ≡ [] → ⊥) → 1 ≤ length ns
-some_length [] ne = absurd (ne refl)
-some_length (n ∷ ns) ne = omega arith
 
 path_on : (b : Book) (q : Request) (at : Position) (ns : List ℕ) (fs : List Flight) (end : Option Position) → IsPath b q.slices at ns fs end → (length ns + flights_before q (Some at) ≤ flights_before q end) × LegEnd end
 path_on b q at [] fs end h = absurd (h.some refl)

@@ -1,4 +1,4 @@
--- The size of a search is one number, and more states than n are reached exactly where it is greater than n.
+-- The size of a search is one number, and more states than n are reached exactly where it is greater than n. Given on to the crates above.
 use Rattle.std.proofs.Common.{◌≡◌, ◌≢◌, ◌↔◌, ◌∙◌, ℕ, zero, suc, ◌≤◌, ◌<◌, List, [], ◌∷◌, length, take, refl, sym, ap, subst, inl, inr, arith}
 use Rattle.fare_law.specs.declared.requests.Request.{Request}
 use Rattle.fare_law.specs.Book.{Book}
@@ -6,9 +6,11 @@ use Rattle.fare_law.specs.Lists.{AllDifferent, Each, EachPair, IsIn}
 use Rattle.residual_keys.specs.ResidualOrder.{StateBefore}
 use Rattle.residual_keys.specs.Residuals.{State}
 use Rattle.residual_keys.specs.Searches.{IsSize, Reached, ReachesMoreThan}
-use Rattle.residual_keys.proofs.LeastOne.{below_all, pairs_rest, weaken}
-use Rattle.residual_keys.proofs.Needed.{each_from, need_one}
+use Rattle.residual_keys.proofs.LeastOne.{below_all, pairs_rest}
+use Rattle.residual_keys.proofs.Needed.{need_one}
 use Rattle.residual_keys.proofs.Ordered.{states}
+use Rattle.law_lemmas.proofs.EachOne.{each_from, each_take, each_weaker}
+use Rattle.law_lemmas.proofs.Lists.{front_many}
 
 -- the others of these, without x
 record Others {X : Type 0} (x : X) (ys : List X) : Type 0 where
@@ -34,7 +36,7 @@ both_in x ys rest [] to h k = tt
 both_in x ys rest (z ∷ xs) to h k = (to z h.0 k.0, both_in x ys rest xs to h.1 k.1)
 
 -- different elements of a list are no more than it has
-no_more : {X : Type 0} (xs ys : List X) → AllDifferent xs → Each (λ x. IsIn x ys) xs → length xs ≤ length ys
+pub no_more : {X : Type 0} (xs ys : List X) → AllDifferent xs → Each (λ x. IsIn x ys) xs → length xs ≤ length ys
 no_more [] ys d h = omega arith
 no_more (x ∷ xs) ys d h =
     let o = take_out x ys h.0 in
@@ -45,24 +47,14 @@ no_more (x ∷ xs) ys d h =
 differ : (xs : List State) → EachPair StateBefore xs → AllDifferent xs
 differ [] h = tt
 differ (x ∷ xs) h = (
-  weaken (StateBefore x) (λ y. x ≢ y) (λ y b e. states.never x (subst (StateBefore x) (sym e) b)) xs (below_all StateBefore states.trans x xs h),
+  each_weaker (StateBefore x) (λ y. x ≢ y) (λ y b e. states.never x (subst (StateBefore x) (sym e) b)) xs (below_all StateBefore states.trans x xs h),
   differ xs (pairs_rest StateBefore x xs h),
 )
-
-front : {X : Type 0} (P : X → Type 0) (n : ℕ) (xs : List X) → Each P xs → Each P (take n xs)
-front P zero xs h = tt
-front P (suc n) [] h = tt
-front P (suc n) (x ∷ xs) h = (h.0, front P n xs h.1)
 
 front_differs : {X : Type 0} (n : ℕ) (xs : List X) → AllDifferent xs → AllDifferent (take n xs)
 front_differs zero xs h = tt
 front_differs (suc n) [] h = tt
-front_differs (suc n) (x ∷ xs) h = (front (λ y. x ≢ y) n xs h.0, front_differs n xs h.1)
-
-front_many : {X : Type 0} (n : ℕ) (xs : List X) → n ≤ length xs → length (take n xs) ≡ n
-front_many zero xs h = refl
-front_many (suc n) [] h = absurd (omega arith)
-front_many (suc n) (x ∷ xs) h = ap suc (front_many n xs (omega arith))
+front_differs (suc n) (x ∷ xs) h = (each_take (λ y. x ≢ y) n xs h.0, front_differs n xs h.1)
 
 pub one_size : (b : Book) (q : Request) (m n : ℕ) → IsSize b q m → IsSize b q n → m ≡ n
 one_size b q m n h k = h.2 ∙ ap length (need_one b q h.0 k.0 h.1 k.1) ∙ sym k.2
@@ -82,5 +74,5 @@ more_reached b q size n s = (λ h. many h, λ lt. enough lt)
       take (suc n) s.0,
       front_many (suc n) s.0 (omega (arith, lt, s.2)),
       front_differs (suc n) s.0 (differ s.0 s.1.in_order),
-      front (Reached b q) (suc n) s.0 (each_from (Reached b q) s.0 (λ x i. (s.1.are x).0 i)),
+      each_take (Reached b q) (suc n) s.0 (each_from (Reached b q) s.0 (λ x i. (s.1.are x).0 i)),
     )

@@ -17,8 +17,9 @@ use Rattle.open_unit.specs.declared.units.OpenUnit.{OpenUnit}
 use Rattle.residual_keys.specs.AskedKeys.{IsLeg}
 use Rattle.residual_keys.specs.Residuals.{Moves, State, closes}
 use Rattle.residual_keys.specs.Steps.{IsLiveOn, KeyOn}
-use Rattle.residual_keys.proofs.Components.{on_ends, on_last_to}
+use Rattle.residual_keys.proofs.Components.{on_ends}
 use Rattle.residual_keys.proofs.OneNext.{direction, filed_ends, last_one}
+use Rattle.law_lemmas.proofs.Ends.{last_like}
 
 -- a key of a move's fare, filed between the ends of its flights
 pub key_stands : (m : Move) (fs : List Flight) (first last : Flight) (key : FareKey) (r : Bool) → closes m.role ≡ r → OnFirst (λ f. first ≡ f) fs → OnLast (λ f. last ≡ f) fs
@@ -50,7 +51,7 @@ keys_one m (f ∷ fs) k l h g =
 -- what holds of the first and of the last flight
 pub two_ends : (P Q : Flight → Type 0) (R : Flight → Flight → Type 0) (fs : List Flight) → OnFirst P fs → OnLast Q fs → ((f z : Flight) → P f → Q z → R f z) → OnFirst (λ f. OnLast (λ z. R f z) fs) fs
 two_ends P Q R [] a b to = absurd a
-two_ends P Q R (f ∷ fs) a b to = on_last_to Q (λ z. R f z) (f ∷ fs) b (λ z k. to f z a k)
+two_ends P Q R (f ∷ fs) a b to = last_like Q (λ z. R f z) (f ∷ fs) b (λ z k. to f z a k)
 
 -- a move's fare has the key that the move names
 pub moves_key : (b : Book) (q : Request) (r : State) (m : Move) (fs : List Flight) (p : Piece) (next : Option Position) (us : List OpenUnit) → Moves b q r m fs p next us → KeyOn m fs p.fare.key
@@ -98,7 +99,7 @@ row_stands b q m fs row p l o = record {
 -- the fare is filed between the ends
 pub key_directed : (m : Move) (fs : List Flight) (key : FareKey) → KeyOn m fs key → HasDirection key fs
 key_directed m [] key h = absurd h.ends
-key_directed m (f ∷ fs) key h = on_last_to (λ z. MatchBool (closes m.role) ((key.from ≡ z.to) × (key.to ≡ f.from)) ((key.from ≡ f.from) × (key.to ≡ z.to))) (λ z. FiledBetween key f.from z.to) (f ∷ fs) h.ends (λ z k. of (closes m.role) z k)
+key_directed m (f ∷ fs) key h = last_like (λ z. MatchBool (closes m.role) ((key.from ≡ z.to) × (key.to ≡ f.from)) ((key.from ≡ f.from) × (key.to ≡ z.to))) (λ z. FiledBetween key f.from z.to) (f ∷ fs) h.ends (λ z k. of (closes m.role) z k)
   where
     of : (c : Bool) (z : Flight) → MatchBool c ((key.from ≡ z.to) × (key.to ≡ f.from)) ((key.from ≡ f.from) × (key.to ≡ z.to)) → FiledBetween key f.from z.to
     of true z k = inr k

@@ -1,5 +1,5 @@
 -- A move over given flights is the step that the calls take. Given on to the crates above.
-use Rattle.std.proofs.Common.{◌≡◌, ◌↔◌, ℕ, ◌≤◌, ◌<◌, Bool, true, false, List, [], ◌∷◌, length, Option, Some, None, IfNone, IfSome, sym, refl, ap, ap₂, ◌∙◌, subst, arith}
+use Rattle.std.proofs.Common.{◌≡◌, ◌↔◌, ℕ, ◌≤◌, ◌<◌, List, [], ◌∷◌, length, Option, Some, None, IfNone, IfSome, sym, refl, ap, ap₂, ◌∙◌, subst, arith}
 use Rattle.fare_law.specs.declared.fares.FareKey.{FareKey}
 use Rattle.fare_law.specs.declared.flights.Flight.{Flight}
 use Rattle.fare_law.specs.declared.moves.Move.{Move}
@@ -19,13 +19,12 @@ use Rattle.residual_keys.specs.declared.residual.Next.{Next}
 use Rattle.residual_keys.specs.Residuals.{Moves, PartAllows, State, UnitStep, begins, closes, part_with}
 use Rattle.residual_keys.specs.Steps.{IsChosen, IsLiveOn, KeyOn, Leaves, StepsTo, left_at}
 use Rattle.residual_keys.specs.AskedKeys.{IsLeg}
-use Rattle.flight_paths.proofs.Fitting.{within}
-use Rattle.residual_keys.proofs.OneNext.{direction, flies_one, numbers_one, piece_one, some_one}
+use Rattle.residual_keys.proofs.OneNext.{direction, flies_one, piece_one}
 use Rattle.residual_keys.proofs.Runs.{flies_numbers}
 use Rattle.residual_keys.proofs.StepFacts.{IsOver, key_directed, keys_one, lawful_offered, moves_key, row_stands}
-
-pub some_none : {X : Type 0} (x : X) → Some x ≡ None → ⊥
-some_none x e = cc
+use Rattle.law_lemmas.proofs.LawFacts.{numbers_one}
+use Rattle.law_lemmas.proofs.Lists.{got_within}
+use Rattle.law_lemmas.proofs.Options.{some_none, some_one}
 
 -- some numbers have some flights
 pub numbered_some : (b : Book) (ns : List ℕ) (fs : List Flight) → (ns ≡ [] → ⊥) → Numbers b ns fs → 1 ≤ length fs
@@ -140,17 +139,10 @@ path_known b q r ns fs next h = go ns fs h.some h.flies
     go : (ns : List ℕ) (fs : List Flight) → (ns ≡ [] → ⊥) → Flies b q.slices (Some r.at) ns fs next → r.at.slice < length q.slices
     go [] fs some h = absurd (some refl)
     go (n ∷ ns) [] some h = absurd h
-    go (n ∷ ns) (f ∷ fs) some h = within q.slices r.at.slice h.0 h.1
+    go (n ∷ ns) (f ∷ fs) some h = got_within q.slices r.at.slice h.0 h.1
 
 pub slice_known : (b : Book) (q : Request) (r : State) (m : Move) (next : Next) → StepsTo b q r m next → r.at.slice < length q.slices
 slice_known b q r m next (price, c) = path_known b q r m.flights c.flights c.after c.moves.path
-
--- a test that failed
-pub not_so : {A : Type 0} (t : Bool) → t ≡ false → (A → t ≡ true) → A → ⊥
-not_so t f h a = clash f (h a)
-  where
-    clash : {t : Bool} → t ≡ false → t ≡ true → ⊥
-    clash p q = cc
 
 -- what follows of a value, or of none, follows of an option
 pub if_some : {X : Type 0} (P Q : X → Type 0) (o : Option X) → IfSome o P → ((x : X) → P x → Q x) → IfSome o Q

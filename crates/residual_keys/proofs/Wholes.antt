@@ -22,18 +22,11 @@ use Rattle.residual_keys.proofs.Marks.{OfCarrier}
 use Rattle.residual_keys.proofs.OneUnit.{accepted_lawful, lawful_accepted}
 use Rattle.fare_law.specs.Flights.{Ascending}
 use Rattle.residual_keys.proofs.TicketParts.{PartRun, news, AsksOf, AsksHold, InOrder, part_run_asks, asks_part_run}
-
-pub each_map : {X Y : Type 0} (f : X → Y) (P : Y → Type 0) (xs : List X) → Each (λ x. P (f x)) xs → Each P (map f xs)
-each_map f P [] h = tt
-each_map f P (x ∷ xs) h = (h.0, each_map f P xs h.1)
+use Rattle.law_lemmas.proofs.EachOne.{each_map, each_weaker}
 
 pub map_each : {X Y : Type 0} (f : X → Y) (P : Y → Type 0) (xs : List X) → Each P (map f xs) → Each (λ x. P (f x)) xs
 map_each f P [] h = tt
 map_each f P (x ∷ xs) h = (h.0, map_each f P xs h.1)
-
-pub each_weaker : {X : Type 0} (P Q : X → Type 0) → ((x : X) → P x → Q x) → (xs : List X) → Each P xs → Each Q xs
-each_weaker P Q f [] h = tt
-each_weaker P Q f (x ∷ xs) h = (f x h.0, each_weaker P Q f xs h.1)
 
 abbrev pub labels : List Part → List ℕ
 labels parts = map (λ part. part.unit) parts

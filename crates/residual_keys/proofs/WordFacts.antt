@@ -45,7 +45,7 @@ colon = record { digit = λ b h e. omega (arith, h, e); capital = λ b h e. omeg
 pub angle : Separates 62
 angle = record { digit = λ b h e. omega (arith, h, e); capital = λ b h e. omega (arith, h, e); dash = λ e. omega (arith, e); star = λ e. omega (arith, e) }
 
-free_each : (P : ℕ → Type 0) (c : ℕ) → ((b : ℕ) → P b → b ≢ c) → (bs : List ℕ) → Each P bs → IsFreeOf c bs
+pub free_each : (P : ℕ → Type 0) (c : ℕ) → ((b : ℕ) → P b → b ≢ c) → (bs : List ℕ) → Each P bs → IsFreeOf c bs
 free_each P c other [] h = tt
 free_each P c other (b ∷ bs) h = (other b h.0, free_each P c other bs h.1)
 

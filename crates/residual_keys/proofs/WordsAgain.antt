@@ -1,6 +1,6 @@
--- The words of a residual are read as its fields.
-use Rattle.std.proofs.Common.{bytes_eq, ◌==◌, ◌⊎◌, if◌then◌else◌, ◌≡◌, ◌≢◌, ◌<◌, ◌^◌, ◌&&◌, ◌||◌, eq-eqb, ℕ, ℤ, pos, negsuc, ◌≤ℤ◌, Bool, true, false, List, [], ◌∷◌, length, Option, Some, None, refl, arith, ap, subst, inl, inr, option_map}
-use Rattle.std.specs.Char.{is_ascii_digit, is_ascii_uppercase}
+-- The words of a residual are read as its fields. Given on to the crates above.
+use Rattle.std.proofs.Common.{bytes_eq, ◌==◌, ◌⊎◌, if◌then◌else◌, ◌≡◌, ◌<◌, ◌^◌, ◌&&◌, ℕ, ℤ, pos, negsuc, ◌≤ℤ◌, Bool, true, false, List, [], ◌∷◌, length, Option, Some, None, refl, arith, ap, subst, inl, inr, option_map}
+use Rattle.std.specs.Char.{is_ascii_uppercase}
 use Rattle.std.proofs.lemmas.Int.{ints}
 use Rattle.std.specs.Fmt.{decimal, signed_decimal}
 use Rattle.std.specs.Int.{IsInRange}
@@ -11,9 +11,9 @@ use Rattle.std.proofs.lemmas.Option.{cond_some, same_Some}
 use Rattle.std.proofs.lemmas.Slice.Eq.{bytes_eq-Decides}
 use Rattle.fare_law.specs.declared.names.Carrier.{Carrier}
 use Rattle.fare_law.specs.declared.names.Place.{Place}
-use Rattle.fare_law.specs.Limits.{IsCapital, IsPlace}
+use Rattle.fare_law.specs.Limits.{IsPlace}
 use Rattle.fare_law.specs.Lists.{Each}
-use Rattle.fare_law.specs.Names.{IsCarrier, IsCharacter}
+use Rattle.fare_law.specs.Names.{IsCarrier}
 use Rattle.name_text.specs.Names.{place_of, carrier_of, is_character}
 use Rattle.open_unit.specs.declared.marks.CarrierMark.{CarrierMark}
 use Rattle.open_unit.specs.declared.marks.CarrierMark.TheVariants.{NotYet, One, Mixed}
@@ -24,39 +24,14 @@ use Rattle.residual_keys.specs.ResidualReading.{via_in, day_in, set_day_in, carr
 use Rattle.residual_keys.specs.ResidualText.{AreCarriers, AreRules, via_word, day_word, carriers_word, rules_word}
 use Rattle.residual_keys.proofs.WordFacts.{Words}
 use Rattle.word_text.specs.Words.{number_in}
-
-not_true : (b : Bool) → (b ≡ true → ⊥) → b ≡ false
-not_true true h = absurd (h refl)
-not_true false h = refl
-
-pub differ : (xs ys : List ℕ) → xs ≢ ys → bytes_eq xs ys ≡ false
-differ xs ys other = not_true (bytes_eq xs ys) (λ e. other ((bytes_eq-Decides xs ys).0 e))
+use Rattle.law_lemmas.proofs.Options.{option_mapped}
+use Rattle.law_lemmas.proofs.Tests.{both_true}
+use Rattle.law_lemmas.proofs.Words.{bytes_differ, capitals_read}
+use Rattle.name_text.proofs.NameLemmas.{characters}
+use Rattle.name_text.proofs.TextLemmas.{carrier_again, place_again}
 
 pub longer : (xs ys : List ℕ) → (length xs ≡ length ys → ⊥) → bytes_eq xs ys ≡ false
-longer xs ys other = differ xs ys (λ e. other (ap length e))
-
-capitals_again : (cs : List ℕ) → Each IsCapital cs → list_all is_ascii_uppercase cs ≡ true
-capitals_again [] h = refl
-capitals_again (c ∷ cs) h = let e : is_ascii_uppercase c ≡ true = capital c h.0 in rw e (capitals_again cs h.1)
-  where
-    capital : (c : ℕ) → IsCapital c → is_ascii_uppercase c ≡ true
-    capital c h = grind (arith, nat_tests)
-
-characters_again : (cs : List ℕ) → Each IsCharacter cs → list_all is_character cs ≡ true
-characters_again [] h = refl
-characters_again (c ∷ cs) h = let e : is_character c ≡ true = character c h.0 in rw e (characters_again cs h.1)
-  where
-    character : (c : ℕ) → IsCharacter c → is_character c ≡ true
-    character c (inl h) = grind (arith, nat_tests)
-    character c (inr h) = grind (arith, nat_tests)
-
-pub place_again : (p : Place) → IsPlace p → place_of p.0 ≡ Some p
-unfolding place_of
-place_again p h = rw (eq-eqb (length p.0) 3 h.0, capitals_again p.0 h.1) refl
-
-carrier_again : (c : Carrier) → IsCarrier c → carrier_of c.0 ≡ Some c
-unfolding carrier_of
-carrier_again c h = rw (eq-eqb (length c.0) 2 h.0, characters_again c.0 h.1) refl
+longer xs ys other = bytes_differ xs ys (λ e. other (ap length e))
 
 pub via_again : (v : Option Place) → IfSome v IsPlace → via_in (via_word v) ≡ Some v
 unfolding via_in
@@ -70,7 +45,7 @@ day_again k (negsuc n) low high = absurd (omega (arith, ints))
 
 -- a number's digits are no mark
 no_mark : Words → (n c : ℕ) → n < 2 ^ 64 → c < 48 → bytes_eq (decimal n) (c ∷ []) ≡ false
-no_mark k n c small low = differ (decimal n) (c ∷ []) (λ e. let h = subst (Each (IsInRange 48 57)) e (k.digits n small) in omega (arith, h.0, low))
+no_mark k n c small low = bytes_differ (decimal n) (c ∷ []) (λ e. let h = subst (Each (IsInRange 48 57)) e (k.digits n small) in omega (arith, h.0, low))
 
 pub set_day_again : Words → (d : Option ℤ) → IsStoredDay d → set_day_in (day_word d) ≡ Some d
 unfolding set_day_in
@@ -91,42 +66,21 @@ rules_again k MixedRules h = refl
 
 -- Fields that are read are written so.
 
-both : (a b : Bool) → (a && b) ≡ true → (a ≡ true) × (b ≡ true)
-both true b e = (refl, e)
-both false b e = absurd (cc)
-
-capitals_read : (cs : List ℕ) → list_all is_ascii_uppercase cs ≡ true → Each IsCapital cs
-capitals_read [] e = tt
-capitals_read (c ∷ cs) e = let h = both (is_ascii_uppercase c) (list_all is_ascii_uppercase cs) e in (capital c h.0, capitals_read cs h.1)
-  where
-    capital : (c : ℕ) → is_ascii_uppercase c ≡ true → IsCapital c
-    capital c e = grind (arith, nat_tests)
-
-character_read : (a b : Bool) (c : ℕ) → is_ascii_uppercase c ≡ a → is_ascii_digit c ≡ b → (a || b) ≡ true → IsCharacter c
-character_read true b c e f h = inr (grind (arith, nat_tests))
-character_read false true c e f h = inl (grind (arith, nat_tests))
-character_read false false c e f h = absurd (cc)
-
-characters_read : (cs : List ℕ) → list_all is_character cs ≡ true → Each IsCharacter cs
-characters_read [] e = tt
-characters_read (c ∷ cs) e = let h = both (is_character c) (list_all is_character cs) e in
-    (character_read (is_ascii_uppercase c) (is_ascii_digit c) c refl refl h.0, characters_read cs h.1)
-
 pub place_read : (w : List ℕ) (p : Place) → place_of w ≡ Some p → IsPlace p × (w ≡ p.0)
 unfolding place_of
 place_read w p e =
     let h = cond_some ((length w == 3) && list_all is_ascii_uppercase w) (record { 0 = w }) p e in
-    let t = both (length w == 3) (list_all is_ascii_uppercase w) h.0 in
+    let t = both_true (length w == 3) (list_all is_ascii_uppercase w) h.0 in
     let three : length w ≡ 3 = grind (arith, nat_tests, t.0) in
     subst (λ (q : Place). IsPlace q × (w ≡ q.0)) h.1 ((three, capitals_read w t.1), refl)
 
-carrier_read : (w : List ℕ) (c : Carrier) → carrier_of w ≡ Some c → IsCarrier c × (w ≡ c.0)
+pub carrier_read : (w : List ℕ) (c : Carrier) → carrier_of w ≡ Some c → IsCarrier c × (w ≡ c.0)
 unfolding carrier_of
 carrier_read w c e =
     let h = cond_some ((length w == 2) && list_all is_character w) (record { 0 = w }) c e in
-    let t = both (length w == 2) (list_all is_character w) h.0 in
+    let t = both_true (length w == 2) (list_all is_character w) h.0 in
     let two : length w ≡ 2 = grind (arith, nat_tests, t.0) in
-    subst (λ (q : Carrier). IsCarrier q × (w ≡ q.0)) h.1 ((two, characters_read w t.1), refl)
+    subst (λ (q : Carrier). IsCarrier q × (w ≡ q.0)) h.1 ((two, characters w t.1), refl)
 
 -- a mark, or what else was read
 pub marked : {A : Type 0} (w mark : List ℕ) (x y : A) (o : Option A) → (if bytes_eq w mark then Some x else o) ≡ Some y → ((w ≡ mark) × (x ≡ y)) ⊎ (o ≡ Some y)
@@ -136,26 +90,22 @@ marked w mark x y o e = go (bytes_eq w mark) refl e
     go true is h = inl ((bytes_eq-Decides w mark).0 is, same_Some x y h)
     go false is h = inr h
 
-pub mapped : {A B : Type 0} (f : A → B) (o : Option A) (y : B) → option_map f o ≡ Some y → (x : A) × (o ≡ Some x) × (f x ≡ y)
-mapped f None y e = absurd (cc)
-mapped f (Some x) y e = (x, refl, same_Some (f x) y e)
-
 pub via_read : (w : List ℕ) (v : Option Place) → via_in w ≡ Some v → IfSome v IsPlace × (w ≡ via_word v)
 unfolding via_in
 via_read w v e = elim (marked w (45 ∷ []) None v (option_map Some (place_of w)) e) [
   | inl h ↦ subst (λ (u : Option Place). IfSome u IsPlace × (w ≡ via_word u)) h.1 (tt, h.0)
-  | inr h ↦ let m = mapped Some (place_of w) v h in subst (λ (u : Option Place). IfSome u IsPlace × (w ≡ via_word u)) m.2 (place_read w m.0 m.1)
+  | inr h ↦ let m = option_mapped Some (place_of w) v h in subst (λ (u : Option Place). IfSome u IsPlace × (w ≡ via_word u)) m.2 (place_read w m.0 m.1)
 ]
 
 pub day_read : Words → (w : List ℕ) (d : ℤ) → day_in w ≡ Some d → w ≡ signed_decimal d
 unfolding day_in
-day_read k w d e = let m = mapped pos (number_in 2147483647 w) d e in subst (λ (x : ℤ). w ≡ signed_decimal x) m.2 (k.number.read 2147483647 m.0 w m.1).1
+day_read k w d e = let m = option_mapped pos (number_in 2147483647 w) d e in subst (λ (x : ℤ). w ≡ signed_decimal x) m.2 (k.number.read 2147483647 m.0 w m.1).1
 
 pub set_day_read : Words → (w : List ℕ) (d : Option ℤ) → set_day_in w ≡ Some d → w ≡ day_word d
 unfolding set_day_in
 set_day_read k w d e = elim (marked w (45 ∷ []) None d (option_map Some (day_in w)) e) [
   | inl h ↦ subst (λ (u : Option ℤ). w ≡ day_word u) h.1 h.0
-  | inr h ↦ let m = mapped Some (day_in w) d h in subst (λ (u : Option ℤ). w ≡ day_word u) m.2 (day_read k w m.0 m.1)
+  | inr h ↦ let m = option_mapped Some (day_in w) d h in subst (λ (u : Option ℤ). w ≡ day_word u) m.2 (day_read k w m.0 m.1)
 ]
 
 pub carriers_read : (w : List ℕ) (m : CarrierMark) → carriers_in w ≡ Some m → AreCarriers m × (w ≡ carriers_word m)
@@ -164,7 +114,7 @@ carriers_read w m e = elim (marked w (45 ∷ []) NotYet m (if bytes_eq w (42 ∷
   | inl h ↦ subst (λ (u : CarrierMark). AreCarriers u × (w ≡ carriers_word u)) h.1 (tt, h.0)
   | inr h ↦ elim (marked w (42 ∷ []) Mixed m (option_map One (carrier_of w)) h) [
     | inl h ↦ subst (λ (u : CarrierMark). AreCarriers u × (w ≡ carriers_word u)) h.1 (tt, h.0)
-    | inr h ↦ let x = mapped One (carrier_of w) m h in subst (λ (u : CarrierMark). AreCarriers u × (w ≡ carriers_word u)) x.2 (carrier_read w x.0 x.1)
+    | inr h ↦ let x = option_mapped One (carrier_of w) m h in subst (λ (u : CarrierMark). AreCarriers u × (w ≡ carriers_word u)) x.2 (carrier_read w x.0 x.1)
   ]
 ]
 
@@ -172,6 +122,6 @@ pub rules_read : Words → (w : List ℕ) (m : RuleMark) → rules_in w ≡ Some
 unfolding rules_in
 rules_read k w m e = elim (marked w (42 ∷ []) MixedRules m (option_map OneRule (number_in 65535 w)) e) [
   | inl h ↦ subst (λ (u : RuleMark). AreRules u × (w ≡ rules_word u)) h.1 (tt, h.0)
-  | inr h ↦ let x = mapped OneRule (number_in 65535 w) m h in
+  | inr h ↦ let x = option_mapped OneRule (number_in 65535 w) m h in
       let n = k.number.read 65535 x.0 w x.1 in subst (λ (u : RuleMark). AreRules u × (w ≡ rules_word u)) x.2 (omega (arith, n.0), n.1)
 ]

@@ -1,5 +1,5 @@
--- What it says of a key that it stands for a residual.
-use Rattle.std.proofs.Common.{◌≡◌, ◌↔◌, ◌∙◌, ℕ, zero, suc, Bool, true, false, ◌&&◌, nat_eq, IsTrue, List, [], ◌∷◌, slice_get, Option, Some, None, option_map, unwrap_or, refl, sym, ap, subst, arith, length, ◌<◌}
+-- What it says of a key that it stands for a residual. Given on to the crates above.
+use Rattle.std.proofs.Common.{◌≡◌, ◌↔◌, ◌∙◌, ℕ, zero, suc, Bool, true, false, ◌&&◌, nat_eq, IsTrue, List, [], ◌∷◌, slice_get, Option, Some, None, option_map, unwrap_or, refl, sym, ap, subst, arith}
 use Rattle.fare_law.specs.Lists.{AllDifferent}
 use Rattle.open_unit.specs.declared.units.OpenUnit.{OpenUnit}
 use Rattle.residual_keys.specs.declared.parts.TicketPart.{TicketPart}
@@ -10,7 +10,8 @@ use Rattle.residual_table.specs.declared.key.ResidualKey.{ResidualKey}
 use Rattle.residual_table.specs.Keys.{AreTables, Grows, HasSlot, IsSlot, KeepsNumbers, KeepsResiduals, StandsFor, Tables, residual_at, units_of, nowhere, ◌>>=◌}
 use Rattle.std.proofs.lemmas.Bool.Decides.{Decides-eqb}
 use Rattle.residual_table.specs.contracts.key.ResidualKeyPartialEq.TheImpl as key
-use Rattle.residual_table.proofs.Numbers.{one_number}
+use Rattle.law_lemmas.proofs.Lists.{got_within}
+use Rattle.law_lemmas.proofs.Pairs.{one_place}
 
 units_keep : (us vs : List OpenUnit) (m n : ℕ) (xs : List OpenUnit) → KeepsNumbers us vs → units_of us m n ≡ Some xs → units_of vs m n ≡ Some xs
 units_keep us vs zero zero xs g e = e
@@ -67,7 +68,7 @@ one_slots us m n m' n' xs d (neither e f g) (both a b u v e' f' g' h' i') = absu
 one_slots us m n m' n' xs d (one a u e f g h) (neither e' f' g') = absurd (let z : ◌≡◌ {A = List OpenUnit} [] (u ∷ []) = sym e' ∙ e in cc)
 one_slots us m n m' n' xs d (one a u e f g h) (one a' u' e' f' g' h') =
     let same : u' ≡ u = (let z : u' ∷ [] ≡ u ∷ [] = sym e' ∙ e in cc) in
-    let k = one_number us a a' u d h (h' ∙ ap Some same) in
+    let k = one_place us a a' u d h (h' ∙ ap Some same) in
     (f ∙ ap suc k ∙ sym f', g ∙ sym g')
 one_slots us m n m' n' xs d (one a u e f g h) (both a' b' u' v' e' f' g' h' i') = absurd (let z : u ∷ [] ≡ u' ∷ v' ∷ [] = sym e ∙ e' in cc)
 one_slots us m n m' n' xs d (both a b u v e f g h i) (neither e' f' g') = absurd (let z : ◌≡◌ {A = List OpenUnit} [] (u ∷ v ∷ []) = sym e' ∙ e in cc)
@@ -76,14 +77,14 @@ one_slots us m n m' n' xs d (both a b u v e f g h i) (both a' b' u' v' e' f' g' 
     let z : u' ∷ v' ∷ [] ≡ u ∷ v ∷ [] = sym e' ∙ e in
     let same : u' ≡ u = cc in
     let other : v' ≡ v = cc in
-    let k = one_number us a a' u d h (h' ∙ ap Some same) in
-    let l = one_number us b b' v d i (i' ∙ ap Some other) in
+    let k = one_place us a a' u d h (h' ∙ ap Some same) in
+    let l = one_place us b b' v d i (i' ∙ ap Some other) in
     (f ∙ ap suc k ∙ sym f', g ∙ ap suc l ∙ sym g')
 
 -- a residual has one key
 pub one_key : (t : Tables) → AreTables t → (k l : ResidualKey) (x : State) → StandsFor t k x → StandsFor t l x → k ≡ l
 one_key t a k l x s r =
-    let at = one_number t.positions k.position l.position x.at a.positions s.at r.at in
+    let at = one_place t.positions k.position l.position x.at a.positions s.at r.at in
     let units = one_slots t.units k.first k.second l.first l.second x.units a.units (slots t.units k.first k.second x.units s.units) (slots t.units l.first l.second x.units r.units) in
     let part : k.part ≡ l.part = s.part ∙ sym r.part in
     λ j. record { position = at j; first = units.0 j; second = units.1 j; part = part j }
@@ -127,21 +128,15 @@ keys_of_residuals parts t a k l x y e f =
       λ h. (keys_tell parts k l hk hl).1 (one_key t a k l x e (subst (StandsFor t l) (sym h) f)),
     )
 
--- a live key has its numbers
-pub got_below : {X : Type 0} (xs : List X) (n : ℕ) (x : X) → slice_get xs n ≡ Some x → n < length xs
-got_below [] n x e = absurd (cc)
-got_below (y ∷ xs) zero x e = omega arith
-got_below (y ∷ xs) (suc n) x e = let h = got_below xs n x e in omega (arith, h)
-
 pub has_slots : (us : List OpenUnit) (m n : ℕ) (xs : List OpenUnit) → units_of us m n ≡ Some xs → HasSlot us m × HasSlot us n
 has_slots us m n xs e = go (slots us m n xs e)
   where
     go : Slots us m n xs → HasSlot us m × HasSlot us n
     go (neither e f g) = (subst (HasSlot us) (sym f) tt, subst (HasSlot us) (sym g) tt)
-    go (one a u e f g h) = (subst (HasSlot us) (sym f) (got_below us a u h), subst (HasSlot us) (sym g) tt)
-    go (both a b u v e f g h i) = (subst (HasSlot us) (sym f) (got_below us a u h), subst (HasSlot us) (sym g) (got_below us b v i))
+    go (one a u e f g h) = (subst (HasSlot us) (sym f) (got_within us a u h), subst (HasSlot us) (sym g) tt)
+    go (both a b u v e f g h i) = (subst (HasSlot us) (sym f) (got_within us a u h), subst (HasSlot us) (sym g) (got_within us b v i))
 
-some_same : (x y : OpenUnit) → Some x ≡ Some y → x ≡ y
+pub some_same : (x y : OpenUnit) → Some x ≡ Some y → x ≡ y
 some_same x y e = cc
 
 pub slot_same : (us : List OpenUnit) (n a : ℕ) (u v : OpenUnit) → n ≡ suc a → slice_get us a ≡ Some u → IsSlot us n (Some v) → v ≡ u

@@ -16,7 +16,9 @@ use Rattle.residual_table.specs.declared.key.ResidualKey.{ResidualKey}
 use Rattle.residual_table.specs.Found.{key_at, slot_at}
 use Rattle.residual_table.specs.Keys.{AreTables, IsSlot, StandsFor, Tables, units_of, ◌>>=◌}
 use Rattle.residual_table.proofs.KeyFacts.{Slots, slots, units_back}
-use Rattle.residual_table.proofs.Numbers.{TellsFor, each_any, got, one_number}
+use Rattle.residual_table.proofs.Numbers.{TellsFor, each_any}
+use Rattle.law_lemmas.proofs.EachOne.{each_got}
+use Rattle.law_lemmas.proofs.Pairs.{one_place}
 
 first_below : {X : Type 0} (test : X → Bool) (xs : List X) (n : ℕ) (x : X) → slice_get xs n ≡ Some x → test x ≡ true → position_or_len test xs < length xs
 first_below test [] n x e t = absurd (cc)
@@ -36,13 +38,13 @@ module _ {X : Type 0} (P : X → Type 0) (eq : X → X → Bool) (tells : TellsF
   stands x n p e =
       let h = position-Some (eq x) xs n x e in
       let k = slice_get-get_or xs n x h.0 in
-      k ∙ ap Some (sym ((tells x (get_or xs n x) p (got P xs n (get_or xs n x) all k)).0 h.1))
+      k ∙ ap Some (sym ((tells x (get_or xs n x) p (each_got P xs n (get_or xs n x) all k)).0 h.1))
 
   at_number : (x : X) (n : ℕ) → P x → slice_get xs n ≡ Some x → position (eq x) xs ≡ Some n
   at_number x n p e = go (position (eq x) xs) refl
     where
       go : (o : Option ℕ) → position (eq x) xs ≡ o → o ≡ Some n
-      go (Some m) f = ap Some (one_number xs m n x d (stands x m p f) e)
+      go (Some m) f = ap Some (one_place xs m n x d (stands x m p f) e)
       go None f = absurd (not_past (eq x) xs (first_below (eq x) xs n x e ((tells x x p p).1 refl)) f)
 
   slot_is : (o : Option X) (n : ℕ) → IfSome o P → (slot_at eq xs o ≡ Some n) ↔ IsSlot xs n o

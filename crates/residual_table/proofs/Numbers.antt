@@ -1,12 +1,10 @@
 -- Numbers of elements that stand once each.
-use Rattle.std.proofs.Common.{◌≡◌, ◌≢◌, ◌↔◌, ◌∙◌, ℕ, zero, suc, Bool, true, false, ◌||◌, if◌then◌else◌, IsTrue, List, [], ◌∷◌, ◌++◌, slice_get, Some, refl, sym, ap, subst, inl, inr}
+use Rattle.std.proofs.Common.{◌≡◌, ◌≢◌, ◌↔◌, ◌∙◌, ℕ, zero, suc, Bool, true, false, if◌then◌else◌, IsTrue, List, [], ◌∷◌, ◌++◌, slice_get, Some, refl, sym, ap, subst, inl, inr}
 use Rattle.std.specs.List.{list_any}
 use Rattle.fare_law.specs.Lists.{AllDifferent, Each}
 use Rattle.residual_table.specs.Keys.{IsAdded, KeepsNumbers}
-
-each_last : {X : Type 0} (P : X → Type 0) (xs : List X) (x : X) → Each P xs → P x → Each P (xs ++ x ∷ [])
-each_last P [] x h p = (p, tt)
-each_last P (y ∷ xs) x h p = (h.0, each_last P xs x h.1 p)
+use Rattle.law_lemmas.proofs.EachOne.{each_got, each_more}
+use Rattle.law_lemmas.proofs.Tests.{neither}
 
 keeps_last : {X : Type 0} (xs : List X) (x : X) → KeepsNumbers xs (xs ++ x ∷ [])
 keeps_last [] x n y e = absurd (cc)
@@ -28,31 +26,22 @@ each_added eq P xs ys x (inl e) h p = subst (Each P) (sym e) (go (list_any (eq x
   where
     go : (b : Bool) → Each P (if b then xs else xs ++ x ∷ [])
     go true = h
-    go false = each_last P xs x h p
-
-pub got : {X : Type 0} (P : X → Type 0) (xs : List X) (n : ℕ) (x : X) → Each P xs → slice_get xs n ≡ Some x → P x
-got P [] n x h e = absurd (cc)
-got P (y ∷ xs) zero x h e = subst P (let z : y ≡ x = cc in z) h.0
-got P (y ∷ xs) (suc n) x h e = got P xs n x h.1 e
+    go false = each_more P xs x h p
 
 -- an equality test that tells whether these are one
 abbrev pub TellsFor : {X : Type 0} → (X → Type 0) → (X → X → Bool) → Type 0
 TellsFor {X} P eq = (a b : X) → P a → P b → IsTrue (eq a b) ↔ (a ≡ b)
 
-either : (a b : Bool) → (a || b) ≡ false → (a ≡ false) × (b ≡ false)
-either true b e = absurd (cc)
-either false b e = (refl, e)
-
 module _ {X : Type 0} (P : X → Type 0) (eq : X → X → Bool) (tells : TellsFor P eq) where
   not_there : (xs : List X) (x : X) → Each P xs → P x → list_any (eq x) xs ≡ false → Each (λ y. y ≢ x) xs
   not_there [] x h p e = tt
   not_there (y ∷ xs) x h p e =
-      let f = either (eq x y) (list_any (eq x) xs) e in
+      let f = neither (eq x y) (list_any (eq x) xs) e in
       (λ same. let t : eq x y ≡ true = (tells x y p h.0).1 (sym same) in absurd (cc), not_there xs x h.1 p f.1)
 
   once_last : (xs : List X) (x : X) → AllDifferent xs → Each (λ y. y ≢ x) xs → AllDifferent (xs ++ x ∷ [])
   once_last [] x h n = (tt, tt)
-  once_last (y ∷ xs) x h n = (each_last (λ z. y ≢ z) xs x h.0 n.0, once_last xs x h.1 n.1)
+  once_last (y ∷ xs) x h n = (each_more (λ z. y ≢ z) xs x h.0 n.0, once_last xs x h.1 n.1)
 
   pub once_added : (xs ys : List X) (x : X) → IsAdded eq xs x ys → AllDifferent xs → Each P xs → P x → AllDifferent ys
   once_added xs ys x (inr e) h all p = subst AllDifferent (sym e) h
@@ -64,16 +53,8 @@ module _ {X : Type 0} (P : X → Type 0) (eq : X → X → Bool) (tells : TellsF
 
   -- the element that the test finds is the one that was added
   pub found_is : (xs : List X) (n : ℕ) (x : X) → Each P xs → P x → (y : X) × (slice_get xs n ≡ Some y) × (eq x y ≡ true) → slice_get xs n ≡ Some x
-  found_is xs n x all p (y, e, t) = e ∙ ap Some (sym ((tells x y p (got P xs n y all e)).0 t))
+  found_is xs n x all p (y, e, t) = e ∙ ap Some (sym ((tells x y p (each_got P xs n y all e)).0 t))
 
 pub each_any : {X : Type 0} (xs : List X) → Each (λ (x : X). Unit {0}) xs
 each_any [] = tt
 each_any (x ∷ xs) = (tt, each_any xs)
-
--- each element has one number
-pub one_number : {X : Type 0} (xs : List X) (m n : ℕ) (x : X) → AllDifferent xs → slice_get xs m ≡ Some x → slice_get xs n ≡ Some x → m ≡ n
-one_number [] m n x h e f = absurd (cc)
-one_number (y ∷ xs) zero zero x h e f = refl
-one_number (y ∷ xs) zero (suc n) x h e f = let same : y ≡ x = cc in absurd (got (λ z. y ≢ z) xs n x h.0 f same)
-one_number (y ∷ xs) (suc m) zero x h e f = let same : y ≡ x = cc in absurd (got (λ z. y ≢ z) xs m x h.0 e same)
-one_number (y ∷ xs) (suc m) (suc n) x h e f = ap suc (one_number xs m n x h.1 e f)

@@ -1,26 +1,21 @@
 -- Where a component may stop over: the test on each flight and the next says what category 8 asks.
-use Rattle.std.proofs.Common.{◌≡◌, List, [], ◌∷◌, Bool, true, false, not, ◌||◌, refl, ap, drop}
+use Rattle.std.proofs.Common.{◌≡◌, List, [], ◌∷◌, Bool, true, false, not, ◌||◌, refl, drop}
 use Rattle.std.specs.Bool.{Decides}
 use Rattle.std.specs.List.{zip, list_all, list_any, Contains}
 use Rattle.std.proofs.lemmas.Bool.Decides.{Decides-and, Decides-by_or, Decides-like}
 use Rattle.std.proofs.lemmas.List.Elements.{Contains-from_at, at_from_Contains}
-use Rattle.std.proofs.lemmas.Slice.Eq.{bytes_eq-Decides}
 use Rattle.fare_law.specs.declared.flights.Flight.{Flight}
 use Rattle.fare_law.specs.declared.names.Place.{Place}
 use Rattle.fare_law.specs.Book.{same_place}
 use Rattle.fare_law.specs.Parts.{is_stopover}
 use Rattle.rule_route.specs.Permits.{permits_stop, StopsOnlyAt}
-
-places_told : (p q : Place) → Decides (same_place p q) (p ≡ q)
-places_told p q = Decides-like _ (λ h. ap {B = Place} (λ x. record { 0 = x }) h) (λ e. ap (λ p. p.0) e) (bytes_eq-Decides p.0 q.0)
+use Rattle.law_lemmas.proofs.Names.{places_told}
+use Rattle.law_lemmas.proofs.Tests.{false_true}
 
 place_listed : (places : List Place) (x : Place) → Decides (list_any (λ p. same_place p x) places) (Contains places x)
 place_listed places x =
     Decides-like _ (Contains-from_at places x) (at_from_Contains places x)
     (Decides-by_or (λ p. same_place p x) (λ p. p ≡ x) (list_any (λ p. same_place p x)) (λ p. places_told p x) refl (λ p ps. refl) places)
-
-false_true : false ≡ true → ⊥
-false_true h = cc
 
 only_if : {P : Type 0} (b r : Bool) → Decides r P → Decides (not b || r) (b ≡ true → P)
 only_if true r d = (λ t _. d.0 t, λ h. d.1 (h refl))

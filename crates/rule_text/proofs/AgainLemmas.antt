@@ -1,14 +1,10 @@
 -- Parts of a rule within their limits are read again from their values.
-use Rattle.std.proofs.Common.{◌≡◌, ◌<◌, ◌≤◌, ◌≤ℤ◌, ◌+◌, ℕ, ℤ, suc, int_le, nat_le, eq-eqb, true, false, List, [], ◌∷◌, length, Some, Result, Ok, refl, arith, sym, subst, ap}
-use Rattle.std.specs.Char.{is_ascii_uppercase}
-use Rattle.std.specs.List.{list_all}
+use Rattle.std.proofs.Common.{◌≡◌, ◌<◌, ◌≤◌, ◌≤ℤ◌, ◌+◌, ℕ, ℤ, suc, int_le, eq-eqb, true, false, List, [], ◌∷◌, length, Some, Result, Ok, refl, arith, sym, subst, ap}
 use Rattle.std.proofs.lemmas.Bool.Decides.{nat_tests}
 use Rattle.std.proofs.lemmas.Int.{ints}
 use Rattle.serde_json.specs.Data.{Data, Items, no_items, item, array, number, unsigned, string, items_depth}
 use Rattle.serde_json.specs.Written.{items_have_float}
-use Rattle.fare_law.specs.Lists.{Each, EachPair}
-use Rattle.fare_law.specs.Names.{IsCarrier, IsCharacter}
-use Rattle.fare_law.specs.declared.names.Carrier.{Carrier}
+use Rattle.fare_law.specs.Lists.{EachPair}
 use Rattle.fare_law.specs.declared.names.Place.{Place}
 use Rattle.fare_law.specs.declared.rules.CombineRule.{CombineRule}
 use Rattle.fare_law.specs.declared.rules.DayRange.{DayRange}
@@ -21,8 +17,8 @@ use Rattle.fare_law.specs.declared.rules.TransferRule.{TransferRule}
 use Rattle.fare_law.specs.declared.rules.UnitKind.{UnitKind}
 use Rattle.market_time.specs.Clock.{minute_spelled}
 use Rattle.market_time.specs.Dates.{day_spelled}
-use Rattle.name_text.specs.Names.{place_of, carrier_of, is_character}
-use Rattle.fare_law.specs.Limits.{IsCapital, IsPlace}
+use Rattle.name_text.specs.Names.{place_of}
+use Rattle.fare_law.specs.Limits.{IsPlace}
 use Rattle.rule_text.specs.declared.fault.RuleFault.{RuleFault}
 use Rattle.fare_law.specs.RuleLimits.{IsListOf, IsWeekday, IsDays, IsDayRange, IsDayTime, IsFlightRange, IsMinStay, IsSurcharge, IsTransferRule, IsCombineRule, rank_of_kind}
 use Rattle.rule_text.specs.Members.{each_of, item_count, list_of}
@@ -30,36 +26,18 @@ use Rattle.rule_text.specs.Parts.{ascend, ascend_from, date_of, day_range_of, da
 use Rattle.rule_text.specs.Rules.{combine_rule_of, day_time_of, end_on_end_spelled, flight_rule_of, min_stay_of, partners_spelled, surcharge_of, transfer_rule_of, unit_kind_of, unit_kind_spelled}
 use Rattle.rule_text.specs.Again.{Spells}
 use Rattle.rule_text.specs.Written.{combine_rule_data, day_range_data, day_time_data, flight_range_data, flight_rule_data, min_stay_data, surcharge_data, transfer_rule_data}
-
-le_true : (a b : ℕ) → a ≤ b → nat_le a b ≡ true
-le_true a b h = grind (arith, nat_tests)
+use Rattle.law_lemmas.proofs.Tests.{le_true}
+use Rattle.law_lemmas.proofs.Words.{capitals_again}
+use Rattle.name_text.proofs.TextLemmas.{carrier_again}
 
 int_true : (a b : ℤ) → a ≤ℤ b → int_le a b ≡ true
 int_true a b h = grind (arith, ints, nat_tests)
 
 -- names
 
-capital_again : (c : ℕ) → IsCapital c → is_ascii_uppercase c ≡ true
-capital_again c h = grind (arith, nat_tests)
-
-capitals_again : (cs : List ℕ) → Each IsCapital cs → list_all is_ascii_uppercase cs ≡ true
-capitals_again [] h = refl
-capitals_again (c ∷ cs) h = rw (capital_again c h.0) (capitals_again cs h.1)
-
 place_named_again : (p : Place) → IsPlace p → place_of p.0 ≡ Some p
 unfolding place_of
 place_named_again p h = rw (eq-eqb (length p.0) 3 h.0, capitals_again p.0 h.1) refl
-
-character_again : (c : ℕ) → IsCharacter c → is_character c ≡ true
-character_again c h = grind (arith, nat_tests)
-
-characters_again : (cs : List ℕ) → Each IsCharacter cs → list_all is_character cs ≡ true
-characters_again [] h = refl
-characters_again (c ∷ cs) h = rw (character_again c h.0) (characters_again cs h.1)
-
-carrier_named_again : (c : Carrier) → IsCarrier c → carrier_of c.0 ≡ Some c
-unfolding carrier_of
-carrier_named_again c h = rw (eq-eqb (length c.0) 2 h.0, characters_again c.0 h.1) refl
 
 -- single values
 
@@ -99,7 +77,7 @@ flight_range_again r v e h =
     subst (λ (x : Data). Spells 1 flight_range_of r x) (sym e)
     (record {
       again = rw (
-        carrier_named_again r.carrier h.carrier,
+        carrier_again r.carrier h.carrier,
         le_true 1 r.low h.low,
         le_true r.low 9999 (let a = h.in_turn in let b = h.high in omega arith),
         le_true 1 r.high (let a = h.in_turn in let b = h.low in omega arith),
@@ -212,7 +190,7 @@ surcharge_again s first last v e one other h =
     subst (λ (x : Data). Spells 1 surcharge_of s x) (sym e)
     (record {
       again = rw (
-        carrier_named_again s.carrier h.carrier,
+        carrier_again s.carrier h.carrier,
         le_true 1 s.low h.low,
         le_true s.low 9999 (let a = h.flights_in_turn in let b = h.high in omega arith),
         le_true 1 s.high (let a = h.flights_in_turn in let b = h.low in omega arith),

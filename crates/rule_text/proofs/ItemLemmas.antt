@@ -1,15 +1,15 @@
--- Items that were read, and those that are left.
-use Rattle.std.proofs.Common.{◌≡◌, true, false, nat_le, ◌<◌, ◌≤◌, ◌+◌, ℕ, zero, suc, take, subst, List, [], ◌∷◌, ◌++◌, length, drop, get_or, refl, ap, sym, ◌∙◌, Result, Ok, Err, append_assoc, append-nil, drop-cons, add-one, arith}
-use Rattle.std.proofs.lemmas.Bool.Decides.{nat_tests}
+-- Items that were read, and those that are left. Given on to the crates above.
+use Rattle.std.proofs.Common.{◌≡◌, ◌<◌, ◌≤◌, ◌+◌, ℕ, suc, take, subst, List, [], ◌∷◌, ◌++◌, length, drop, get_or, refl, ap, sym, ◌∙◌, Result, Ok, Err, append_assoc, append-nil, drop-cons, add-one}
 use Rattle.std.proofs.lemmas.List.{drop_all, take_all, take_more}
 use Rattle.serde_json.specs.Data.{Data}
 use Rattle.serde_json.specs.View.{view, items_view}
 use Rattle.serde_json.specs.declared.value.Value.{Value}
-use Rattle.fare_law.specs.Lists.{Each}
 use Rattle.rule_text.specs.Members.{each_of, items_of, then_rest, item_count}
 use Rattle.rule_text.specs.Written.{WritesEach}
 use Rattle.rule_text.specs.declared.fault.RuleFault.{RuleFault}
 use Rattle.rule_text.specs.declared.fault.RuleFault.TheVariants.{Range}
+use Rattle.law_lemmas.proofs.EachOne.{each_more, holds_at}
+use Rattle.law_lemmas.proofs.Tests.{le_false, le_true}
 
 pub count_items : (vs : List Value) → item_count (items_view vs) ≡ length vs
 count_items [] = refl
@@ -48,18 +48,7 @@ module _ {A : Type 0} (f : Data → Result A RuleFault) where
   pub items_all : (front : List A) (vs : List Value) (i : ℕ) → length vs ≤ i → after front (each_of f (items_view (drop i vs))) ≡ each_of f (items_view vs) → Ok front ≡ each_of f (items_view vs)
   items_all front vs i l h = sym (ap (λ ys. after front (each_of f (items_view ys))) (drop_all i vs l) ∙ ap Ok (append-nil front)) ∙ h
 
--- one more that has P
-pub each_more : {A : Type 0} (P : A → Type 0) (front : List A) (a : A) → Each P front → P a → Each P (front ++ a ∷ [])
-each_more P [] a h p = (p, tt)
-each_more P (x ∷ xs) a h p = (h.0, each_more P xs a h.1 p)
-
 pub ruleset item_steps = (after_none, items_more, items_bad, items_all, each_more)
-
-le_true : (a b : ℕ) → a ≤ b → nat_le a b ≡ true
-le_true a b h = grind (arith, nat_tests)
-
-le_false : (a b : ℕ) → b < a → nat_le a b ≡ false
-le_false a b h = grind (arith, nat_tests)
 
 -- lists of a length that is allowed, and the others
 
@@ -92,11 +81,5 @@ module _ {A : Type 0} (Writes : A → Data → Type 0) where
 
   pub values_whole : (xs : List A) (vs : List Value) (i : ℕ) → length xs ≤ i → WritesEach Writes (take i xs) (items_view vs) → WritesEach Writes xs (items_view vs)
   values_whole xs vs i l h = subst (λ ys. WritesEach Writes ys (items_view vs)) (take_all i xs l) h
-
--- what each item has, the one at this place has
-pub holds_at : {A : Type 0} (P : A → Type 0) (xs : List A) (i : ℕ) (d : A) → i < length xs → Each P xs → P (get_or xs i d)
-holds_at P [] i d l h = absurd (omega arith)
-holds_at P (x ∷ xs) zero d l h = h.0
-holds_at P (x ∷ xs) (suc i) d l h = holds_at P xs i d (omega arith) h.1
 
 pub ruleset value_steps = (values_grow, values_whole, holds_at)

@@ -11,13 +11,10 @@ use Rattle.rule_text.specs.declared.fault.RuleFault.{RuleFault}
 use Rattle.rule_text.specs.Members.{is_one_of, only_named, optional_at}
 use Rattle.rule_text.specs.Again.{Spells}
 use Rattle.rule_text.specs.Written.{Puts, WritesIf, member_if, put_if}
-
-untrue_test : (b : Bool) → (b ≡ true → ⊥) → b ≡ false
-untrue_test true h = absurd (h refl)
-untrue_test false h = refl
+use Rattle.law_lemmas.proofs.Tests.{both_true, neither, not_true, untrue}
 
 not_equal : (q k : List ℕ) → (q ≡ k → ⊥) → bytes_eq q k ≡ false
-not_equal q k other = untrue_test (bytes_eq q k) (λ e. other ((bytes_eq-Decides q k).0 e))
+not_equal q k other = not_true (bytes_eq q k) (λ e. other ((bytes_eq-Decides q k).0 e))
 
 -- a name of another text
 other_name : (q k : List ℕ) → bytes_eq q k ≡ false → (q ≡ k → ⊥)
@@ -30,10 +27,6 @@ get_other q k (Some d) ms e = get_member-put_other q k d ms (other_name q k e)
 pub get_here : (k : List ℕ) (o : Option Data) (ms : Members) → get_member k ms ≡ None → get_member k (put_if k o ms) ≡ o
 get_here k None ms e = e
 get_here k (Some d) ms e = get_member-put k d ms
-
-neither : (a b : Bool) → (a || b) ≡ false → (a ≡ false) × (b ≡ false)
-neither true b e = absurd (cc)
-neither false b e = (refl, e)
 
 module _ (these those : List (List ℕ)) where
   named_put_at : (o : Ordering) (k l : List ℕ) (d e : Data) (ms : Members) → (is_one_of these k || is_one_of those k) ≡ true
@@ -90,14 +83,6 @@ pub absent : (q : List ℕ) (gs : List Given) → comes_in q gs ≡ false → ge
 absent q [] e = refl
 absent q (g ∷ gs) e = let h = neither (bytes_eq q g.0) (comes_in q gs) e in get_other q g.0 g.1 (built gs) h.0 ∙ absent q gs h.1
 
-untrue : (b : Bool) → not b ≡ true → b ≡ false
-untrue true e = absurd (cc)
-untrue false e = refl
-
-both : (a b : Bool) → (a && b) ≡ true → (a ≡ true) × (b ≡ true)
-both true b e = (refl, e)
-both false b e = absurd (cc)
-
 -- a name that doesn't come in a list is another than each of the list
 apart : (q : List ℕ) (gs : List Given) (i : ℕ) (d : Given) → i < length gs → comes_in q gs ≡ false → bytes_eq (get_or gs i d).0 q ≡ false
 apart q [] i d l e = absurd (omega arith)
@@ -109,10 +94,10 @@ apart q (g ∷ gs) (suc i) d l e = apart q gs i d (omega arith) ((neither (bytes
 pub found : (gs : List Given) (i : ℕ) (d : Given) → i < length gs → distinct gs ≡ true → get_member ((get_or gs i d).0) (built gs) ≡ (get_or gs i d).1
 found [] i d l e = absurd (omega arith)
 found (g ∷ gs) zero d l e =
-    let h = both (not (comes_in g.0 gs)) (distinct gs) e in
+    let h = both_true (not (comes_in g.0 gs)) (distinct gs) e in
     get_here g.0 g.1 (built gs) (absent g.0 gs (untrue (comes_in g.0 gs) h.0))
 found (g ∷ gs) (suc i) d l e =
-    let h = both (not (comes_in g.0 gs)) (distinct gs) e in
+    let h = both_true (not (comes_in g.0 gs)) (distinct gs) e in
     get_other (get_or gs i d).0 g.0 g.1 (built gs) (apart g.0 gs i d (omega arith) (untrue (comes_in g.0 gs) h.0)) ∙ found gs i d (omega arith) h.1
 
 -- whether each name is known
@@ -128,7 +113,7 @@ named_if these those k (Some d) ms known = named_put these those k d ms known
 pub built_named : (these those : List (List ℕ)) (gs : List Given) → all_known these those gs ≡ true → only_named these those (built gs) ≡ true
 built_named these those [] e = refl
 built_named these those (g ∷ gs) e =
-    let h = both (is_one_of these g.0 || is_one_of those g.0) (all_known these those gs) e in
+    let h = both_true (is_one_of these g.0 || is_one_of those g.0) (all_known these those gs) e in
     named_if these those g.0 g.1 (built gs) h.0 ∙ built_named these those gs h.1
 
 -- a part that may be absent, and its value
@@ -219,11 +204,11 @@ put_last : (k : List ℕ) (o : Option Data) (gs : List Given) → comes_after k 
 put_last k None [] e = refl
 put_last k (Some d) [] e = refl
 put_last k o (g ∷ gs) e =
-    let h = both (is_gt (slice_cmp nat_cmp k g.0)) (comes_after k gs) e in
+    let h = both_true (is_gt (slice_cmp nat_cmp k g.0)) (comes_after k gs) e in
     put_behind k g.0 o g.1 (listed gs) (greater (slice_cmp nat_cmp k g.0) h.0) ∙ ap (member_if g.0 g.1) (put_last k o gs h.1)
 
 pub built_in_order : (gs : List Given) → descend gs ≡ true → built gs ≡ listed (turned gs)
 built_in_order [] e = refl
 built_in_order (g ∷ gs) e =
-    let h = both (comes_after g.0 (turned gs)) (descend gs) e in
+    let h = both_true (comes_after g.0 (turned gs)) (descend gs) e in
     ap (put_if g.0 g.1) (built_in_order gs h.1) ∙ put_last g.0 g.1 (turned gs) h.0

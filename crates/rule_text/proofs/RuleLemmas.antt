@@ -1,6 +1,5 @@
 -- Objects of optional members are read again: stopovers, travel dates, and the rule itself.
-use Rattle.std.proofs.Common.{◌≡◌, ◌≤◌, ℕ, ℤ, nat_le, true, false, bytes_eq, List, [], ◌∷◌, Option, Some, None, Ok, codes, refl, arith, sym, subst, ap, ◌∙◌}
-use Rattle.std.proofs.lemmas.Bool.Decides.{nat_tests}
+use Rattle.std.proofs.Common.{◌≡◌, ◌≤◌, ℕ, ℤ, true, false, bytes_eq, List, [], ◌∷◌, Option, Some, None, Ok, codes, refl, arith, sym, subst, ap, ◌∙◌}
 use Rattle.serde_json.specs.Data.{Data, Members, no_members, object, put}
 use Rattle.serde_json.specs.Find.{get_member}
 use Rattle.fare_law.specs.declared.names.Place.{Place}
@@ -15,9 +14,7 @@ use Rattle.rule_text.specs.Rules.{combine_rule_of, day_time_of, flight_rule_of, 
 use Rattle.rule_text.specs.Again.{Spells}
 use Rattle.rule_text.specs.Written.{member_if, stop_members}
 use Rattle.rule_text.proofs.MemberLemmas.{EachPlain, Given, SpellsIf, built, built_named, built_floats, built_depth, built_in_order, found, get_other, listed, named_put, optional_again, spells_plain, turned}
-
-le_true : (a b : ℕ) → a ≤ b → nat_le a b ≡ true
-le_true a b h = grind (arith, nat_tests)
+use Rattle.law_lemmas.proofs.Tests.{le_true}
 
 stops_again : (max charge : ℕ) (places : Option (List Place)) (o : Option Data) → max ≤ 3 → charge ≤ 1000000 → SpellsIf 1 (list_of 16 place_form) places o
     → Spells 2 stop_rule_of (record { max = max; charge = charge; places = places }) (object (stop_members charge max (member_if (codes "places") o no_members)))

@@ -1,27 +1,17 @@
 -- Texts of times and names.
-use Rattle.std.proofs.Common.{◌≡◌, ◌<◌, ℕ, zero, suc, List, [], ◌∷◌, Some, refl, arith}
+use Rattle.std.proofs.Common.{◌≡◌, ◌<◌, ℕ, zero, suc, List, Some, refl, arith}
 use Rattle.std.specs.Str.{IsAscii, IsUtf8}
 use Rattle.std.proofs.lemmas.Str.{IsUtf8-from_ascii}
-use Rattle.fare_law.specs.Lists.{Each}
-use Rattle.fare_law.specs.Names.{IsCarrier, IsCharacter}
+use Rattle.fare_law.specs.Names.{IsCarrier}
 use Rattle.fare_law.specs.declared.names.Carrier.{Carrier}
 use Rattle.fare_law.specs.declared.names.Place.{Place}
 use Rattle.market_time.specs.Clock.{minute_spelled, time_text}
 use Rattle.market_time.proofs.ClockLemmas.{minutes_written}
-use Rattle.fare_law.specs.Limits.{IsCapital, IsPlace}
+use Rattle.fare_law.specs.Limits.{IsPlace}
+use Rattle.law_lemmas.proofs.Words.{capitals_are_ascii, characters_are_ascii}
 
 pub ascii_is_utf8 : (bs : List ℕ) → IsAscii bs → IsUtf8 bs
 ascii_is_utf8 = IsUtf8-from_ascii
-
-capitals_are_ascii : (cs : List ℕ) → Each IsCapital cs → IsAscii cs
-capitals_are_ascii [] h i = omega arith
-capitals_are_ascii (c ∷ cs) h zero = omega arith
-capitals_are_ascii (c ∷ cs) h (suc i) = capitals_are_ascii cs h.1 i
-
-characters_are_ascii : (cs : List ℕ) → Each IsCharacter cs → IsAscii cs
-characters_are_ascii [] h i = omega arith
-characters_are_ascii (c ∷ cs) h zero = grind arith
-characters_are_ascii (c ∷ cs) h (suc i) = characters_are_ascii cs h.1 i
 
 pub place_is_ascii : (p : Place) → IsPlace p → IsAscii p.0
 place_is_ascii p h = capitals_are_ascii p.0 h.1

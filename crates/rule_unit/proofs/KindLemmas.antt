@@ -10,10 +10,7 @@ use Rattle.fare_law.specs.declared.rules.UnitKind.{UnitKind}
 use Rattle.fare_law.specs.declared.rules.UnitKind.TheVariants.{OneWay, RoundTrip, OpenJaw, Circle}
 use Rattle.fare_law.specs.contracts.rules.UnitKindPartialEq.TheImpl as kinds
 use Rattle.rule_unit.specs.Demands.{place_of_kind, has_kind, same_kind, lists_kind, kinds_of}
-
-or_true : (b : Bool) → (b || true) ≡ true
-or_true true = refl
-or_true false = refl
+use Rattle.law_lemmas.proofs.Tests.{or_true}
 
 abbrev KindsAre : ℕ → Bool → Bool → Bool → Bool → Type 0
 KindsAre kinds a b c d =

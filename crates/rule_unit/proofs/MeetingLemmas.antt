@@ -1,6 +1,6 @@
 -- A unit meets the demand that two demands meet in exactly where it meets both, and the demand of a
 -- rule exactly where the rule holds.
-use Rattle.std.proofs.Common.{ℕ, ℤ, ◌≤◌, ◌⊎◌, max, List, [], ◌∷◌, Option, Some, None, IfSome, sym, subst, inl, inr, ⊎_elim, arith}
+use Rattle.std.proofs.Common.{ℕ, ℤ, ◌≤◌, ◌⊎◌, max, List, [], ◌∷◌, Option, Some, None, IfSome, sym, subst, ⊎_elim, arith}
 use Rattle.fare_law.specs.declared.names.Carrier.{Carrier}
 use Rattle.fare_law.specs.declared.rules.CombineRule.{CombineRule}
 use Rattle.fare_law.specs.declared.rules.Partners.{Partners}
@@ -14,6 +14,7 @@ use Rattle.rule_unit.specs.Demands.{partner_number, partner_of, met}
 use Rattle.rule_unit.specs.Meeting.{HaveCarrier, HaveRule, Meets, MeetsBoth, DemandsAreRules}
 use Rattle.rule_unit.proofs.DayLemmas.{later_holds, later_parts, earlier_holds, earlier_parts, stay_holds, stay_parts, most_holds, most_parts, by_holds, by_parts}
 use Rattle.rule_unit.proofs.KindLemmas.{kind_from, kind_to, common_parts, common_holds}
+use Rattle.law_lemmas.proofs.EachOne.{each_weaker, member_holds}
 
 -- one of two numbers is as large as another where the greater is
 pub of_max : (n a b : ℕ) → n ≤ max a b → (n ≤ a) ⊎ (n ≤ b)
@@ -52,26 +53,17 @@ pub meets_both : (d e : UnitDemand) → MeetsBoth (met d e) d e
 meets_both d e kind back last ps =
     (meets_parts d e kind back last ps, λ h. meets_holds d e kind back last ps h.0 h.1)
 
-each_in : {X : Type 0} (P : X → Type 0) (x : X) (xs : List X) → IsIn x xs → Each P xs → P x
-each_in P x [] h k = absurd h
-each_in P x (y ∷ ys) (inl e) k = subst P (sym e) k.0
-each_in P x (y ∷ ys) (inr h) k = each_in P x ys h k.1
-
-each_like : {X : Type 0} (P Q : X → Type 0) → ((x : X) → P x → Q x) → (xs : List X) → Each P xs → Each Q xs
-each_like P Q f [] h = tt
-each_like P Q f (x ∷ xs) h = (f x h.0, each_like P Q f xs h.1)
-
 each_free : (p : Piece) (ps : List Piece) → Each (SameAs Any p) ps
 each_free p [] = tt
 each_free p (q ∷ ps) = (tt, each_free p ps)
 
 -- fares of one carrier have that of each of them
 carrier_at : (p : Piece) (ps : List Piece) → IsIn p ps → (c : Carrier) → HaveCarrier c ps → HaveCarrier p.fare.key.carrier ps
-carrier_at p ps i c h = subst (λ x. HaveCarrier x ps) (sym (each_in _ p ps i h)) h
+carrier_at p ps i c h = subst (λ x. HaveCarrier x ps) (sym (member_holds _ p ps i h)) h
 
 rule_at : (p : Piece) (ps : List Piece) → IsIn p ps → (c : Carrier) (n : ℕ) → HaveRule c n ps → HaveRule p.fare.key.carrier p.fare.rule ps
 rule_at p ps i c n h =
-    let at = each_in _ p ps i h in
+    let at = member_holds _ p ps i h in
     subst (λ x. HaveRule x p.fare.rule ps) (sym at.0) (subst (λ x. HaveRule c x ps) (sym at.1) h)
 
 abbrev HasPartners : ℕ → List Piece → Type 0
@@ -86,7 +78,7 @@ same_to : (partners : Partners) (p : Piece) (ps : List Piece) → Each (SameAs p
 same_to Any p ps h = (λ l. absurd (omega arith), λ l. absurd (omega arith))
 same_to SameCarrier p ps h = (λ l. (p.fare.key.carrier, h), λ l. absurd (omega arith))
 same_to SameRule p ps h =
-    (λ l. (p.fare.key.carrier, each_like (SameAs SameRule p) (SameAs SameCarrier p) (λ q e. e.0) ps h), λ l. (p.fare.key.carrier, p.fare.rule, h))
+    (λ l. (p.fare.key.carrier, each_weaker (SameAs SameRule p) (SameAs SameCarrier p) (λ q e. e.0) ps h), λ l. (p.fare.key.carrier, p.fare.rule, h))
 
 partners_from : (c : Option CombineRule) (p : Piece) (ps : List Piece) → IsIn p ps → HasPartners (partner_of c) ps → IfSome c (λ c. Each (SameAs c.partners p) ps)
 partners_from None p ps i h = tt

@@ -78,7 +78,7 @@ partner_within (Some c) = number_within c.partners
     number_within SameCarrier = omega arith
     number_within SameRule = omega arith
 
-demand_within : (r : Rule) (first : ℤ) → IsDayWithin (pos 99000) first → StaysInRange r → DemandInRange (demand_of r first)
+pub demand_within : (r : Rule) (first : ℤ) → IsDayWithin (pos 99000) first → StaysInRange r → DemandInRange (demand_of r first)
 demand_within r first f h = record {
   least = least_stay_within r.cat6 first f h.least;
   greatest = greatest_stay_within r.cat7 first f h.greatest;

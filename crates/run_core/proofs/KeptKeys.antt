@@ -8,7 +8,8 @@ use Rattle.run_core.specs.Counting.{IsKeptOnce, WasKept}
 use Rattle.run_core.specs.Worlds.{Adds, ComesOf, StepsTo, WorldView, opened}
 use Rattle.run_core.specs.declared.events.Event.{Event}
 use Rattle.run_core.specs.declared.events.Event.TheVariants.{File, Look, Fetch, Keep, Answer}
-use Rattle.run_core.proofs.ListEnds.{different_more, in_either, in_end, in_more}
+use Rattle.run_core.proofs.ListEnds.{in_either, in_end, in_more}
+use Rattle.law_lemmas.proofs.Pairs.{differ_more}
 
 -- one Keep event more
 added : (past : List Event) (desk : ℕ) (key : OfferKey) (kept now : List Asked) → IsKeptOnce past kept → Adds kept (asked key) now → IsKeptOnce (Keep desk key ∷ past) now
@@ -17,7 +18,7 @@ added past desk key kept now h (inl there) = subst (IsKeptOnce (Keep desk key �
   exact = λ a. (λ i. inr ((h.exact a).0 i), λ w. ⊎_elim (λ e. subst (λ (x : Asked). IsIn x kept) (sym e) there.0) (λ was. (h.exact a).1 was) w);
 })
 added past desk key kept now h (inr new) = subst (IsKeptOnce (Keep desk key ∷ past)) (sym new.1) (record {
-  once = different_more kept (asked key) h.once new.0;
+  once = differ_more kept (asked key) h.once new.0;
   exact = λ a. (
     λ i. ⊎_elim (λ there. inr ((h.exact a).0 there)) (λ e. inl e) (in_either a kept (asked key) i),
     λ w. ⊎_elim (λ e. subst (λ (x : Asked). IsIn x (kept ++ asked key ∷ [])) (sym e) (in_end kept (asked key))) (λ was. in_more a kept (asked key) ((h.exact a).1 was)) w,

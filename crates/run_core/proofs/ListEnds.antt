@@ -1,20 +1,6 @@
 -- Lists with one more at the end, and options that come of options.
-use Rattle.std.proofs.Common.{◌≡◌, ◌≢◌, ◌⊎◌, ⊎_elim, ◌∙◌, ◌<◌, ℕ, List, [], ◌∷◌, ◌++◌, Option, Some, None, option_map, ap, sym, subst, refl, inl, inr, get_or, replicate, zero, suc, length, unwrap_or, Any, arith}
-use Rattle.fare_law.specs.Lists.{AllDifferent, Each, IsIn, Matched}
-
-pub matched_more : {X Y : Type 0} (R : X → Y → Type 0) (xs : List X) (ys : List Y) (x : X) (y : Y) → Matched R xs ys → R x y → Matched R (xs ++ x ∷ []) (ys ++ y ∷ [])
-matched_more R [] [] x y m r = (r, tt)
-matched_more R [] (v ∷ ys) x y m r = absurd m
-matched_more R (w ∷ xs) [] x y m r = absurd m
-matched_more R (w ∷ xs) (v ∷ ys) x y m r = (m.0, matched_more R xs ys x y m.1 r)
-
-pub each_more : {X : Type 0} (P : X → Type 0) (xs : List X) (x : X) → Each P xs → P x → Each P (xs ++ x ∷ [])
-each_more P [] x e p = (p, tt)
-each_more P (y ∷ xs) x e p = (e.0, each_more P xs x e.1 p)
-
-pub each_weaker : {X : Type 0} (P Q : X → Type 0) (xs : List X) → ((x : X) → P x → Q x) → Each P xs → Each Q xs
-each_weaker P Q [] f e = tt
-each_weaker P Q (x ∷ xs) f e = (f x e.0, each_weaker P Q xs f e.1)
+use Rattle.std.proofs.Common.{◌≡◌, ◌⊎◌, ⊎_elim, ◌∙◌, ◌<◌, ℕ, List, [], ◌∷◌, ◌++◌, Option, Some, None, option_map, ap, sym, subst, refl, inl, inr, get_or, replicate, zero, suc, length, unwrap_or, Any, arith}
+use Rattle.fare_law.specs.Lists.{IsIn}
 
 pub in_more : {X : Type 0} (a : X) (xs : List X) (x : X) → IsIn a xs → IsIn a (xs ++ x ∷ [])
 in_more a [] x i = absurd i
@@ -30,10 +16,6 @@ in_either a [] x (inl e) = inr e
 in_either a [] x (inr i) = absurd i
 in_either a (y ∷ xs) x (inl e) = inl (inl e)
 in_either a (y ∷ xs) x (inr i) = ⊎_elim (λ there. inl (inr there)) (λ e. inr e) (in_either a xs x i)
-
-pub different_more : {X : Type 0} (xs : List X) (x : X) → AllDifferent xs → (IsIn x xs → ⊥) → AllDifferent (xs ++ x ∷ [])
-different_more [] x d out = (tt, tt)
-different_more (y ∷ xs) x d out = (each_more (λ z. y ≢ z) xs x d.0 (λ e. out (inl (sym e))), different_more xs x d.1 (λ i. out (inr i)))
 
 -- one of the elements is this
 in_at : {X : Type 0} (a : X) (xs : List X) (k : ℕ) (x : X) → k < length xs → get_or xs k x ≡ x → x ≡ a → IsIn a xs

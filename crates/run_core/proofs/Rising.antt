@@ -12,7 +12,8 @@ use Rattle.run_core.specs.Worlds.{AnswersFrom, ComesOf, StepsTo, WorldView, open
 use Rattle.run_core.specs.declared.events.Event.{Event}
 use Rattle.run_core.specs.declared.events.Event.TheVariants.{File, Look, Fetch, Keep, Answer}
 use Rattle.run_core.specs.declared.events.Recorded.{Recorded}
-use Rattle.run_core.proofs.ListEnds.{each_more, each_weaker, nothing_there, some_same}
+use Rattle.run_core.proofs.ListEnds.{nothing_there, some_same}
+use Rattle.law_lemmas.proofs.EachOne.{each_by, each_more}
 
 -- the answer is no later than a version of so many entries
 abbrev IsBy : ℕ → Recorded → Type 0
@@ -44,7 +45,7 @@ filed : (u : WorldView) (f : Filing) → Rises u → Rises (record u { book = wi
 filed u f h =
     let more = length-append u.book.entries (f ∷ []) in record {
       low = λ d v e. omega (arith, more, h.low d v e);
-      past = each_weaker (IsBy (length u.book.entries)) _ u.answers (λ r le. omega (arith, more, le)) h.past;
+      past = each_by (IsBy (length u.book.entries)) _ u.answers (λ r le. omega (arith, more, le)) h.past;
       own = h.own;
       fall = h.fall;
     }
@@ -54,7 +55,7 @@ looked u desk less h = record {
   low = λ d v e. ⊎_elim (λ now. subst (λ (x : Book). length x.entries ≤ length u.book.entries) (some_same now.1) (omega arith)) (λ was. h.low d v was.1) (seen_after u.desks desk d (Some u.book) v less e);
   past = h.past;
   own = λ d v e. ⊎_elim
-      (λ now. subst (λ (x : Book). Each (IsByOf d (length x.entries)) u.answers) (some_same now.1) (each_weaker (IsBy (length u.book.entries)) (IsByOf d (length u.book.entries)) u.answers (λ r le _. le) h.past))
+      (λ now. subst (λ (x : Book). Each (IsByOf d (length x.entries)) u.answers) (some_same now.1) (each_by (IsBy (length u.book.entries)) (IsByOf d (length u.book.entries)) u.answers (λ r le _. le) h.past))
       (λ was. h.own d v was.1) (seen_after u.desks desk d (Some u.book) v less e);
   fall = h.fall;
 }
@@ -67,7 +68,7 @@ answered u desk q budget w h s =
       low = λ d v e. ⊎_elim (λ now. absurd (cc now.1)) (λ was. h.low d v was.1) (seen_after u.desks desk d None v s.seen.within e);
       past = each_more (IsBy (length u.book.entries)) u.answers r h.past (omega (arith, s.records.version_is, h.low desk s.version s.seen.sees));
       own = λ d v e. ⊎_elim (λ now. absurd (cc now.1)) (λ was. each_more (IsByOf d (length v.entries)) u.answers r (h.own d v was.1) (λ mine. absurd (was.0 (sym mine ∙ s.records.desk_is)))) (seen_after u.desks desk d None v s.seen.within e);
-      fall = fall_more u.answers r h.fall (each_weaker (IsByOf desk (length s.version.entries)) (λ z. IsNoLower z r) u.answers
+      fall = fall_more u.answers r h.fall (each_by (IsByOf desk (length s.version.entries)) (λ z. IsNoLower z r) u.answers
           (λ z by same. subst (λ (n : ℕ). z.version ≤ n) (sym s.records.version_is) (by (same ∙ s.records.desk_is))) own);
     })
 

@@ -12,7 +12,8 @@ use Rattle.run_core.specs.Worlds.{AnswersFrom, ComesOf, StepsTo, WorldView, open
 use Rattle.run_core.specs.declared.events.Event.{Event}
 use Rattle.run_core.specs.declared.events.Event.TheVariants.{File, Look, Fetch, Keep, Answer}
 use Rattle.run_core.specs.declared.events.Recorded.{Recorded}
-use Rattle.run_core.proofs.ListEnds.{CameOf, came_of, matched_more}
+use Rattle.run_core.proofs.ListEnds.{CameOf, came_of}
+use Rattle.law_lemmas.proofs.Pairs.{matched_more}
 
 -- the world is in step with the events
 pub record Follows (b : Book) (past : List Event) (w : WorldView) : Type 0 where

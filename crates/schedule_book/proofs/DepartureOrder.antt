@@ -1,12 +1,12 @@
 -- Numbers of flights by origin: the order of origins, and the part of one origin.
-use Rattle.std.proofs.Common.{◌≡◌, ℕ, zero, suc, ◌+◌, ◌-◌, ◌≤◌, ◌<◌, Bool, true, false, eqb, List, [], ◌∷◌, length, map, take, drop, get_or, slice_get, Some, refl, sym, ap, ap₂, ◌∙◌, subst, inl, inr, arith}
+use Rattle.std.proofs.Common.{◌≡◌, ℕ, zero, suc, ◌+◌, ◌-◌, ◌≤◌, ◌<◌, true, false, eqb, List, [], ◌∷◌, length, map, take, drop, get_or, slice_get, Some, refl, sym, ap, ap₂, ◌∙◌, subst, inl, inr, arith}
 use Rattle.std.proofs.Math.ListN.{get_or-map}
 use Rattle.std.proofs.lemmas.Bool.{cases_eq, cases_lt, ne_eqb, eqb-false}
 use Rattle.std.proofs.lemmas.Cmp.{then_total, on_total, nat_cmp_total, nat_list_cmp_total, tied_itself, ranked}
 use Rattle.std.proofs.lemmas.List.{get_or-take, get_or-drop, length-map, length-take, length-drop}
 use Rattle.std.proofs.lemmas.List.Sorted.{Contains-permutation, IsPermutation-map, IsPermutation-sym}
 use Rattle.std.proofs.lemmas.Map.Keys.{IsDistinct-IsPermutation, IsDistinct-from_apart, apart_from_distinct}
-use Rattle.std.specs.Cmp.{IsTotalOrder, nat_cmp_is}
+use Rattle.std.specs.Cmp.{IsTotalOrder}
 use Rattle.std.specs.Cmp.Lexicographic.{slice_cmp}
 use Rattle.std.specs.declared.cmp.Ordering.{Ordering}
 use Rattle.std.specs.declared.cmp.Ordering.TheVariants.{Less as Lower, Equal, Greater}
@@ -17,7 +17,8 @@ use Rattle.fare_law.specs.declared.flights.Flight.{Flight}
 use Rattle.fare_law.specs.declared.names.Place.{Place}
 use Rattle.fare_law.specs.Lists.{EachPair, IsIn, Less}
 use Rattle.schedule_book.specs.Departures.{AreDepartures, DepartsFrom, origins}
-use Rattle.schedule_book.proofs.Sorting.{words_told}
+use Rattle.law_lemmas.proofs.Tests.{less_is, true_false}
+use Rattle.law_lemmas.proofs.Words.{words_told}
 
 -- by origin, then by number
 abbrev pub origin_cmp : Place × ℕ → Place × ℕ → Ordering
@@ -31,15 +32,9 @@ lower_is Lower t = refl
 lower_is Equal t = absurd (cc)
 lower_is Greater t = absurd (cc)
 
-clash : {b : Bool} → b ≡ true → b ≡ false → ⊥
-clash p q = cc
-
 -- a key of the place, against the place with a number
 at_place : (p : Place) (n m : ℕ) → origin_cmp (p, n) (p, m) ≡ nat_cmp n m
 at_place p n m = ap (λ o. ordering_then o (nat_cmp n m)) (tied_itself nat_list_cmp_total p.0)
-
-below_number : (n m : ℕ) → n < m → nat_cmp n m ≡ Lower
-below_number n m lt = sym (nat_cmp_is n m Lower lt)
 
 number_below : (n m : ℕ) (o : Ordering) → o ≡ nat_cmp n m → is_lt o ≡ true → n < m
 number_below n m Lower e t = ranked n m Lower e
@@ -48,7 +43,7 @@ number_below n m Greater e t = absurd (cc)
 
 number_above : (n m : ℕ) → is_lt (nat_cmp n m) ≡ false → m ≤ n
 number_above n m f = elim (cases_lt n m) [
-  | inl lt ↦ absurd (clash (ap is_lt (below_number n m lt)) f)
+  | inl lt ↦ absurd (true_false (ap is_lt (less_is n m lt)) f)
   | inr le ↦ le
 ]
 
@@ -170,8 +165,8 @@ module _ (flights : List Flight) (keys : List (Place × ℕ)) (numbers : List �
       | inl lt ↦
           let key : Place × ℕ = get_or keys b (place, lo) in
           let below = lower_is (origin_cmp key (place, lo)) (pa b (place, lo) (omega arith) lt) in
-          let step : origin_cmp (place, lo) (place, hi) ≡ Lower = at_place place lo hi ∙ below_number lo hi order in
-          absurd (clash (ap is_lt (origin_total.trans key (place, lo) (place, hi) below step)) (qb b (place, lo) (omega arith) (omega arith)))
+          let step : origin_cmp (place, lo) (place, hi) ≡ Lower = at_place place lo hi ∙ less_is lo hi order in
+          absurd (true_false (ap is_lt (origin_total.trans key (place, lo) (place, hi) below step)) (qb b (place, lo) (omega arith) (omega arith)))
     ]
 
     told_at : (k : ℕ) (d : Place × ℕ) → a ≤ k → k < b → ((get_or keys k d).0.0 ≡ place.0) × (lo ≤ (get_or keys k d).1) × ((get_or keys k d).1 < hi)

@@ -15,7 +15,9 @@ use Rattle.schedule_book.specs.Days.{named_days}
 use Rattle.schedule_book.specs.Expansions.{AddsRow, Expands, RepeatsOne, Seen, number_of}
 use Rattle.schedule_book.specs.Faults.{HasFault, IsRepeated, NoOwnFault, OwnFault, RowCause, RowFault, RowsRight, SameDated, fault_number}
 use Rattle.schedule_book.proofs.Numbers.{same, parts_differ}
-use Rattle.schedule_book.proofs.Rows.{front_is, split_is, split_push, split_none, in_left, in_right, in_either}
+use Rattle.schedule_book.proofs.Rows.{split_push}
+use Rattle.law_lemmas.proofs.Lists.{front_read, no_middle, split_is}
+use Rattle.law_lemmas.proofs.Members.{in_either, in_left, in_right}
 
 -- the rows so far have no fault, and these are their flights
 pub record Expanded (places : List PlaceRow) (rows : List FlightRow) (flights : List Flight) : Type 0 where
@@ -125,7 +127,7 @@ none_differ = tt
 pub expanded_empty : (places : List PlaceRow) (flights : List Flight) → flights ≡ [] → Expanded places [] flights
 expanded_empty places flights e = subst (Expanded places []) (sym e) (record {
   expands = record { are = λ f. (λ i. absurd i, λ h. absurd h.1); many = refl; differ = none_differ };
-  right = λ before r after q other k. split_none before r after q;
+  right = λ before r after q other k. no_middle before r after q;
   few = omega arith;
 })
 
@@ -164,4 +166,4 @@ module _ (places : List PlaceRow) (rows : List FlightRow) (i : ℕ) (d row : Fli
   )
 
   pub expanded_next : NoOwnFault places row → (new : List Flight) → AddsRow row flights new → IsDistinct same (map number_of new) → length new ≤ 200000 → Expanded places (take (i + 1) rows) new
-  expanded_next own new adds differ few = subst (λ rs. Expanded places rs new) (sym (front_is rows i d row lt is)) (expanded_more places (take i rows) flights e row own new adds differ few)
+  expanded_next own new adds differ few = subst (λ rs. Expanded places rs new) (sym (front_read rows i d row lt is)) (expanded_more places (take i rows) flights e row own new adds differ few)

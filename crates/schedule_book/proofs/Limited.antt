@@ -1,24 +1,16 @@
 -- The flights of rows within their limits are within theirs, and flights in order depart one after another.
-use Rattle.std.proofs.Common.{◌≡◌, ℤ, ℕ, pos, ◌≤ℤ◌, ◌<ℤ◌, ◌+ℤ◌, ◌-ℤ◌, ◌*ℤ◌, List, [], ◌∷◌, refl, sym, subst, inl, inr, arith}
+use Rattle.std.proofs.Common.{◌≡◌, ℤ, ℕ, pos, ◌≤ℤ◌, ◌<ℤ◌, ◌+ℤ◌, ◌-ℤ◌, ◌*ℤ◌, List, [], ◌∷◌, sym, subst, arith}
 use Rattle.std.proofs.lemmas.Int.{ints}
 use Rattle.fare_law.specs.declared.flights.Flight.{Flight}
 use Rattle.fare_law.specs.declared.rows.FlightRow.{FlightRow}
 use Rattle.fare_law.specs.Days.{IsCalendarDay, IsInstant, IsMinute, IsOffset, IsShift}
 use Rattle.fare_law.specs.Flights.{AreFlights, Ascending, Dated, Earlier, instant}
 use Rattle.fare_law.specs.Limits.{IsFlight, IsFlightNumber, IsFlightRow, IsPlace}
-use Rattle.fare_law.specs.Lists.{Each, EachPair, IsIn}
+use Rattle.fare_law.specs.Lists.{Each, EachPair}
 use Rattle.fare_law.specs.Names.{IsCarrier}
 use Rattle.schedule_book.specs.LocalDays.{KeepsDay}
 use Rattle.schedule_book.proofs.Lower.{before_le}
-
-each_in : {X : Type 0} (P : X → Type 0) (xs : List X) (x : X) → Each P xs → IsIn x xs → P x
-each_in P [] x h i = absurd i
-each_in P (y ∷ ys) x h (inl e) = subst P (sym e) h.0
-each_in P (y ∷ ys) x h (inr i) = each_in P ys x h.1 i
-
-each_of : {X : Type 0} (P : X → Type 0) (xs : List X) → ((x : X) → IsIn x xs → P x) → Each P xs
-each_of P [] h = tt
-each_of P (y ∷ ys) h = (h y (inl refl), each_of P ys (λ x i. h x (inr i)))
+use Rattle.law_lemmas.proofs.EachOne.{each_from, each_in}
 
 day_within : (first last day : ℤ) → IsCalendarDay first → IsCalendarDay last → first ≤ℤ day → day ≤ℤ last → IsCalendarDay day
 day_within first last day f l a b = (omega (arith, ints, f.0), omega (arith, ints, l.1))
@@ -52,11 +44,11 @@ dated_day row f r d = on_its_day f.day row.dep row.dep_offset f.dep r.dep r.dep_
 
 -- each flight of such rows is within its limits
 pub flights_within : (rows : List FlightRow) (fs : List Flight) → Each IsFlightRow rows → AreFlights rows fs → Each IsFlight fs
-flights_within rows fs h a = each_of IsFlight fs (λ f i. let d = (a.are f).0 i in dated_within d.0 f (each_in IsFlightRow rows d.0 h d.1) d.2)
+flights_within rows fs h a = each_from IsFlight fs (λ f i. let d = (a.are f).0 i in dated_within d.0 f (each_in IsFlightRow rows d.0 h d.1) d.2)
 
 -- each flight of such rows departs on its local day
 pub flights_on_days : (rows : List FlightRow) (fs : List Flight) → Each IsFlightRow rows → AreFlights rows fs → Each KeepsDay fs
-flights_on_days rows fs h a = each_of KeepsDay fs (λ f i. let d = (a.are f).0 i in dated_day d.0 f (each_in IsFlightRow rows d.0 h d.1) d.2)
+flights_on_days rows fs h a = each_from KeepsDay fs (λ f i. let d = (a.are f).0 i in dated_day d.0 f (each_in IsFlightRow rows d.0 h d.1) d.2)
 
 later : (f g : Flight) (fs : List Flight) → f.dep ≤ℤ g.dep → Each (λ x. g.dep ≤ℤ x.dep) fs → Each (λ x. f.dep ≤ℤ x.dep) fs
 later f g [] le h = tt

@@ -5,6 +5,7 @@ use Rattle.std.proofs.lemmas.List.Sums.{sum_by-cons}
 use Rattle.fare_law.specs.declared.flights.Flight.{Flight}
 use Rattle.fare_law.specs.Flights.{Earlier}
 use Rattle.fare_law.specs.Lists.{EachPair}
+use Rattle.law_lemmas.proofs.Tests.{int_lt_is, lt_int_lt}
 
 pub before_le : (f g : Flight) → Earlier f g → f.dep ≤ℤ g.dep
 before_le f g (inl h) = omega (arith, ints)
@@ -23,14 +24,8 @@ dep_le (f ∷ fs) h (suc i) zero d le lt = absurd (omega arith)
 dep_le (f ∷ []) h (suc i) (suc j) d le lt = absurd (omega arith)
 dep_le (f ∷ g ∷ fs) h (suc i) (suc j) d le lt = dep_le (g ∷ fs) h.1 i j d (omega arith) (omega arith)
 
-lt_true : (a b : ℤ) → int_lt a b ≡ true → a <ℤ b
-lt_true a b e = grind (arith, ints)
-
-true_lt : (a b : ℤ) → a <ℤ b → int_lt a b ≡ true
-true_lt a b e = grind (arith, ints)
-
 pub parted : (fs : List Flight) (at : ℤ) → EachPair Earlier fs → (i j : ℕ) (d : Flight) → i ≤ j → j < length fs → int_lt (get_or fs j d).dep at ≡ true → int_lt (get_or fs i d).dep at ≡ true
-parted fs at h i j d le lt t = true_lt (get_or fs i d).dep at (join (dep_le fs h i j d le lt) (lt_true (get_or fs j d).dep at t))
+parted fs at h i j d le lt t = lt_int_lt (get_or fs i d).dep at (join (dep_le fs h i j d le lt) (int_lt_is (get_or fs j d).dep at t))
   where
     join : (get_or fs i d).dep ≤ℤ (get_or fs j d).dep → (get_or fs j d).dep <ℤ at → (get_or fs i d).dep <ℤ at
     join a b = omega (arith, ints)

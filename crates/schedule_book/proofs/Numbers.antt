@@ -1,7 +1,6 @@
 -- Dated numbers: their test, and flights whose numbers are all different.
 use Rattle.std.proofs.Common.{◌≡◌, ◌||◌, Bool, true, false, cond, List, [], ◌∷◌, ◌++◌, map, Decides, refl, sym, ap, ap₂, ◌∙◌, subst, inl, inr}
 use Rattle.std.specs.Cmp.{IsEquivalence}
-use Rattle.std.specs.Cmp.Lexicographic.{bytes_decides}
 use Rattle.std.specs.HashSet.{HashSet, contains}
 use Rattle.std.specs.List.{IsDistinct, AllByRecursion, list_any}
 use Rattle.std.proofs.lemmas.Bool.Decides.{Decides-like, Decides-and, Decides-eqb, Decides-int_eq, same_from_decides}
@@ -10,30 +9,17 @@ use Rattle.std.proofs.lemmas.Map.Keys.{IsDistinct-push, IsDistinct-head, IsDisti
 use Rattle.fare_law.specs.contracts.names.CarrierPartialEq.TheImpl as carrier
 use Rattle.fare_law.specs.contracts.names.PlacePartialEq.TheImpl as place
 use Rattle.fare_law.specs.declared.flights.Flight.{Flight}
-use Rattle.fare_law.specs.declared.names.Carrier.{Carrier}
-use Rattle.fare_law.specs.declared.names.Place.{Place}
 use Rattle.fare_law.specs.Lists.{IsIn}
 use Rattle.schedule_book.specs.contracts.dated.DatedNumberPartialEq.TheImpl as dated
 use Rattle.schedule_book.specs.declared.dated.DatedNumber.{DatedNumber}
 use Rattle.schedule_book.specs.Expansions.{IsAmong, Seen, number_of}
-use Rattle.schedule_book.proofs.Rows.{in_right}
-
-carrier_tells : (a b : Carrier) → Decides (carrier.ghosts.eq a b) (a ≡ b)
-carrier_tells a b = Decides-like _ (λ (e : a.0 ≡ b.0). whole e) (λ e. ap (λ x. x.0) e) (bytes_decides a.0 b.0)
-  where
-    whole : a.0 ≡ b.0 → a ≡ b
-    whole e = λ i. record { 0 = e i }
-
-place_tells : (a b : Place) → Decides (place.ghosts.eq a b) (a ≡ b)
-place_tells a b = Decides-like _ (λ (e : a.0 ≡ b.0). whole e) (λ e. ap (λ x. x.0) e) (bytes_decides a.0 b.0)
-  where
-    whole : a.0 ≡ b.0 → a ≡ b
-    whole e = λ i. record { 0 = e i }
+use Rattle.fare_law.proofs.SameNames.{carriers_tell, places_tell}
+use Rattle.law_lemmas.proofs.Members.{in_right}
 
 pub number_tells : (a b : DatedNumber) → Decides (dated.ghosts.eq a b) (a ≡ b)
 number_tells a b =
     Decides-like _ (λ e. whole e.0 e.1.0 e.1.1.0 e.1.1.1) (λ e. (ap (λ x. x.carrier) e, (ap (λ x. x.number) e, (ap (λ x. x.from) e, ap (λ x. x.day) e))))
-    (Decides-and _ _ (carrier_tells a.carrier b.carrier) (Decides-and _ _ (Decides-eqb a.number b.number) (Decides-and _ _ (place_tells a.from b.from) (Decides-int_eq a.day b.day))))
+    (Decides-and _ _ (carriers_tell a.carrier b.carrier) (Decides-and _ _ (Decides-eqb a.number b.number) (Decides-and _ _ (places_tell a.from b.from) (Decides-int_eq a.day b.day))))
   where
     whole : a.carrier ≡ b.carrier → a.number ≡ b.number → a.from ≡ b.from → a.day ≡ b.day → a ≡ b
     whole x y z w = λ i. record { carrier = x i; number = y i; from = z i; day = w i }

@@ -1,11 +1,12 @@
 -- A timetable has one fault at most, and a right one has none.
-use Rattle.std.proofs.Common.{◌≡◌, ◌≤◌, ℕ, eqb, cond, List, sym, ap, subst, ◌∙◌, inl, inr, arith}
+use Rattle.std.proofs.Common.{◌≡◌, ℕ, eqb, cond, List, sym, ap, subst, ◌∙◌, inl, inr}
 use Rattle.fare_law.specs.declared.rows.FlightRow.{FlightRow}
 use Rattle.fare_law.specs.declared.rows.PlaceRow.{PlaceRow}
 use Rattle.schedule_book.specs.declared.faults.SchedFault.{SchedFault}
 use Rattle.schedule_book.specs.declared.faults.SchedFault.TheVariants.{PlaceTwice, UnknownPlace, SamePlace, BadPeriod, ArrivesBefore, Twice, TooMany, Mem}
 use Rattle.schedule_book.specs.Faults.{Fault, HasFault, PlaceFault, PlacesDiffer, RowFault, RowsRight, fault_number}
 use Rattle.schedule_book.proofs.Rows.{splits}
+use Rattle.law_lemmas.proofs.Numbers.{both_least}
 
 -- the fault of this number on this line
 numbered : ℕ → ℕ → SchedFault
@@ -24,9 +25,6 @@ told places before row (ArrivesBefore line) h = ap ArrivesBefore h.0
 told places before row (Twice line) h = ap Twice h.0
 told places before row (TooMany line) h = ap TooMany h.0
 told places before row Mem h = absurd h
-
-both_least : (m n : ℕ) → m ≤ n → n ≤ m → m ≡ n
-both_least m n a b = omega arith
 
 place_fault_one : (places : List PlaceRow) (fault other : SchedFault) → PlaceFault places fault → PlaceFault places other → fault ≡ other
 place_fault_one places fault other (xs, x, xt, e, d, k, f) (ys, y, yt, e2, d2, k2, f2) = elim (splits xs x xt ys y yt (sym e ∙ e2)) [

@@ -1,6 +1,6 @@
 -- The flights of rows are one list: their order is strict, and lists in a strict order with one set of items are equal. Given on
 -- to the crates above.
-use Rattle.std.proofs.Common.{◌≡◌, ◌⊎◌, ℕ, ℤ, ◌<◌, ◌<ℤ◌, List, [], ◌∷◌, refl, sym, ap₂, subst, ◌∙◌, inl, inr, arith}
+use Rattle.std.proofs.Common.{◌≡◌, ◌⊎◌, ℤ, ◌<◌, ◌<ℤ◌, List, [], ◌∷◌, refl, sym, ap₂, subst, ◌∙◌, inl, inr, arith}
 use Rattle.std.proofs.lemmas.Int.{ints}
 use Rattle.fare_law.specs.declared.flights.Flight.{Flight}
 use Rattle.fare_law.specs.declared.names.Carrier.{Carrier}
@@ -8,6 +8,8 @@ use Rattle.fare_law.specs.declared.names.Place.{Place}
 use Rattle.fare_law.specs.declared.rows.FlightRow.{FlightRow}
 use Rattle.fare_law.specs.Flights.{AreFlights, Earlier}
 use Rattle.fare_law.specs.Lists.{EachPair, IsIn, Less}
+use Rattle.law_lemmas.proofs.Numbers.{less_less}
+use Rattle.law_lemmas.proofs.Words.{less_never, less_trans}
 
 -- ---- lists in a strict order
 module _ {X : Type 0} (R : X → X → Type 0) (never : (x : X) → R x x → ⊥) (trans : (x y z : X) → R x y → R y z → R x z) where
@@ -39,23 +41,6 @@ module _ {X : Type 0} (R : X → X → Type 0) (never : (x : X) → R x x → �
       ap₂ (λ z zs. z ∷ zs) e
       (one_list xs ys (rest_ordered x xs p) (rest_ordered y ys q) (λ o i. in_rest o x y ys e (behind x xs p o i) (f o (inr i))) (λ o i. in_rest o y x xs (sym e) (behind y ys q o i) (g o (inr i))))
 
--- ---- the order of flights is strict
-less_never : (w : List ℕ) → Less w w → ⊥
-less_never [] h = h
-less_never (x ∷ w) (inl h) = omega (arith, h)
-less_never (x ∷ w) (inr h) = less_never w h.1
-
-less_trans : (u v w : List ℕ) → Less u v → Less v w → Less u w
-less_trans [] [] w h k = absurd h
-less_trans [] (y ∷ v) [] h k = absurd k
-less_trans [] (y ∷ v) (z ∷ w) h k = tt
-less_trans (x ∷ u) [] w h k = absurd h
-less_trans (x ∷ u) (y ∷ v) [] h k = absurd k
-less_trans (x ∷ u) (y ∷ v) (z ∷ w) (inl a) (inl c) = inl (omega (arith, a, c))
-less_trans (x ∷ u) (y ∷ v) (z ∷ w) (inl a) (inr c) = inl (omega (arith, a, c.0))
-less_trans (x ∷ u) (y ∷ v) (z ∷ w) (inr a) (inl c) = inl (omega (arith, a.0, c))
-less_trans (x ∷ u) (y ∷ v) (z ∷ w) (inr a) (inr c) = inr (a.0 ∙ c.0, less_trans u v w a.1 c.1)
-
 -- by one part, and where that is the same by the others
 module _ {A : Type 0} (L : A → A → Type 0) (trans : (a b c : A) → L a b → L b c → L a c) where
   then_trans : (S T U : Type 0) → (S → T → U) → (a b c : A) → L a b ⊎ ((a ≡ b) × S) → L b c ⊎ ((b ≡ c) × T) → L a c ⊎ ((a ≡ c) × U)
@@ -70,9 +55,6 @@ int_trans a b c h k = omega (arith, ints)
 int_never : (a : ℤ) → a <ℤ a → ⊥
 int_never a h = omega (arith, ints)
 
-nat_trans : (a b c : ℕ) → a < b → b < c → a < c
-nat_trans a b c h k = omega arith
-
 abbrev ByFrom : Flight → Flight → Type 0
 ByFrom f g = Less f.from.0 g.from.0 ⊎ ((f.from ≡ g.from) × (f.day <ℤ g.day))
 
@@ -83,7 +65,7 @@ abbrev ByNumber : Flight → Flight → Type 0
 ByNumber f g = (f.number < g.number) ⊎ ((f.number ≡ g.number) × ByFrom f g)
 
 number_trans : (f g h : Flight) → ByNumber f g → ByNumber g h → ByNumber f h
-number_trans f g h = then_trans ◌<◌ nat_trans (ByFrom f g) (ByFrom g h) (ByFrom f h) (from_trans f g h) f.number g.number h.number
+number_trans f g h = then_trans ◌<◌ less_less (ByFrom f g) (ByFrom g h) (ByFrom f h) (from_trans f g h) f.number g.number h.number
 
 abbrev ByCarrier : Flight → Flight → Type 0
 ByCarrier f g = Less f.carrier.0 g.carrier.0 ⊎ ((f.carrier ≡ g.carrier) × ByNumber f g)

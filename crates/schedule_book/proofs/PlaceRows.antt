@@ -13,7 +13,8 @@ use Rattle.fare_law.specs.Lists.{Each, IsIn}
 use Rattle.schedule_book.specs.Connects.{connect_of}
 use Rattle.schedule_book.specs.Faults.{IsKnown, PlacesDiffer, PlaceFault}
 use Rattle.schedule_book.specs.declared.faults.SchedFault.TheVariants.{PlaceTwice}
-use Rattle.schedule_book.proofs.Rows.{split_is, split_push, split_none}
+use Rattle.schedule_book.proofs.Rows.{split_push}
+use Rattle.law_lemmas.proofs.Lists.{no_middle, split_is}
 
 pub same_told : (p q : Place) → same_place p q ≡ true → p ≡ q
 same_told p q h = let e = (bytes_eq-Decides p.0 q.0).0 h in λ i. record { 0 = e i }
@@ -89,7 +90,7 @@ connects_more old new rows row u none same q = elim (cases_Bool (same_place row.
     stays (Some n) = refl
 
 pub differ_none : PlacesDiffer []
-differ_none before row after e k = split_none before row after e
+differ_none before row after e k = no_middle before row after e
 
 pub differ_more : (rows : List PlaceRow) (row : PlaceRow) → PlacesDiffer rows → (IsKnown row.place rows → ⊥) → PlacesDiffer (rows ++ row ∷ [])
 differ_more rows row d n before r after e k = elim (split_push rows row before r after e) [

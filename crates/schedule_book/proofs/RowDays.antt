@@ -5,6 +5,7 @@ use Rattle.std.proofs.lemmas.Bool.{eqb-false, ne_eqb}
 use Rattle.fare_law.specs.declared.rows.FlightRow.{FlightRow}
 use Rattle.fare_law.specs.Days.{weekday}
 use Rattle.schedule_book.specs.Days.{names}
+use Rattle.law_lemmas.proofs.Tests.{untrue}
 
 pub record Named (row : FlightRow) (day : ℤ) : Type 0 where
   pub first : row.first ≤ℤ day
@@ -21,10 +22,6 @@ le_true a b e = grind (arith, ints)
 true_le : (a b : ℤ) → a ≤ℤ b → int_le a b ≡ true
 true_le a b e = grind (arith, ints)
 
-not_true : (b : Bool) → not b ≡ true → b ≡ false
-not_true true e = absurd (cc)
-not_true false e = refl
-
 pub names_told : (row : FlightRow) (day : ℤ) → names row day ≡ true → Named row day
 names_told row day e =
     let r = both_true (int_le row.first day) (int_le day row.last && not (bit_and row.days (2 ^ (weekday day - 1)) == 0)) e in
@@ -32,7 +29,7 @@ names_told row day e =
     record {
       first = le_true row.first day r.0;
       last = le_true day row.last s.0;
-      named = eqb-false (bit_and row.days (2 ^ (weekday day - 1))) 0 (not_true (bit_and row.days (2 ^ (weekday day - 1)) == 0) s.1);
+      named = eqb-false (bit_and row.days (2 ^ (weekday day - 1))) 0 (untrue (bit_and row.days (2 ^ (weekday day - 1)) == 0) s.1);
     }
 
 pub named_true : (row : FlightRow) (day : ℤ) → Named row day → names row day ≡ true

@@ -9,7 +9,7 @@ use Rattle.fare_law.specs.Lists.{IsIn}
 use Rattle.schedule_book.specs.Days.{names, named_of}
 use Rattle.schedule_book.specs.Expansions.{AddsRow, IsAmong}
 use Rattle.schedule_book.proofs.RowDays.{names_told, named_true}
-use Rattle.schedule_book.proofs.Rows.{in_left, in_right, in_either}
+use Rattle.law_lemmas.proofs.Members.{in_either, in_left, in_right}
 
 -- a row has one flight on a day
 pub dated_one : (row : FlightRow) (f g : Flight) → Dated row f → Dated row g → f.day ≡ g.day → f ≡ g

@@ -1,20 +1,10 @@
 -- Rows one after another: splits of a list, and the rows before one. Given on to the crates above.
-use Rattle.std.proofs.Common.{◌≡◌, ℕ, suc, ◌+◌, ◌<◌, ◌⊎◌, List, [], ◌∷◌, ◌++◌, length, take, drop, get_or, refl, sym, ap, ap₂, ◌∙◌, inl, inr, arith}
-use Rattle.std.proofs.Math.Seq.{drop-cons, take-suc}
-use Rattle.std.proofs.lemmas.List.{take-append-drop}
-use Rattle.fare_law.specs.Lists.{IsIn}
-
-one_more : (i : ℕ) → suc i ≡ i + 1
-one_more i = omega arith
+use Rattle.std.proofs.Common.{◌≡◌, ℕ, ◌+◌, ◌<◌, ◌⊎◌, List, [], ◌∷◌, ◌++◌, length, drop, get_or, refl, sym, ap, ap₂, ◌∙◌, inl, inr}
+use Rattle.std.proofs.Math.Seq.{drop-cons}
+use Rattle.law_lemmas.proofs.Numbers.{suc_is}
 
 pub rest_is : {X : Type 0} (xs : List X) (i : ℕ) (d x : X) → i < length xs → x ≡ get_or xs i d → drop i xs ≡ x ∷ drop (i + 1) xs
-rest_is xs i d x lt e = drop-cons xs i d lt ∙ ap₂ (λ y n. y ∷ drop n xs) (sym e) (one_more i)
-
-pub front_is : {X : Type 0} (xs : List X) (i : ℕ) (d x : X) → i < length xs → x ≡ get_or xs i d → take (i + 1) xs ≡ take i xs ++ x ∷ []
-front_is xs i d x lt e = ap (λ n. take n xs) (sym (one_more i)) ∙ take-suc xs i d lt ∙ ap (λ y. take i xs ++ y ∷ []) (sym e)
-
-pub split_is : {X : Type 0} (xs : List X) (i : ℕ) (d x : X) → i < length xs → x ≡ get_or xs i d → xs ≡ take i xs ++ x ∷ drop (i + 1) xs
-split_is xs i d x lt e = sym (take-append-drop i xs) ∙ ap (λ ys. take i xs ++ ys) (rest_is xs i d x lt e)
+rest_is xs i d x lt e = drop-cons xs i d lt ∙ ap₂ (λ y n. y ∷ drop n xs) (sym e) (suc_is i)
 
 -- where a list with one more is split, the split is at the last, or is one of the list
 pub split_push : {X : Type 0} (xs : List X) (x : X) (before : List X) (r : X) (after : List X) → xs ++ x ∷ [] ≡ before ++ r ∷ after → ((before ≡ xs) × (r ≡ x)) ⊎ ((rest : List X) × (xs ≡ before ++ r ∷ rest))
@@ -55,21 +45,3 @@ splits (a ∷ xs) x xt (b ∷ ys) y yt e = elim (splits xs x xt ys y yt (tail e)
 
     tail : a ∷ (xs ++ x ∷ xt) ≡ b ∷ (ys ++ y ∷ yt) → xs ++ x ∷ xt ≡ ys ++ y ∷ yt
     tail q = cc
-
-pub split_none : {X : Type 0} (before : List X) (r : X) (after : List X) → [] ≡ before ++ r ∷ after → ⊥
-split_none [] r after e = cc
-split_none (b ∷ bs) r after e = cc
-
-pub in_left : {X : Type 0} (x : X) (xs ys : List X) → IsIn x xs → IsIn x (xs ++ ys)
-in_left x [] ys h = absurd h
-in_left x (y ∷ xs) ys (inl e) = inl e
-in_left x (y ∷ xs) ys (inr h) = inr (in_left x xs ys h)
-
-pub in_right : {X : Type 0} (x : X) (xs ys : List X) → IsIn x ys → IsIn x (xs ++ ys)
-in_right x [] ys h = h
-in_right x (y ∷ xs) ys h = inr (in_right x xs ys h)
-
-pub in_either : {X : Type 0} (x : X) (xs ys : List X) → IsIn x (xs ++ ys) → IsIn x xs ⊎ IsIn x ys
-in_either x [] ys h = inr h
-in_either x (y ∷ xs) ys (inl e) = inl (inl e)
-in_either x (y ∷ xs) ys (inr h) = elim (in_either x xs ys h) [ inl l ↦ inl (inr l) | inr r ↦ inr r ]

@@ -6,18 +6,16 @@ use Rattle.std.specs.Str.Parse.{AllDigits, ParsesUnsigned, digits_value}
 use Rattle.std.specs.Str.{IsUtf8}
 use Rattle.std.proofs.lemmas.List.{append_cancel_left}
 use Rattle.std.proofs.lemmas.Str.{IsUtf8-from_ascii}
-use Rattle.std.proofs.lemmas.Str.Parse.{IsNumeralModel, numerals_by_value, tells_digits, parse_plain, digit_at}
+use Rattle.std.proofs.lemmas.Str.Parse.{parse_plain, digit_at}
 use Rattle.std.proofs.lemmas.Fmt.{decimal-digits_value, digits_decimal, digits_value-decimal, decimal_nonempty, first_decimal, decimal_digit, IsAscii-decimal, decimal_injective}
 use Rattle.script_text.specs.Numbers.{BeginsAsNumber, IsNumberAfter, IsNoNumberAfter}
-
-own : IsNumeralModel (AllDigits 10) (digits_value 10)
-own = numerals_by_value (AllDigits 10) tells_digits
+use Rattle.law_lemmas.proofs.Words.{decimal_model}
 
 -- a number's digits begin as a number does
 begins : (n : ℕ) → n < 2 ^ 64 → BeginsAsNumber (decimal n)
 begins n small = elim (eq-zero-or-pos n) [
   | inl zero ↦ inr (subst (λ m. decimal m ≡ 48 ∷ []) (sym zero) (decimal_digit 0 (omega arith)))
-  | inr more ↦ inl (omega (arith, first_decimal n more small), (digit_at (decimal n) 0 (digits_decimal own n small) (decimal_nonempty n small)).1)
+  | inr more ↦ inl (omega (arith, first_decimal n more small), (digit_at (decimal n) 0 (digits_decimal decimal_model n small) (decimal_nonempty n small)).1)
 ]
 
 -- no sign
@@ -41,17 +39,17 @@ not_text text high n other small h = other (subst IsUtf8 (sym h.written) (IsUtf8
 -- what is parsed of a text that begins as a number does
 pub parsed : {E : Type 0} (text : List ℕ) (r : Result ℕ E) → BeginsAsNumber text → ParsesUnsigned 32 10 text r → MatchOption (result_ok r) (IsNoNumberAfter [] 0 (2 ^ 32 - 1) text) (IsNumberAfter [] 0 (2 ^ 32 - 1) text)
 parsed {E = E} text (Ok n) b p =
-    let h = parse_plain own {E = E} 32 text (Ok n) p (no_plus text b) in
+    let h = parse_plain decimal_model {E = E} 32 text (Ok n) p (no_plus text b) in
     record {
       range = (omega arith, omega (arith, h.0.2, h.1));
-      written = sym (ap decimal h.1 ∙ decimal-digits_value own text h.0.0 h.0.1 (alone text b) (omega (arith, h.0.2)));
+      written = sym (ap decimal h.1 ∙ decimal-digits_value decimal_model text h.0.0 h.0.1 (alone text b) (omega (arith, h.0.2)));
     }
 parsed {E = E} text (Err e) b p =
     λ n h.
-    let k = parse_plain own {E = E} 32 text (Err e) p (no_plus text b) in
+    let k = parse_plain decimal_model {E = E} 32 text (Err e) p (no_plus text b) in
     let small : n < 2 ^ 32 = omega (arith, h.range) in
     let large : n < 2 ^ 64 = omega (arith, small) in
-    k (subst (AllDigits 10) (sym h.written) (digits_decimal own n large), omega (arith, ap length h.written, decimal_nonempty n large), omega (arith, ap (digits_value 10) h.written, digits_value-decimal own n large, small))
+    k (subst (AllDigits 10) (sym h.written) (digits_decimal decimal_model n large), omega (arith, ap length h.written, decimal_nonempty n large), omega (arith, ap (digits_value 10) h.written, digits_value-decimal decimal_model n large, small))
 
 -- a text has one number after the label
 pub one_number : (label text : List ℕ) (least most low high m n : ℕ) → most < 2 ^ 32 → high < 2 ^ 32 → IsNumberAfter label least most text m → IsNumberAfter label low high text n → m ≡ n

@@ -9,7 +9,7 @@ use Rattle.certificate.specs.declared.parts.Certificate.{Certificate}
 use Rattle.certificate_text.specs.CertText.{IsCertificate, IsRequestText, answer_lines, cert_lines, request_line, row_lines}
 use Rattle.certificate_text.specs.Lines.{IsAnswer, IsMove, IsRow, answer_line, bound_word, move_words, number_line, row_line, spaced}
 use Rattle.certificate_text.proofs.JsonFeeds.{request_free}
-use Rattle.certificate_text.proofs.LineFeeds.{each_append, free_answer, free_known, free_more, free_number, free_row}
+use Rattle.certificate_text.proofs.LineFeeds.{free_answer, free_known, free_more, free_number, free_row}
 use Rattle.fare_law.specs.declared.moves.Move.{Move}
 use Rattle.fare_law.specs.declared.requests.Request.{Request}
 use Rattle.fare_law.specs.Limits.{IsRequest}
@@ -22,6 +22,7 @@ use Rattle.serde_json.specs.Data.{Data, Members, member, no_members, object}
 use Rattle.serde_json.specs.Written.{comma_if, compact_text, members_text}
 use Rattle.word_text.specs.Words.{IsFreeOf}
 use Rattle.search_check.proofs.SectionsJoined.{IsOwn}
+use Rattle.law_lemmas.proofs.EachOne.{each_append}
 
 carriage_return : Separates 13
 carriage_return = record { digit = λ b h e. omega (arith, h, e); capital = λ b h e. omega (arith, h, e); dash = λ e. omega (arith, e); star = λ e. omega (arith, e) }

@@ -18,8 +18,8 @@ use Rattle.whole_case.specs.Timetables.{opening_of, sections_in}
 use Rattle.search_check.specs.Accepted.{AddsLines, AddsText, IsSpelled, with_certificate}
 use Rattle.search_check.specs.Sections.{SameSections}
 use Rattle.search_check.proofs.OwnLines.{certificate_own}
-use Rattle.search_check.proofs.SectionAdded.{ok_same}
 use Rattle.search_check.proofs.SectionsJoined.{has_added}
+use Rattle.law_lemmas.proofs.Options.{ok_same}
 
 -- what a case with these sections asks
 abbrev asked_of : Case → Book → Request → AskedCase

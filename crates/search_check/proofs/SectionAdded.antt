@@ -16,6 +16,7 @@ use Rattle.case_text.specs.Headers.{due, is_name, is_named}
 use Rattle.case_text.specs.Rows.{flight_row, place_row, seat_row}
 use Rattle.fare_law.specs.declared.rows.TextLine.{TextLine}
 use Rattle.fare_law.specs.Lists.{Each}
+use Rattle.law_lemmas.proofs.Options.{ok_same}
 
 -- the line of #end, and that of the certificate's header
 abbrev pub end_line : ℕ → TextLine
@@ -37,9 +38,6 @@ OfSearch (Some Later) = ⊥
 OfSearch (Some Script) = ⊥
 OfSearch (Some Certificate) = ⊥
 OfSearch (Some Ticket) = ⊥
-
-pub ok_same : {A E : Type 0} (a b : A) → ◌≡◌ {A = Result A E} (Ok a) (Ok b) → a ≡ b
-ok_same a b e = cc
 
 -- a step that succeeds has a step before it that does
 pub ok_bind : {A B : Type 0} (r : Result A CaseFault) (f : A → Result B CaseFault) (b : B) → (r >>= f) ≡ Ok b → (a : A) × (r ≡ Ok a) × (f a ≡ Ok b)

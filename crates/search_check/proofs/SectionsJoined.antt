@@ -14,8 +14,9 @@ use Rattle.case_text.specs.Lines.{numbered, text_lines}
 use Rattle.fare_law.specs.declared.rows.TextLine.{TextLine}
 use Rattle.fare_law.specs.Lists.{Each}
 use Rattle.search_check.specs.Sections.{SameSections}
-use Rattle.search_check.proofs.SectionAdded.{Before, after_request, before, certificate_line, end_line, ok_bind, ok_same}
+use Rattle.search_check.proofs.SectionAdded.{Before, after_request, before, certificate_line, end_line, ok_bind}
 use Rattle.search_check.proofs.TextLines.{IsRead, front_lines, lines_after, lines_read, numbered_bytes, numbered_each, numbered_more}
+use Rattle.law_lemmas.proofs.Options.{ok_same}
 
 -- a line that is read as it was written, and isn't #end
 pub record IsOwn (line : List ℕ) : Type 0 where

@@ -22,6 +22,7 @@ use Rattle.search_core.specs.Answers.{IsAnswer, IsPriced}
 use Rattle.search_core.specs.Graphs.{answer_as}
 use Rattle.search_core.specs.declared.outcome.Answer.{Answer}
 use Rattle.ticket_order.specs.Tickets.{TicketOfMoves}
+use Rattle.law_lemmas.proofs.Pairs.{matched_more}
 
 -- A run has a ticket, and it is the ticket of its moves.
 pub run_made : (b : Book) (q : Request) (run : CertAnswer) → RunsAreTickets b q → ((t : Ticket) → Lawful t b q → length t.components ≤ 18) → ((t : Ticket) → Lawful t b q → length t.components ≤ 18 → TicketOfMoves b.timetable.flights (moves_of t) t)
@@ -56,12 +57,6 @@ pub each_at : {X : Type 0} (P : X → Type 0) (xs : List X) (i : ℕ) (x : X) �
 each_at P [] i x h is all = absurd (omega (arith, h))
 each_at P (y ∷ xs) zero x h is all = subst P (sym is) all.0
 each_at P (y ∷ xs) (suc i) x h is all = each_at P xs i x (omega (arith, h)) is all.1
-
-matched_more : {X Y : Type 0} (R : X → Y → Type 0) (xs : List X) (ys : List Y) (x : X) (y : Y) → Matched R xs ys → R x y → Matched R (xs ++ x ∷ []) (ys ++ y ∷ [])
-matched_more R [] [] x y m r = (r, tt)
-matched_more R [] (z ∷ ys) x y m r = absurd m
-matched_more R (w ∷ xs) [] x y m r = absurd m
-matched_more R (w ∷ xs) (z ∷ ys) x y m r = (m.0, matched_more R xs ys x y m.1 r)
 
 pub matched_next : {X Y : Type 0} (R : X → Y → Type 0) (xs : List X) (i : ℕ) (x : X) (ys ys' : List Y) (y : Y) → i < length xs → x ≡ get_or xs i x → Matched R (take i xs) ys → R x y → ys' ≡ ys ++ y ∷ [] → Matched R (take (i + 1) xs) ys'
 matched_next R xs i x ys ys' y h is m r e =

@@ -1,3 +1,2 @@
 pub mod Settling
 pub mod Remembering
-pub mod SameRequests

@@ -1,4 +1,4 @@
--- The landed runs, reached states and least prices are the walk's.
+-- The landed runs, reached states and least prices are the walk's. Given on to the crates above.
 use Rattle.std.proofs.Common.{◌≡◌, ◌↔◌, ℕ, ◌+◌, ◌≤◌, ◌<◌, List, [], ◌∷◌, ◌++◌, length, Option, Some, None, refl, sym, ap, subst, ⊎_elim, arith, slice_get, IfSome}
 use Rattle.graph_walk.specs.declared.outcome.Outcome.{Outcome}
 use Rattle.graph_walk.specs.Steps.{LeadToLive}
@@ -57,13 +57,13 @@ abbrev RunIf : Book → Request → Option State → ℕ → Type 0
 RunIf b q None price = price ≡ 0
 RunIf b q (Some x) price = (ms : List Move) × Run b q x ms price
 
-not_done : (x : State) → At x ≡ Done → ⊥
+pub not_done : (x : State) → At x ≡ Done → ⊥
 not_done x e = cc
 
-not_at : (x : State) → Done ≡ At x → ⊥
+pub not_at : (x : State) → Done ≡ At x → ⊥
 not_at x e = cc
 
-same_at : (x y : State) → At x ≡ At y → x ≡ y
+pub same_at : (x y : State) → At x ≡ At y → x ≡ y
 same_at x y e = cc
 
 run_ends : (b : Book) (q : Request) (x : State) (m : Move) (move rest price : ℕ) → Opened b q x m move Done → rest ≡ 0 → price ≡ move + rest → Run b q x (m ∷ []) price

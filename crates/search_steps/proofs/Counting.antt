@@ -11,11 +11,12 @@ use Rattle.residual_keys.specs.declared.residual.Next.{Next}
 use Rattle.residual_keys.specs.declared.residual.Next.TheVariants.{At, Done}
 use Rattle.residual_keys.specs.Residuals.{State}
 use Rattle.residual_keys.specs.Steps.{AreMoves, IsChosen}
-use Rattle.residual_keys.proofs.LeastOne.{below_all, in_each, pairs_rest, weaken}
+use Rattle.residual_keys.proofs.LeastOne.{below_all, pairs_rest}
 use Rattle.search_steps.specs.declared.least.LeastMove.{LeastMove}
 use Rattle.search_steps.specs.Leads.{next_of, state_of}
 use Rattle.search_steps.specs.LeastMoves.{AreLeastMoves, Counts, HasBound, IsSooner, RestIs, counted_in, counted_of, with_counted}
 use Rattle.search_steps.proofs.Sooner.{code_of}
+use Rattle.law_lemmas.proofs.EachOne.{each_member, each_weaker}
 
 -- ---- the front of a list in order
 
@@ -43,20 +44,14 @@ module _ {X : Type 0} (Below : X → X → Type 0) (trans : (x y z : X) → Belo
   front_first (suc k) (y ∷ xs) h x (inl e) out = absurd (out (inl e))
   front_first (suc k) (y ∷ xs) h x (inr i) out =
       let r = front_first k xs (pairs_rest Below y xs h) x i (λ j. out (inr j)) in
-      ((in_each (Below y) x xs (below_all Below trans y xs h) i, r.0), ap suc r.1)
+      ((each_member (Below y) x xs (below_all Below trans y xs h) i, r.0), ap suc r.1)
 
   pub front_least : (k : ℕ) (xs : List X) → EachPair Below xs → KLeast (λ x. IsIn x xs) Below k (take k xs)
   front_least k xs h = record { ascending = front_pairs k xs h; each = front_in k xs xs (λ x i. i); few = front_few k xs; rest = front_first k xs h }
 
--- the front of a list that is long enough
-pub take_long : {X : Type 0} (k : ℕ) (xs : List X) → k ≤ length xs → length (take k xs) ≡ k
-take_long zero xs h = refl
-take_long (suc k) [] h = absurd (omega arith)
-take_long (suc k) (x ∷ xs) h = ap suc (take_long k xs (omega arith))
-
 -- the k least of the same things
 pub same_least : {X : Type 0} (Has Has' : X → Type 0) (Below : X → X → Type 0) (k : ℕ) (xs : List X) → ((x : X) → Has x → Has' x) → ((x : X) → Has' x → Has x) → KLeast Has Below k xs → KLeast Has' Below k xs
-same_least Has Has' Below k xs to from h = record { ascending = h.ascending; each = weaken Has Has' to xs h.each; few = h.few; rest = λ x has out. h.rest x (from x has) out }
+same_least Has Has' Below k xs to from h = record { ascending = h.ascending; each = each_weaker Has Has' to xs h.each; few = h.few; rest = λ x has out. h.rest x (from x has) out }
 
 -- ---- the moves that count
 
@@ -112,7 +107,7 @@ module _ (bound : State → Option ℕ) where
       later m i =
           let f = has_counted cs m i in
           let all = below_all (λ x y. Less (move_code x.mv) (move_code y.mv)) (λ x y z. trans (move_code x.mv) (move_code y.mv) (move_code z.mv)) c cs h in
-          subst (λ w. Less (move_code c.mv) w) (sym (same_code f.chosen m f.is)) (in_each (λ d. Less (move_code c.mv) (move_code d.mv)) f.chosen cs all f.there)
+          subst (λ w. Less (move_code c.mv) w) (sym (same_code f.chosen m f.is)) (each_member (λ d. Less (move_code c.mv) (move_code d.mv)) f.chosen cs all f.there)
 
       by : (o : Option (LeastMove State)) → counted_of bound c ≡ o → AllDifferent (map code_of (counted_in bound cs)) → AllDifferent (map code_of (with_counted o (counted_in bound cs)))
       by None e d = d

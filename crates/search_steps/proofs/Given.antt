@@ -15,10 +15,10 @@ use Rattle.outlines.proofs.Growing.{grows_like, grows_none, grows_one, grows_the
 use Rattle.residual_keys.specs.declared.residual.Next.{Next}
 use Rattle.residual_keys.specs.Residuals.{PartAllows, State}
 use Rattle.residual_keys.specs.Steps.{left_at}
-use Rattle.residual_keys.proofs.Adding.{in_either, in_left, in_right}
 use Rattle.search_steps.specs.declared.tables.PositionTable.{PositionTable}
 use Rattle.search_steps.specs.Giving.{GivenBy, LeftBy, OpenedBy, UnitBy, UnitGiven}
 use Rattle.search_steps.specs.Tables.{IsOwnTable}
+use Rattle.law_lemmas.proofs.Members.{in_either, in_left, in_right}
 
 module _ (P : Listed → Tried → Type 0) where
   pub given_none : (old : List Tried) → Grows (GivenBy P []) old old

@@ -1,5 +1,5 @@
 -- Tables and lists that are kept, found and added.
-use Rattle.std.proofs.Common.{◌≡◌, ◌∙◌, ℕ, zero, suc, ◌<◌, List, [], ◌∷◌, ◌++◌, length, slice_get, get_or, Option, Some, sym, ap, subst, arith}
+use Rattle.std.proofs.Common.{◌≡◌, ◌∙◌, ℕ, List, [], ◌∷◌, ◌++◌, length, slice_get, get_or, Some, sym, ap, subst}
 use Rattle.component_table.specs.Tables.{IsTable}
 use Rattle.fare_law.specs.declared.requests.Request.{Request}
 use Rattle.fare_law.specs.Book.{Book}
@@ -8,38 +8,26 @@ use Rattle.flight_paths.specs.declared.positions.Position.{Position}
 use Rattle.residual_table.specs.Keys.{KeepsNumbers}
 use Rattle.search_steps.specs.declared.tables.PositionTable.{PositionTable}
 use Rattle.search_steps.specs.Tables.{HasTable, IsOwnTable, TableAt}
-use Rattle.search_steps.proofs.TableFacts.{each_last, got_each, got_is, last_got}
-
-still_got : {X : Type 0} (xs ys : List X) (n : ℕ) (x : X) → slice_get xs n ≡ Some x → slice_get (xs ++ ys) n ≡ Some x
-still_got [] ys n x e = absurd (cc)
-still_got (y ∷ xs) ys zero x e = e
-still_got (y ∷ xs) ys (suc n) x e = still_got xs ys n x e
+use Rattle.law_lemmas.proofs.EachOne.{each_got, each_more}
+use Rattle.law_lemmas.proofs.Lists.{got_is, got_last, got_left}
 
 -- one more at the end
 pub keeps_pushed : {X : Type 0} (old new : List X) (x : X) → new ≡ old ++ x ∷ [] → KeepsNumbers old new
-keeps_pushed old new x is n y e = ap (λ xs. slice_get xs n) is ∙ still_got old (x ∷ []) n y e
-
-pub got_within : {X : Type 0} (xs : List X) (n : ℕ) (x : X) → slice_get xs n ≡ Some x → n < length xs
-got_within [] n x e = absurd (cc)
-got_within (y ∷ xs) zero x e = omega arith
-got_within (y ∷ xs) (suc n) x e = let h = got_within xs n x e in omega (arith, h)
-
-some_one : {X : Type 0} (o : Option X) (x y : X) → o ≡ Some x → o ≡ Some y → x ≡ y
-some_one o x y e f = let z : Some x ≡ Some y = sym e ∙ f in cc
+keeps_pushed old new x is n y e = ap (λ xs. slice_get xs n) is ∙ got_left old (x ∷ []) n y e
 
 -- one table more
 pub tables_more : (b : Book) (q : Request) (old new : List PositionTable) (t : PositionTable) → new ≡ old ++ t ∷ [] → Each (IsOwnTable b q) old → IsOwnTable b q t → Each (IsOwnTable b q) new
-tables_more b q old new t is h k = subst (Each (IsOwnTable b q)) (sym is) (each_last (IsOwnTable b q) old t h k)
+tables_more b q old new t is h k = subst (Each (IsOwnTable b q)) (sym is) (each_more (IsOwnTable b q) old t h k)
 
 pub table_last : (old new : List PositionTable) (t : PositionTable) (at : Position) (n : ℕ) → new ≡ old ++ t ∷ [] → n ≡ length old → t.at ≡ at → TableAt new at n
-table_last old new t at n is e same = record { table = t; stands = ap (λ ts. slice_get ts n) is ∙ ap (slice_get (old ++ t ∷ [])) e ∙ last_got old t; position = same }
+table_last old new t at n is e same = record { table = t; stands = ap (λ ts. slice_get ts n) is ∙ ap (slice_get (old ++ t ∷ [])) e ∙ got_last old t; position = same }
 
 -- the table that a place gives
 pub table_is : (b : Book) (q : Request) (ts : List PositionTable) (n : ℕ) (t : PositionTable) → Each (IsOwnTable b q) ts → HasTable ts n → t ≡ get_or ts n t → (slice_get ts n ≡ Some t) × IsOwnTable b q t
 table_is b q ts n t h s is =
     let same : t ≡ s.0 = is ∙ got_is ts n t s.0 s.1 in
     let stands : slice_get ts n ≡ Some t = s.1 ∙ ap Some (sym same) in
-    (stands, got_each (IsOwnTable b q) ts n t h stands)
+    (stands, each_got (IsOwnTable b q) ts n t h stands)
 
 pub has_table : (ts : List PositionTable) (at : Position) (n : ℕ) → TableAt ts at n → HasTable ts n
 has_table ts at n s = (s.table, s.stands)
@@ -51,7 +39,7 @@ still_has ts us n e s = subst (λ xs. HasTable xs n) (sym e) s
 pub table_there : (b : Book) (q : Request) (ts : List PositionTable) (at : Position) (n : ℕ) (t : PositionTable) → Each (IsOwnTable b q) ts → TableAt ts at n → t ≡ get_or ts n t → IsTable b q at t.entries
 table_there b q ts at n t h s is =
     let same : t ≡ s.table = is ∙ got_is ts n t s.table s.stands in
-    let table = got_each (IsOwnTable b q) ts n s.table h s.stands in
+    let table = each_got (IsOwnTable b q) ts n s.table h s.stands in
     subst (λ (x : PositionTable). IsTable b q at x.entries) (sym same) (subst (λ a. IsTable b q a s.table.entries) s.position table)
 
 -- the table of a position is at it

@@ -15,11 +15,11 @@ use Rattle.residual_table.specs.declared.key.ResidualKey.{ResidualKey}
 use Rattle.residual_table.specs.Keys.{AreTables, IsLive, StandsFor, Tables as Numbers, residual_at}
 use Rattle.residual_table.proofs.KeyFacts.{Slots, residual_is, slots}
 use Rattle.residual_table.proofs.KeyFacts.Slots.{neither, one, both}
-use Rattle.residual_table.proofs.Numbers.{got}
 use Rattle.search_steps.specs.declared.least.LeastMove.{LeastMove}
 use Rattle.search_steps.specs.Leads.{state_of}
 use Rattle.search_steps.specs.LeastMoves.{AreLeastMoves, BoundBy, Counts, HasBound, HasRest, IsSooner, LeaveLive, RestIs, counted_in, counted_of, least_as}
 use Rattle.search_steps.proofs.Counting.{has_counted}
+use Rattle.law_lemmas.proofs.EachOne.{each_got}
 
 -- what a key stands for is a residual
 few_units : (us : List OpenUnit) (m n : ℕ) (xs : List OpenUnit) → Slots us m n xs → length xs ≤ 2
@@ -29,8 +29,8 @@ few_units us m n xs (both a b u v e f g h i) = let z : length xs ≡ 2 = ap leng
 
 kept_units : (us : List OpenUnit) (m n : ℕ) (xs : List OpenUnit) → Each UnitInRanges us → Slots us m n xs → Each UnitInRanges xs
 kept_units us m n xs k (neither e f g) = subst (Each UnitInRanges) (sym e) tt
-kept_units us m n xs k (one a u e f g h) = subst (Each UnitInRanges) (sym e) (got UnitInRanges us a u k h, tt)
-kept_units us m n xs k (both a b u v e f g h i) = subst (Each UnitInRanges) (sym e) (got UnitInRanges us a u k h, (got UnitInRanges us b v k i, tt))
+kept_units us m n xs k (one a u e f g h) = subst (Each UnitInRanges) (sym e) (each_got UnitInRanges us a u k h, tt)
+kept_units us m n xs k (both a b u v e f g h i) = subst (Each UnitInRanges) (sym e) (each_got UnitInRanges us a u k h, (each_got UnitInRanges us b v k i, tt))
 
 residual_there : (t : Numbers) → AreTables t → (k : ResidualKey) (x : State) → StandsFor t k x → IsResidual x
 residual_there t a k x h = let s = slots t.units k.first k.second x.units h.units in record { few = few_units t.units k.first k.second x.units s; units = kept_units t.units k.first k.second x.units a.units_kept s; part = h.kept }

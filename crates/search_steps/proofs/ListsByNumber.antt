@@ -15,13 +15,11 @@ use Rattle.outlines.specs.declared.outline.Entry.{Entry}
 use Rattle.outlines.specs.Marks.{IsAlone, IsList, IsOfUnit, IsOpening, ListsAreOutcomes}
 use Rattle.outlines.specs.Outcomes.{AreOutcomes as TriedAre, Grows as Given}
 use Rattle.outlines.proofs.Growing.{grows_like, grows_none, grows_then}
-use Rattle.residual_keys.proofs.Adding.{in_either, in_left, in_right}
-use Rattle.residual_keys.proofs.LeastOne.{weaken}
 use Rattle.residual_keys.specs.Kept.{PartKept}
 use Rattle.residual_keys.specs.Residuals.{State}
 use Rattle.residual_table.specs.declared.key.ResidualKey.{ResidualKey}
 use Rattle.residual_table.specs.Keys.{Grows, HasSlot, IsLive, IsSlot, KeepsNumbers, StandsFor, Tables as Numbers, residual_at}
-use Rattle.residual_table.proofs.KeyFacts.{Slots, has_slots, slot_same, slots, stays}
+use Rattle.residual_table.proofs.KeyFacts.{Slots, has_slots, slot_same, slots, stays, some_same}
 use Rattle.residual_table.proofs.KeyFacts.Slots.{neither, one, both}
 use Rattle.search_steps.specs.declared.keyed.Placed.{Placed}
 use Rattle.search_steps.specs.declared.numbered.PositionSteps.{PositionSteps}
@@ -36,8 +34,12 @@ use Rattle.search_steps.specs.Placed.{AddsFour, AddsOfUnit, ArePlaced, MayStand}
 use Rattle.search_steps.specs.Tables.{AsTried, HasTable, IsOwnTable, outcome_tried}
 use Rattle.search_steps.proofs.Given.{four_are, opening_not, unit_not}
 use Rattle.search_steps.proofs.LeftByNumber.{at_most_two, no_room}
-use Rattle.search_steps.proofs.Kept.{got_within}
-use Rattle.search_steps.proofs.TableFacts.{each_last, got_each, got_is, last_got, tried_are}
+use Rattle.search_steps.proofs.TableFacts.{tried_are}
+use Rattle.law_lemmas.proofs.EachOne.{each_got, each_more, each_weaker}
+use Rattle.law_lemmas.proofs.Lists.{got_is, got_last, got_within}
+use Rattle.law_lemmas.proofs.Members.{in_either, in_left, in_right}
+use Rattle.law_lemmas.proofs.Options.{some_one}
+use Rattle.law_lemmas.proofs.Pairs.{matched_more}
 
 -- the last of a list, and what is matched with it
 matched_last : {X Y : Type 0} (R : X → Y → Type 0) (xs : List X) (ys : List Y) (y : Y) → Matched R xs (ys ++ y ∷ []) → (zs : List X) × (z : X) × (xs ≡ zs ++ z ∷ []) × Matched R zs ys × R z y
@@ -50,12 +52,6 @@ matched_last R (x ∷ xs) (v ∷ ys) y h = let r = matched_last R xs ys y h.1 in
 matched_none : {X Y : Type 0} (R : X → Y → Type 0) (xs : List X) → Matched R xs [] → xs ≡ []
 matched_none R [] h = refl
 matched_none R (x ∷ xs) h = absurd h
-
-pub matched_more : {X Y : Type 0} (R : X → Y → Type 0) (xs : List X) (ys : List Y) (x : X) (y : Y) → Matched R xs ys → R x y → Matched R (xs ++ x ∷ []) (ys ++ y ∷ [])
-matched_more R [] [] x y h r = (r, tt)
-matched_more R [] (v ∷ ys) x y h r = absurd h
-matched_more R (u ∷ xs) [] x y h r = absurd h
-matched_more R (u ∷ xs) (v ∷ ys) x y h r = (h.0, matched_more R xs ys x y h.1 r)
 
 matched_weaker : {X Y : Type 0} (R S : X → Y → Type 0) → ((x : X) (y : Y) → R x y → S x y) → (xs : List X) (ys : List Y) → Matched R xs ys → Matched S xs ys
 matched_weaker R S f [] [] h = tt
@@ -155,27 +151,23 @@ unit_stays q t u ts us g keeps s h = record {
 }
 
 pub positions_stay : (q : Request) (t u : Numbers) (ts us : List PositionTable) (ss : List PositionSteps) → Grows t u → KeepsNumbers ts us → Each (ArePositionSteps q t ts) ss → Each (ArePositionSteps q u us) ss
-positions_stay q t u ts us ss g keeps h = weaken (ArePositionSteps q t ts) (ArePositionSteps q u us) (position_stays q t u ts us g keeps) ss h
+positions_stay q t u ts us ss g keeps h = each_weaker (ArePositionSteps q t ts) (ArePositionSteps q u us) (position_stays q t u ts us g keeps) ss h
 
 pub units_stay_by : (q : Request) (t u : Numbers) (ts us : List PositionTable) (ss : List UnitSteps) → Grows t u → KeepsNumbers ts us → Each (AreUnitSteps q t ts) ss → Each (AreUnitSteps q u us) ss
-units_stay_by q t u ts us ss g keeps h = weaken (AreUnitSteps q t ts) (AreUnitSteps q u us) (unit_stays q t u ts us g keeps) ss h
-
--- an open unit of a residual has the slot of its key
-some_eq : (x y : OpenUnit) → Some x ≡ Some y → x ≡ y
-some_eq x y e = cc
+units_stay_by q t u ts us ss g keeps h = each_weaker (AreUnitSteps q t ts) (AreUnitSteps q u us) (unit_stays q t u ts us g keeps) ss h
 
 none_eq : (y : OpenUnit) → None ≡ Some y → ⊥
 none_eq y e = cc
 
 unit_is_first : (us : List OpenUnit) (m n : ℕ) (xs : List OpenUnit) (u v : OpenUnit) → Slots us m n xs → IsSlot us m (Some u) → slice_get xs 0 ≡ Some v → u ≡ v
 unit_is_first us m n xs u v (neither e f g) i h = absurd (none_eq v (ap (λ (ys : List OpenUnit). slice_get ys 0) (sym e) ∙ h))
-unit_is_first us m n xs u v (one a w e f g k) i h = slot_same us m a w u f k i ∙ some_eq w v (ap (λ (ys : List OpenUnit). slice_get ys 0) (sym e) ∙ h)
-unit_is_first us m n xs u v (both a b w y e f g k l) i h = slot_same us m a w u f k i ∙ some_eq w v (ap (λ (ys : List OpenUnit). slice_get ys 0) (sym e) ∙ h)
+unit_is_first us m n xs u v (one a w e f g k) i h = slot_same us m a w u f k i ∙ some_same w v (ap (λ (ys : List OpenUnit). slice_get ys 0) (sym e) ∙ h)
+unit_is_first us m n xs u v (both a b w y e f g k l) i h = slot_same us m a w u f k i ∙ some_same w v (ap (λ (ys : List OpenUnit). slice_get ys 0) (sym e) ∙ h)
 
 unit_is_second : (us : List OpenUnit) (m n : ℕ) (xs : List OpenUnit) (u v : OpenUnit) → Slots us m n xs → IsSlot us n (Some u) → slice_get xs 1 ≡ Some v → u ≡ v
 unit_is_second us m n xs u v (neither e f g) i h = absurd (none_eq v (ap (λ (ys : List OpenUnit). slice_get ys 1) (sym e) ∙ h))
 unit_is_second us m n xs u v (one a w e f g k) i h = absurd (none_eq v (ap (λ (ys : List OpenUnit). slice_get ys 1) (sym e) ∙ h))
-unit_is_second us m n xs u v (both a b w y e f g k l) i h = slot_same us n b y u g l i ∙ some_eq y v (ap (λ (ys : List OpenUnit). slice_get ys 1) (sym e) ∙ h)
+unit_is_second us m n xs u v (both a b w y e f g k l) i h = slot_same us n b y u g l i ∙ some_same y v (ap (λ (ys : List OpenUnit). slice_get ys 1) (sym e) ∙ h)
 
 none_first : (us : List OpenUnit) (m n : ℕ) (xs : List OpenUnit) → Slots us m n xs → m ≡ 0 → slice_get xs 0 ≡ None
 none_first us m n xs (neither e f g) z = ap (λ ys. slice_get ys 0) e
@@ -187,22 +179,19 @@ none_second us m n xs (neither e f g) z = ap (λ ys. slice_get ys 1) e
 none_second us m n xs (one a u e f g h) z = ap (λ ys. slice_get ys 1) e
 none_second us m n xs (both a b u v e f g h i) z = absurd (omega (arith, z, g))
 
-some_same : {X : Type 0} (o : Option X) (x y : X) → o ≡ Some x → o ≡ Some y → x ≡ y
-some_same o x y e f = let z : Some x ≡ Some y = sym e ∙ f in cc
-
 -- what the list of an open unit gives
 module _ (q : Request) (t : Numbers) (ts : List PositionTable) (us : List UnitSteps) (place : ℕ) (k : ResidualKey) (r : State) (stands : StandsFor t k r) (all : Each (AreUnitSteps q t ts) us) (slot number : ℕ)
     (is_unit : (u v : OpenUnit) → IsSlot t.units number (Some u) → slice_get r.units slot ≡ Some v → u ≡ v) (is_none : number ≡ 0 → slice_get r.units slot ≡ None) where
   pub given_of_unit : (at : Option ℕ) (old new : List (Outcome ResidualKey)) → UnitStepsAt us place number at → AddsOfUnit (λ r. UnitBy r slot) k us at old new → UnitGiven q ts place r slot (tried_in t old) (tried_in t new) × (LeadToLive (IsLive t) old → LeadToLive (IsLive t) new)
   given_of_unit None old new e adds = (subst (λ z. UnitGiven q ts place r slot (tried_in t old) (tried_in t z)) (sym adds) (unit_not q ts place r slot (tried_in t old) (is_none e)), λ l. subst (LeadToLive (IsLive t)) (sym adds) l)
   given_of_unit (Some n) old new at adds =
-      let h = got_each (AreUnitSteps q t ts) us n at.steps all at.stands in
+      let h = each_got (AreUnitSteps q t ts) us n at.steps all at.stands in
       let a = adds at.steps at.stands t r h.steps.list stands h.steps.steps in (
         record {
           list = h.steps.list;
           is = λ v has table there.
               let unit : h.unit ≡ v = is_unit h.unit v (subst (λ z. IsSlot t.units z (Some h.unit)) at.of_slot h.slot) has in
-              let same : h.table ≡ table = some_same (slice_get ts place) h.table table (ap (slice_get ts) (sym at.of_place) ∙ h.stands) there in
+              let same : h.table ≡ table = some_one (slice_get ts place) h.table table (ap (slice_get ts) (sym at.of_place) ∙ h.stands) there in
               subst (λ (y : PositionTable). IsList (IsOfUnit y.at.place q.sale v) y.entries h.steps.list) same (subst (λ (w : OpenUnit). IsList (IsOfUnit h.table.at.place q.sale w) h.table.entries h.steps.list) unit h.steps.is);
           grows = a.given;
         },
@@ -227,14 +216,14 @@ module _ (b : Book) (q : Request) (ts : List PositionTable) (l : StepLists) (k :
   four_by_number =
       let t = l.numbers in
       let s = placed.steps in
-      let h = got_each (ArePositionSteps q t ts) l.positions.items p.at s lists.positions placed.stands in
+      let h = each_got (ArePositionSteps q t ts) l.positions.items p.at s lists.positions placed.stands in
       let sl = slots t.units k.first k.second r.units stands.units in
-      let at : h.table.at ≡ r.at = some_same (slice_get t.positions k.position) h.table.at r.at (ap (slice_get t.positions) (sym placed.of_position) ∙ h.at) stands.at in
+      let at : h.table.at ≡ r.at = some_one (slice_get t.positions k.position) h.table.at r.at (ap (slice_get t.positions) (sym placed.of_position) ∙ h.at) stands.at in
       let by_alone = adds.alone s placed.stands t r h.alone.list stands h.alone.steps in
       let by_opening = adds.opening s placed.stands t r h.opening.list stands h.opening.steps in
       let by_first = given_of_unit q t ts l.units.items s.place k r stands lists.units 0 k.first (λ u v i e. unit_is_first t.units k.first k.second r.units u v sl i e) (λ z. none_first t.units k.first k.second r.units sl z) p.first adds.two adds.three placed.first adds.first in
       let by_second = given_of_unit q t ts l.units.items s.place k r stands lists.units 1 k.second (λ u v i e. unit_is_second t.units k.first k.second r.units u v sl i e) (λ z. none_second t.units k.first k.second r.units sl z) p.second adds.three found placed.second adds.second in (
-        four_are b q r ts s.place h.table h.alone.list h.opening.list (tried_in t adds.one) (tried_in t adds.two) (tried_in t adds.three) (tried_in t found) law (at_most_two t.units k.first k.second r.units sl) h.stands at (got_each (IsOwnTable b q) ts s.place h.table tables h.stands) h.alone.is h.opening.is
+        four_are b q r ts s.place h.table h.alone.list h.opening.list (tried_in t adds.one) (tried_in t adds.two) (tried_in t adds.three) (tried_in t found) law (at_most_two t.units k.first k.second r.units sl) h.stands at (each_got (IsOwnTable b q) ts s.place h.table tables h.stands) h.alone.is h.opening.is
             by_alone.given by_opening.given by_first.0 by_second.0,
         by_second.1 (by_first.1 (by_opening.live (by_alone.live tt))),
       )
@@ -266,7 +255,7 @@ lists_stay q ts us u l m g keeps e p n h = record {
 pub position_more : (q : Request) (ts us : List PositionTable) (u : Numbers) (l m : StepLists) (s : PositionSteps) → Grows l.numbers u → KeepsNumbers ts us → m.numbers ≡ u → m.positions.items ≡ l.positions.items ++ s ∷ [] → m.units.items ≡ l.units.items
     → ArePositionSteps q u us s → AreStepLists q ts l → AreStepLists q us m
 position_more q ts us u l m s g keeps e p n k h = record {
-  positions = subst (λ z. Each (ArePositionSteps q z us) m.positions.items) (sym e) (subst (Each (ArePositionSteps q u us)) (sym p) (each_last (ArePositionSteps q u us) l.positions.items s (positions_stay q l.numbers u ts us l.positions.items g keeps h.positions) k));
+  positions = subst (λ z. Each (ArePositionSteps q z us) m.positions.items) (sym e) (subst (Each (ArePositionSteps q u us)) (sym p) (each_more (ArePositionSteps q u us) l.positions.items s (positions_stay q l.numbers u ts us l.positions.items g keeps h.positions) k));
   units = subst (λ z. Each (AreUnitSteps q z us) m.units.items) (sym e) (subst (Each (AreUnitSteps q u us)) (sym n) (units_stay_by q l.numbers u ts us l.units.items g keeps h.units));
 }
 
@@ -274,15 +263,15 @@ position_more q ts us u l m s g keeps e p n k h = record {
 pub unit_more : (q : Request) (ts : List PositionTable) (u : Numbers) (l m : StepLists) (s : UnitSteps) → Grows l.numbers u → m.numbers ≡ u → m.positions.items ≡ l.positions.items → m.units.items ≡ l.units.items ++ s ∷ [] → AreUnitSteps q u ts s → AreStepLists q ts l → AreStepLists q ts m
 unit_more q ts u l m s g e p n k h = record {
   positions = subst (λ z. Each (ArePositionSteps q z ts) m.positions.items) (sym e) (subst (Each (ArePositionSteps q u ts)) (sym p) (positions_stay q l.numbers u ts ts l.positions.items g (λ i x y. y) h.positions));
-  units = subst (λ z. Each (AreUnitSteps q z ts) m.units.items) (sym e) (subst (Each (AreUnitSteps q u ts)) (sym n) (each_last (AreUnitSteps q u ts) l.units.items s (units_stay_by q l.numbers u ts ts l.units.items g (λ i x y. y) h.units) k));
+  units = subst (λ z. Each (AreUnitSteps q z ts) m.units.items) (sym e) (subst (Each (AreUnitSteps q u ts)) (sym n) (each_more (AreUnitSteps q u ts) l.units.items s (units_stay_by q l.numbers u ts ts l.units.items g (λ i x y. y) h.units) k));
 }
 
 -- what was added stands at the end
 pub steps_last : (old new : List PositionSteps) (s : PositionSteps) (position n : ℕ) → new ≡ old ++ s ∷ [] → n ≡ length old → s.position ≡ position → StepsAt new position n
-steps_last old new s position n is e p = record { steps = s; stands = ap (λ xs. slice_get xs n) is ∙ ap (slice_get (old ++ s ∷ [])) e ∙ last_got old s; of_position = p }
+steps_last old new s position n is e p = record { steps = s; stands = ap (λ xs. slice_get xs n) is ∙ ap (slice_get (old ++ s ∷ [])) e ∙ got_last old s; of_position = p }
 
 pub unit_steps_last : (old new : List UnitSteps) (s : UnitSteps) (place slot n : ℕ) → new ≡ old ++ s ∷ [] → n ≡ length old → s.place ≡ place → s.slot ≡ slot → slot ≢ 0 → UnitStandsAt new place slot n
-unit_steps_last old new s place slot n is e p q is_open = record { steps = s; stands = ap (λ xs. slice_get xs n) is ∙ ap (slice_get (old ++ s ∷ [])) e ∙ last_got old s; of_place = p; of_slot = q; is_open = is_open }
+unit_steps_last old new s place slot n is e p q is_open = record { steps = s; stands = ap (λ xs. slice_get xs n) is ∙ ap (slice_get (old ++ s ∷ [])) e ∙ got_last old s; of_place = p; of_slot = q; is_open = is_open }
 
 -- where the lists of a key stand
 pub may_stand : (us : List UnitSteps) (place slot : ℕ) (at : Option ℕ) → UnitStepsAt us place slot at → MayStand us slot at
@@ -309,7 +298,7 @@ placed_are l0 l1 l2 k at s first second found is e1 e2 keeps h i p a f g =
 pub has_table_of : (q : Request) (ts : List PositionTable) (l : StepLists) (position at : ℕ) (s : PositionSteps) → AreStepLists q ts l → StepsAt l.positions.items position at → s ≡ get_or l.positions.items at s → HasTable ts s.place
 has_table_of q ts l position at s h found is =
     let same : s ≡ found.steps = is ∙ got_is l.positions.items at s found.steps found.stands in
-    let a = got_each (ArePositionSteps q l.numbers ts) l.positions.items at found.steps h.positions found.stands in
+    let a = each_got (ArePositionSteps q l.numbers ts) l.positions.items at found.steps h.positions found.stands in
     (a.table, ap (λ (z : PositionSteps). slice_get ts z.place) same ∙ a.stands)
 
 -- the slots of a live key

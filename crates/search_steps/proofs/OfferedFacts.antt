@@ -1,7 +1,6 @@
 -- Where no group of a market has an offered fare, no key of the flights and the market's sheet has an offer.
-use Rattle.std.proofs.Common.{◌≡◌, ◌≢◌, ◌⊎◌, ℕ, suc, ◌+◌, ◌<◌, ◌≤◌, Bool, true, false, List, [], ◌∷◌, ◌++◌, length, take, get_or, All, IsBitSet, slice_get, Option, Some, None, is_some, IfNone, MatchOption, MatchBool, sym, ap, ap₂, subst, ◌∙◌, inl, inr, refl, arith}
+use Rattle.std.proofs.Common.{◌≡◌, ◌≢◌, ◌⊎◌, ℕ, ◌+◌, ◌<◌, ◌≤◌, Bool, true, false, List, [], ◌∷◌, length, take, get_or, All, IsBitSet, slice_get, Option, Some, None, is_some, IfNone, MatchOption, MatchBool, sym, ap, ap₂, subst, ◌∙◌, inl, inr, refl, arith}
 use Rattle.std.proofs.lemmas.List.Elements.{All-head}
-use Rattle.std.proofs.Math.Seq.{take-suc}
 use Rattle.cheap_moves.specs.Making.{HasRows, IsRowIn}
 use Rattle.component_table.specs.declared.markets.Market.{Market}
 use Rattle.component_table.specs.Markets.{IsMarket}
@@ -11,7 +10,6 @@ use Rattle.fare_groups.specs.declared.group.GroupedFare.{GroupedFare}
 use Rattle.fare_groups.specs.Grouping.{Cheapest, IsGroup, fare_at}
 use Rattle.fare_groups.specs.Groups.{HasClass, Permits, group_of}
 use Rattle.fare_groups.proofs.ByGroup.{offered_by_group, one_rule_all}
-use Rattle.fare_groups.proofs.Grouped.{each_in, in_each, in_either}
 use Rattle.fare_groups.proofs.OneGroup.{classes_are_low, each_stands_once, fares_are_rows}
 use Rattle.fare_law.specs.declared.flights.Flight.{Flight}
 use Rattle.fare_law.specs.declared.names.Carrier.{Carrier}
@@ -27,10 +25,13 @@ use Rattle.fare_law.specs.RuleLimits.{IsRule}
 use Rattle.fare_law.specs.Sheets.{IsLiveRow, Sheet}
 use Rattle.residual_keys.specs.AskedKeys.{IsLeg}
 use Rattle.residual_keys.proofs.Markets.{legs_one}
-use Rattle.residual_keys.proofs.OneNext.{some_one}
-use Rattle.residual_keys.proofs.Sheeted.{got_in, sheet_one}
+use Rattle.residual_keys.proofs.Sheeted.{sheet_one}
 use Rattle.search_steps.specs.declared.offered.Flown.{Flown}
 use Rattle.search_steps.specs.Settling.{IsFlown, NoneOver, OffersNone}
+use Rattle.law_lemmas.proofs.EachOne.{each_from, each_in}
+use Rattle.law_lemmas.proofs.Lists.{front_read}
+use Rattle.law_lemmas.proofs.Members.{got_in, in_either, in_one}
+use Rattle.law_lemmas.proofs.Options.{some_one}
 
 -- legs that match flights are over them
 legs_over : (b : Book) (party : ℕ) (fs : List Flight) (legs : List Leg) → Matched (IsLeg b party) fs legs → flights_of legs ≡ fs
@@ -65,7 +66,7 @@ module _ (b : Book) (q : Request) (flown : Flown) (m : Market) (g : FareGroup) (
   class_low row j = (limited.fares row.fare.key row.fare (live_of row j).fare).1.class
 
   pub low_classes : Each (λ (f : GroupedFare). f.class ≤ 25) g.fares
-  low_classes = each_in (λ (x : FareGroup). Each (λ (f : GroupedFare). f.class ≤ 25) x.fares) m.groups g (classes_are_low m.sheet.value.rows m.groups market.groups (in_each (λ (row : SheetRow). row.fare.class ≤ 25) m.sheet.value.rows class_low)) i
+  low_classes = each_in (λ (x : FareGroup). Each (λ (f : GroupedFare). f.class ≤ 25) x.fares) m.groups g (classes_are_low m.sheet.value.rows m.groups market.groups (each_from (λ (row : SheetRow). row.fare.class ≤ 25) m.sheet.value.rows class_low)) i
 
   pub has_rows : HasRows m.sheet.value.rows g
   has_rows = record {
@@ -108,17 +109,10 @@ module _ (b : Book) (q : Request) (flown : Flown) (m : Market) (g : FareGroup) (
 abbrev pub NoneBefore : Book → Request → List SheetRow → List Flight → List FareGroup → Type 0
 NoneBefore b q rows fs gs = (g : FareGroup) → IsIn g gs → NoneOver b q rows fs g
 
-in_one : {X : Type 0} (x y : X) → IsIn x (y ∷ []) → x ≡ y
-in_one x y (inl e) = e
-in_one x y (inr n) = absurd n
-
-one_more : {X : Type 0} (xs : List X) (i : ℕ) (d x : X) → i < length xs → x ≡ get_or xs i d → take (i + 1) xs ≡ take i xs ++ x ∷ []
-one_more xs i d x lt e = let one : i + 1 ≡ suc i = omega arith in ap (λ n. take n xs) one ∙ take-suc xs i d lt ∙ ap (λ z. take i xs ++ z ∷ []) (sym e)
-
 module _ (b : Book) (q : Request) (rows : List SheetRow) (fs : List Flight) (gs : List FareGroup) where
   -- nor has one group more
   pub none_more : (i : ℕ) (d g : FareGroup) → i < length gs → g ≡ get_or gs i d → NoneBefore b q rows fs (take i gs) → NoneOver b q rows fs g → NoneBefore b q rows fs (take (i + 1) gs)
-  none_more i d g lt e h one x j = elim (in_either x (take i gs) (g ∷ []) (subst (IsIn x) (one_more gs i d g lt e) j)) [ inl k ↦ h x k | inr k ↦ subst (NoneOver b q rows fs) (sym (in_one x g k)) one ]
+  none_more i d g lt e h one x j = elim (in_either x (take i gs) (g ∷ []) (subst (IsIn x) (front_read gs i d g lt e) j)) [ inl k ↦ h x k | inr k ↦ subst (NoneOver b q rows fs) (sym (in_one x g k)) one ]
 
 pub cheapest_none : (classes : ℕ) (fares : List GroupedFare) (o : Option ℕ) → is_some o ≡ false → Cheapest classes fares o → Cheapest classes fares None
 cheapest_none classes fares None e h = h

@@ -1,5 +1,5 @@
 -- Rows that were taken in the order of their ranks are the rows, in that order.
-use Rattle.std.proofs.Common.{◌≡◌, ◌∙◌, ℕ, zero, suc, ◌+◌, ◌<◌, false, List, [], ◌∷◌, map, length, get_or, slice_get, Option, Some, None, IsPermutation, refl, sym, ap, subst, arith}
+use Rattle.std.proofs.Common.{◌≡◌, ◌∙◌, ℕ, suc, ◌+◌, ◌<◌, false, List, [], ◌∷◌, map, length, get_or, slice_get, Option, Some, None, IsPermutation, refl, sym, ap, subst, arith}
 use Rattle.std.specs.declared.cmp.Ordering.{Ordering}
 use Rattle.std.specs.declared.cmp.Ordering.TheVariants.{Less, Equal, Greater}
 use Rattle.std.specs.List.{IsDistinct}
@@ -22,6 +22,7 @@ use Rattle.search_steps.specs.contracts.row_order.RankedRowOrd.TheImpl as ranked
 use Rattle.search_steps.specs.declared.row_order.RankedRow.{RankedRow}
 use Rattle.search_steps.specs.RowOrder.{ranked_from, rows_of_ranked, with_row}
 use Rattle.search_steps.proofs.RowsInOrder.{still_each}
+use Rattle.law_lemmas.proofs.EachOne.{each_at}
 
 abbrev Row : Type 0
 Row = ResidualKey × Option ℕ
@@ -39,11 +40,6 @@ lower_too x y h = go (nat_cmp x.ranks y.ranks) (part.cmp-value.it x.part y.part)
     go Equal Less c h = h
     go Equal Equal c h = refl
     go Equal Greater c h = refl
-
-each_got : {X : Type 0} (P : X → Type 0) (xs : List X) (k : ℕ) (d : X) → Each P xs → k < length xs → P (get_or xs k d)
-each_got P [] k d h lt = absurd (omega (arith, lt))
-each_got P (x ∷ xs) zero d h lt = h.0
-each_got P (x ∷ xs) (suc k) d h lt = each_got P xs k d h.1 (omega (arith, lt))
 
 module _ (ranks : RankLists) (rows : List Row) where
   -- the row stands at its place, with the ranks of its key
@@ -109,8 +105,8 @@ module _ (ranks : RankLists) (rows : List Row) where
               let before : k < length xs = omega (arith, within) in
               let x = get_or xs (k + 1) first in
               let y = get_or xs k first in
-              let at_x : rank_of ranks (get_or (map row_of xs) (k + 1) d).0 ≡ sort_key x = ap (λ r. rank_of ranks r.0) (get_or-map row_of xs (k + 1) first d within) ∙ key_is x (each_got Stands xs (k + 1) first stand within) in
-              let at_y : rank_of ranks (get_or (map row_of xs) k d).0 ≡ sort_key y = ap (λ r. rank_of ranks r.0) (get_or-map row_of xs k first d before) ∙ key_is y (each_got Stands xs k first stand before) in
+              let at_x : rank_of ranks (get_or (map row_of xs) (k + 1) d).0 ≡ sort_key x = ap (λ r. rank_of ranks r.0) (get_or-map row_of xs (k + 1) first d within) ∙ key_is x (each_at Stands xs (k + 1) first stand within) in
+              let at_y : rank_of ranks (get_or (map row_of xs) k d).0 ≡ sort_key y = ap (λ r. rank_of ranks r.0) (get_or-map row_of xs k first d before) ∙ key_is y (each_at Stands xs k first stand before) in
               (λ j. is_lt (order.cmp-value.it (at_x j) (at_y j))) ∙ lower_too x y (sorted k first low within)
             where
               length_map : (xs : List RankedRow) → length (map row_of xs) ≡ length xs

@@ -9,9 +9,8 @@ use Rattle.std.proofs.lemmas.Map.Keys.{IsDistinct-head, IsDistinct-tail}
 use Rattle.fare_law.specs.Lists.{Each, EachPair, IsIn}
 use Rattle.graph_walk.specs.Steps.{AreLive, TellsStates, rows_of}
 use Rattle.graph_walk.specs.Walks.{states}
-use Rattle.residual_keys.proofs.LeastOne.{in_each}
-use Rattle.residual_keys.proofs.Needed.{each_from}
 use Rattle.residual_keys.proofs.SortedWords.{NoneLower, same_elements}
+use Rattle.law_lemmas.proofs.EachOne.{each_from, each_member}
 
 module _ {K X : Type 0} (live : K → Type 0) (state : K → X) (Below : X → X → Type 0) (compare : K → K → Ordering) (same : K → K → Bool) (ordered : (k l : K) → live k → live l → (compare k l ≡ Lower) ↔ Below (state k) (state l))
     (tells : TellsStates live state same) (total : (x y : X) → Below x y ⊎ ((x ≡ y) ⊎ Below y x)) where
@@ -40,7 +39,7 @@ module _ {K X : Type 0} (live : K → Type 0) (state : K → X) (Below : X → X
 
 -- what holds of each element holds of each in another order
 pub still_each : {X : Type 0} (P : X → Type 0) (old new : List X) → IsPermutation old new → Each P old → Each P new
-still_each P old new p h = each_from P new (λ r i. in_each P r old h ((same_elements r old new p).1 i))
+still_each P old new p h = each_from P new (λ r i. each_member P r old h ((same_elements r old new p).1 i))
 
 -- rows as those of states
 module _ {K X : Type 0} (f : K → X) where

@@ -4,15 +4,10 @@ use Rattle.fare_law.specs.declared.flights.Flight.{Flight}
 use Rattle.fare_law.specs.declared.market.OfferKey.{OfferKey}
 use Rattle.fare_law.specs.declared.requests.Request.{Request}
 use Rattle.fare_law.specs.Book.{Book}
-use Rattle.fare_law.specs.Lists.{OnLast}
 use Rattle.flight_paths.specs.Positions.{IsPath}
 use Rattle.residual_keys.specs.AskedKeys.{IsKey, KeyOf, KeyOfFlights}
 use Rattle.residual_keys.specs.Residuals.{State}
-
-last_too : (P Q : Flight → Type 0) → ((z : Flight) → P z → Q z) → (fs : List Flight) → OnLast P fs → OnLast Q fs
-last_too P Q more [] h = absurd h
-last_too P Q more (z ∷ []) h = more z h
-last_too P Q more (f ∷ z ∷ fs) h = last_too P Q more (z ∷ fs) h
+use Rattle.law_lemmas.proofs.Ends.{on_last}
 
 second_too : {A B C D : Type 0} → (C → D) → A ⊎ (C × B) → A ⊎ (D × B)
 second_too more (inl is) = inl is
@@ -22,7 +17,7 @@ second_too more (inr is) = inr (more is.0, is.1)
 keys_of_flights : (b : Book) (q : Request) (x y : State) → (x.units ≢ [] → y.units ≢ []) → (fs : List Flight) (key : OfferKey) → KeyOfFlights b q x fs key → KeyOfFlights b q y fs key
 keys_of_flights b q x y held [] key h = absurd h
 keys_of_flights b q x y held (f ∷ fs) key h =
-    last_too (λ z. IsKey b q (f ∷ fs) f.from z.to key ⊎ ((x.units ≢ []) × IsKey b q (f ∷ fs) z.to f.from key)) (λ z. IsKey b q (f ∷ fs) f.from z.to key ⊎ ((y.units ≢ []) × IsKey b q (f ∷ fs) z.to f.from key))
+    on_last (λ z. IsKey b q (f ∷ fs) f.from z.to key ⊎ ((x.units ≢ []) × IsKey b q (f ∷ fs) z.to f.from key)) (λ z. IsKey b q (f ∷ fs) f.from z.to key ⊎ ((y.units ≢ []) × IsKey b q (f ∷ fs) z.to f.from key))
     (λ z. second_too held) (f ∷ fs) h
 
 -- at one position, with a unit open in both or in none, the keys are the same

@@ -18,17 +18,13 @@ use Rattle.residual_keys.proofs.Markets.{no_sheet}
 use Rattle.residual_keys.proofs.OneNext.{last_one}
 use Rattle.residual_keys.proofs.PathByPath.{HoldsOn}
 use Rattle.search_steps.specs.Settling.{AreServed}
+use Rattle.law_lemmas.proofs.LawFacts.{on_last_as}
 
 -- the last of a path's flights
 last_of : (fs : List Flight) → fs ≢ [] → (z : Flight) × OnLast (λ x. z ≡ x) fs
 last_of [] some = absurd (some refl)
 last_of (f ∷ []) some = (f, refl)
 last_of (f ∷ g ∷ fs) some = last_of (g ∷ fs) (λ e. absurd (cc))
-
-last_at : (P : Flight → Type 0) (fs : List Flight) (z : Flight) → OnLast (λ x. z ≡ x) fs → P z → OnLast P fs
-last_at P [] z h p = absurd h
-last_at P (f ∷ []) z h p = subst P h p
-last_at P (f ∷ g ∷ fs) z h p = last_at P (g ∷ fs) z h p
 
 module _ (b : Book) (q : Request) (at : Position) where
   flights_some : (ns : List ℕ) (fs : List Flight) (next : Option Position) → Flies b q.slices (Some at) ns fs next → ns ≢ [] → fs ≢ []
@@ -50,8 +46,8 @@ module _ (b : Book) (q : Request) (at : Position) where
   }
     where
       by_end : (x : Path) (fs : List Flight) → IsPath b q.slices at x.flights fs x.after → (z : Flight) → OnLast (λ y. z ≡ y) fs → (t : Bool) → wanted z.to ≡ t → IsIn x paths ⊎ OnLast (λ y. HasNoFares b at.place y.to) fs
-      by_end x fs is z end true e = inl (reached.all x fs is (last_at (λ y. wanted y.to ≡ true) fs z end e))
-      by_end x fs is z end false e = inr (last_at (λ y. HasNoFares b at.place y.to) fs z end (others z.to e))
+      by_end x fs is z end true e = inl (reached.all x fs is (on_last_as (λ y. wanted y.to ≡ true) fs z end e))
+      by_end x fs is z end false e = inr (on_last_as (λ y. HasNoFares b at.place y.to) fs z end (others z.to e))
 
 -- flights between whose ends no fare is filed have no key
 no_key : (b : Book) (q : Request) (r : State) (place : Place) (fs : List Flight) → OnFirst (λ f. f.from ≡ place) fs → OnLast (λ z. HasNoFares b place z.to) fs → (key : OfferKey) → KeyOfFlights b q r fs key → ⊥

@@ -1,26 +1,25 @@
 -- Steps without what another of the list makes idle are a list of the same marks.
 use Rattle.std.proofs.Common.{◌≡◌, ◌⊎◌, ◌∙◌, ℕ, ℤ, zero, suc, ◌+◌, ◌≤◌, ◌<◌, List, [], ◌∷◌, ◌++◌, length, take, get_or, slice_get, slice_set, Option, Some, None, refl, sym, ap, subst, inl, inr, arith}
 use Rattle.std.proofs.Math.Seq.{take-suc}
-use Rattle.fare_law.specs.Lists.{Each, IsIn, Matched}
+use Rattle.fare_law.specs.Lists.{Each, IsIn}
 use Rattle.outlines.specs.declared.marks.Listed.{Listed}
 use Rattle.outlines.specs.declared.marks.Mark.{Mark}
 use Rattle.outlines.specs.declared.outline.Entry.{Entry}
 use Rattle.outlines.specs.Marks.{IsList}
-use Rattle.residual_keys.proofs.Adding.{in_either, in_left, in_right}
-use Rattle.residual_keys.proofs.LeastOne.{in_each, weaken}
 use Rattle.residual_table.specs.Keys.{IsSlot, Tables as Numbers}
 use Rattle.search_steps.specs.declared.numbered.Step.{Step}
 use Rattle.search_steps.specs.Numbers.{AreSteps, AreStepsOf, HasSteps, IsStep}
 use Rattle.search_steps.specs.Shortening.{HasMarkAt, HasNoDearer, HaveOneMark, IsShorter}
-use Rattle.search_steps.proofs.TableFacts.{each_last}
+use Rattle.law_lemmas.proofs.EachOne.{each_member, each_more, each_weaker}
+use Rattle.law_lemmas.proofs.Members.{in_either, in_left, in_right}
+use Rattle.law_lemmas.proofs.Numbers.{le_itself}
+use Rattle.law_lemmas.proofs.Options.{some_one}
+use Rattle.law_lemmas.proofs.Pairs.{matched_from_left, matched_from_right}
 
 pub got_in : (ss : List Step) (n : ℕ) (s : Step) → slice_get ss n ≡ Some s → IsIn s ss
 got_in [] n s e = absurd (cc)
 got_in (u ∷ ss) zero s e = inl (let z : s ≡ u = cc in z)
 got_in (u ∷ ss) (suc n) s e = inr (got_in ss n s e)
-
-itself : (n : ℕ) → n ≤ n
-itself n = omega arith
 
 one_mark : (s u : Step) → s ≡ u → HaveOneMark u s
 one_mark s u e = record { after = ap (λ (z : Step). z.after) (sym e); unit = ap (λ (z : Step). z.unit) (sym e); carrier = ap (λ (z : Step). z.carrier) (sym e); ends = ap (λ (z : Step). z.ends) (sym e) }
@@ -34,7 +33,7 @@ mark_on s u v h k = record { after = h.after ∙ k.after; unit = h.unit ∙ k.un
 -- what is shorter than a shorter list
 pub shorter_twice : (old mid new : List Step) → IsShorter old mid → IsShorter mid new → IsShorter old new
 shorter_twice old mid new g h = record {
-  part = weaken (λ s. IsIn s mid) (λ s. IsIn s old) (λ s i. in_each (λ z. IsIn z old) s mid g.part i) new h.part;
+  part = each_weaker (λ s. IsIn s mid) (λ s. IsIn s old) (λ s i. each_member (λ z. IsIn z old) s mid g.part i) new h.part;
   covered = λ s i.
       let u = g.covered s i in
       let v = h.covered u.0 u.1 in
@@ -53,13 +52,13 @@ each_itself ss = each_from ss ss (λ s i. i)
 -- what is shorter than a list is so with one more at the end of both
 shorter_more : (ss old : List Step) (s : Step) → IsShorter ss old → IsShorter (ss ++ s ∷ []) (old ++ s ∷ [])
 shorter_more ss old s h = record {
-  part = each_last (λ u. IsIn u (ss ++ s ∷ [])) old s (weaken (λ u. IsIn u ss) (λ u. IsIn u (ss ++ s ∷ [])) (λ u i. in_left u ss (s ∷ []) i) old h.part) (in_right s ss (s ∷ []) (inl refl));
+  part = each_more (λ u. IsIn u (ss ++ s ∷ [])) old s (each_weaker (λ u. IsIn u ss) (λ u. IsIn u (ss ++ s ∷ [])) (λ u i. in_left u ss (s ∷ []) i) old h.part) (in_right s ss (s ∷ []) (inl refl));
   covered = λ u i. cover u (in_either u ss (s ∷ []) i);
 }
   where
     cover : (u : Step) → IsIn u ss ⊎ IsIn u (s ∷ []) → HasNoDearer (old ++ s ∷ []) u
     cover u (inl i) = let z = h.covered u i in (z.0, in_left z.0 old (s ∷ []) z.1, z.2, z.3)
-    cover u (inr (inl e)) = (s, in_right s old (s ∷ []) (inl refl), one_mark u s e, subst (λ (z : Step). s.price ≤ z.price) (sym e) (itself s.price))
+    cover u (inr (inl e)) = (s, in_right s old (s ∷ []) (inl refl), one_mark u s e, subst (λ (z : Step). s.price ≤ z.price) (sym e) (le_itself s.price))
     cover u (inr (inr n)) = absurd n
 
 pub shorter_next : (ss : List Step) (i : ℕ) (d : Step) (old new : List Step) → i < length ss → IsShorter (old ++ get_or ss i d ∷ []) new → IsShorter (take i ss) old → IsShorter (take (i + 1) ss) new
@@ -71,18 +70,18 @@ shorter_next ss i d old new lt more h =
 pub shorter_itself : (ss : List Step) → IsShorter ss ss
 shorter_itself ss = record {
   part = each_itself ss;
-  covered = λ s i. (s, i, one_mark s s refl, itself s.price);
+  covered = λ s i. (s, i, one_mark s s refl, le_itself s.price);
 }
 
 -- one at a place may stand for one more of its mark that costs no less
 pub shorter_had : (ss : List Step) (n : ℕ) (s u : Step) → slice_get ss n ≡ Some u → HaveOneMark u s → u.price ≤ s.price → IsShorter (ss ++ s ∷ []) ss
 shorter_had ss n s u got mark low = record {
-  part = weaken (λ z. IsIn z ss) (λ z. IsIn z (ss ++ s ∷ [])) (λ z i. in_left z ss (s ∷ []) i) ss (each_itself ss);
+  part = each_weaker (λ z. IsIn z ss) (λ z. IsIn z (ss ++ s ∷ [])) (λ z i. in_left z ss (s ∷ []) i) ss (each_itself ss);
   covered = λ z i. cover z (in_either z ss (s ∷ []) i);
 }
   where
     cover : (z : Step) → IsIn z ss ⊎ IsIn z (s ∷ []) → HasNoDearer ss z
-    cover z (inl i) = (z, i, one_mark z z refl, itself z.price)
+    cover z (inl i) = (z, i, one_mark z z refl, le_itself z.price)
     cover z (inr (inl e)) = subst (HasNoDearer ss) (sym e) (u, got_in ss n u got, mark, low)
     cover z (inr (inr none)) = absurd none
 
@@ -90,7 +89,7 @@ shorter_had ss n s u got mark low = record {
 pub shorter_put : (ss : List Step) (n : ℕ) (s u : Step) → slice_get ss n ≡ Some u → HaveOneMark u s → s.price ≤ u.price → IsShorter (ss ++ s ∷ []) (slice_set ss n s)
 shorter_put [] n s u got mark low = absurd (cc)
 shorter_put (x ∷ ss) zero s u got mark low = record {
-  part = (in_right s (x ∷ ss) (s ∷ []) (inl refl), weaken (λ z. IsIn z ss) (λ z. IsIn z (x ∷ (ss ++ s ∷ []))) (λ z i. inr (in_left z ss (s ∷ []) i)) ss (each_itself ss));
+  part = (in_right s (x ∷ ss) (s ∷ []) (inl refl), each_weaker (λ z. IsIn z ss) (λ z. IsIn z (x ∷ (ss ++ s ∷ []))) (λ z i. inr (in_left z ss (s ∷ []) i)) ss (each_itself ss));
   covered = λ z i. cover z i;
 }
   where
@@ -105,18 +104,18 @@ shorter_put (x ∷ ss) zero s u got mark low = record {
     cover z (inr i) = rest z (in_either z ss (s ∷ []) i)
       where
         rest : (z : Step) → IsIn z ss ⊎ IsIn z (s ∷ []) → HasNoDearer (s ∷ ss) z
-        rest z (inl i) = (z, inr i, one_mark z z refl, itself z.price)
-        rest z (inr (inl e)) = (s, inl refl, one_mark z s e, subst (λ (z : Step). s.price ≤ z.price) (sym e) (itself s.price))
+        rest z (inl i) = (z, inr i, one_mark z z refl, le_itself z.price)
+        rest z (inr (inl e)) = (s, inl refl, one_mark z s e, subst (λ (z : Step). s.price ≤ z.price) (sym e) (le_itself s.price))
         rest z (inr (inr none)) = absurd none
 shorter_put (x ∷ ss) (suc n) s u got mark low =
     let more = shorter_put ss n s u got mark low in
     record {
-      part = (inl refl, weaken (λ z. IsIn z (ss ++ s ∷ [])) (λ z. IsIn z (x ∷ (ss ++ s ∷ []))) (λ z i. inr i) (slice_set ss n s) more.part);
+      part = (inl refl, each_weaker (λ z. IsIn z (ss ++ s ∷ [])) (λ z. IsIn z (x ∷ (ss ++ s ∷ []))) (λ z i. inr i) (slice_set ss n s) more.part);
       covered = λ z i. cover more z i;
     }
   where
     cover : IsShorter (ss ++ s ∷ []) (slice_set ss n s) → (z : Step) → IsIn z (x ∷ (ss ++ s ∷ [])) → HasNoDearer (x ∷ slice_set ss n s) z
-    cover more z (inl e) = (x, inl refl, one_mark z x e, subst (λ (y : Step). x.price ≤ y.price) (sym e) (itself x.price))
+    cover more z (inl e) = (x, inl refl, one_mark z x e, subst (λ (y : Step). x.price ≤ y.price) (sym e) (le_itself x.price))
     cover more z (inr i) = let y = more.covered z i in (y.0, inr y.1, y.2, y.3)
 
 got_or : (ss : List Step) (n : ℕ) (d u : Step) → slice_get ss n ≡ Some u → get_or ss n d ≡ u
@@ -132,24 +131,6 @@ pub lower_put : (ss : List Step) (n : ℕ) (s d : Step) → HasMarkAt ss s n →
 lower_put ss n s d has low =
     let less = subst (λ (z : Step). s.price < z.price) (got_or ss n d has.0 has.1) low in
     shorter_put ss n s has.0 has.1 has.2 (omega (arith, less))
-
--- what is matched with one of a list
-matched_left : {X Y : Type 0} (R : X → Y → Type 0) (xs : List X) (ys : List Y) (y : Y) → Matched R xs ys → IsIn y ys → (x : X) × IsIn x xs × R x y
-matched_left R [] [] y h i = absurd i
-matched_left R [] (v ∷ ys) y h i = absurd h
-matched_left R (x ∷ xs) [] y h i = absurd h
-matched_left R (x ∷ xs) (v ∷ ys) y h (inl e) = (x, inl refl, subst (R x) (sym e) h.0)
-matched_left R (x ∷ xs) (v ∷ ys) y h (inr i) = let r = matched_left R xs ys y h.1 i in (r.0, inr r.1, r.2)
-
-matched_right : {X Y : Type 0} (R : X → Y → Type 0) (xs : List X) (ys : List Y) (x : X) → Matched R xs ys → IsIn x xs → (y : Y) × IsIn y ys × R x y
-matched_right R [] [] x h i = absurd i
-matched_right R [] (v ∷ ys) x h i = absurd h
-matched_right R (w ∷ xs) [] x h i = absurd h
-matched_right R (w ∷ xs) (v ∷ ys) x h (inl e) = (v, inl refl, subst (λ z. R z v) (sym e) h.0)
-matched_right R (w ∷ xs) (v ∷ ys) x h (inr i) = let r = matched_right R xs ys x h.1 i in (r.0, inr r.1, r.2)
-
-some_one : {X : Type 0} (o : Option X) (x y : X) → o ≡ Some x → o ≡ Some y → x ≡ y
-some_one o x y e f = let z : Some x ≡ Some y = sym e ∙ f in cc
 
 -- what has one slot is one
 slot_one : {X : Type 0} (xs : List X) (m n : ℕ) (a b : Option X) → m ≡ n → IsSlot xs m a → IsSlot xs n b → a ≡ b
@@ -179,7 +160,7 @@ record Picked (t : Numbers) (list : List Listed) (kept : List Step) : Type 0 whe
 picked : (t : Numbers) (list : List Listed) (steps kept : List Step) → AreSteps t list steps → Each (λ s. IsIn s steps) kept → Picked t list kept
 picked t list steps [] are h = record { marks = []; steps = tt; part = tt }
 picked t list steps (s ∷ kept) are h =
-    let x = matched_left (IsStep t) list steps s are h.0 in
+    let x = matched_from_right (IsStep t) list steps s are h.0 in
     let more = picked t list steps kept are h.1 in
     record { marks = x.0 ∷ more.marks; steps = (x.2, more.steps); part = (x.1, more.part) }
 
@@ -188,9 +169,9 @@ shorter_steps t list steps kept are short = record {
   marks = some.marks;
   part = some.part;
   covered = λ x i.
-      let s = matched_right (IsStep t) list steps x are i in
+      let s = matched_from_left (IsStep t) list steps x are i in
       let u = short.covered s.0 s.1 in
-      let y = matched_left (IsStep t) some.marks kept u.0 some.steps u.1 in
+      let y = matched_from_right (IsStep t) some.marks kept u.0 some.steps u.1 in
       let below = u.3 in
       let of_x = s.2.price in
       let of_y = y.2.price in
@@ -206,7 +187,7 @@ pub list_of_steps : (t : Numbers) (Is : Entry → Mark → Type 0) (table : List
 list_of_steps t Is table xs ss has h = record {
   list = has.marks;
   is = record {
-    attained = weaken (λ x. IsIn x xs) Attained (λ x i. in_each Attained x xs h.attained i) has.marks has.part;
+    attained = each_weaker (λ x. IsIn x xs) Attained (λ x i. each_member Attained x xs h.attained i) has.marks has.part;
     covered = λ e i m k.
         let x = h.covered e i m k in
         let y = has.covered x.0 x.1 in

@@ -1,5 +1,5 @@
 -- The outcomes of a table, as the walk has them.
-use Rattle.std.proofs.Common.{◌≡◌, ◌∙◌, ℕ, zero, suc, ◌+◌, ◌<◌, List, [], ◌∷◌, ◌++◌, length, Option, Some, None, refl, sym, ap, subst, inl, inr, arith, slice_get, take, get_or, map}
+use Rattle.std.proofs.Common.{◌≡◌, ◌∙◌, ℕ, suc, ◌+◌, ◌<◌, List, [], ◌∷◌, ◌++◌, length, Option, Some, None, refl, sym, ap, subst, inl, inr, arith, take, get_or, map}
 use Rattle.std.proofs.Math.Seq.{take-suc}
 use Rattle.std.proofs.lemmas.List.{map-append}
 use Rattle.graph_walk.specs.declared.outcome.Outcome.{Outcome}
@@ -48,21 +48,3 @@ tried_more found i d o os os' h is a e =
     let next : suc i ≡ i + 1 = omega arith in
     let front : take (i + 1) found ≡ take i found ++ o ∷ [] = ap (λ (n : ℕ). take n found) (sym next) ∙ (take-suc found i d h ∙ ap (λ z. take i found ++ z ∷ []) (sym is)) in
     e ∙ (ap (λ l. l ++ outcome_tried o ∷ []) a ∙ sym (ap (map outcome_tried) front ∙ map-append outcome_tried (take i found) (o ∷ [])))
-
-pub each_last : {X : Type 0} (P : X → Type 0) (xs : List X) (x : X) → Each P xs → P x → Each P (xs ++ x ∷ [])
-each_last P [] x h k = (k, tt)
-each_last P (y ∷ xs) x h k = (h.0, each_last P xs x h.1 k)
-
-pub last_got : {X : Type 0} (xs : List X) (x : X) → slice_get (xs ++ x ∷ []) (length xs) ≡ Some x
-last_got [] x = refl
-last_got (y ∷ xs) x = last_got xs x
-
-pub got_is : {X : Type 0} (xs : List X) (n : ℕ) (d x : X) → slice_get xs n ≡ Some x → get_or xs n d ≡ x
-got_is [] n d x e = absurd (cc)
-got_is (y ∷ xs) zero d x e = cc
-got_is (y ∷ xs) (suc n) d x e = got_is xs n d x e
-
-pub got_each : {X : Type 0} (P : X → Type 0) (xs : List X) (n : ℕ) (x : X) → Each P xs → slice_get xs n ≡ Some x → P x
-got_each P [] n x h e = absurd (cc)
-got_each P (y ∷ xs) zero x h e = subst P (let z : y ≡ x = cc in z) h.0
-got_each P (y ∷ xs) (suc n) x h e = got_each P xs n x h.1 e

@@ -12,20 +12,15 @@ use Rattle.residual_keys.specs.Gathered.{IsPathOf}
 use Rattle.residual_keys.specs.Residuals.{State}
 use Rattle.residual_keys.specs.Steps.{MarketOver}
 use Rattle.residual_keys.proofs.Offered.{filed_market}
-use Rattle.residual_keys.proofs.OneNext.{numbers_one}
 use Rattle.residual_keys.proofs.Pathed.{path_numbers}
 use Rattle.search_steps.specs.declared.offered.Flown.{Flown}
 use Rattle.search_steps.specs.Settling.{IsFiledKey, IsFlown}
+use Rattle.law_lemmas.proofs.LawFacts.{numbers_one, on_last_to}
 
 last_such : (P : Flight → Type 0) (fs : List Flight) → OnLast P fs → (z : Flight) × P z × OnLast (λ x. z ≡ x) fs
 last_such P [] h = absurd h
 last_such P (f ∷ []) h = (f, h, refl)
 last_such P (f ∷ g ∷ fs) h = last_such P (g ∷ fs) h
-
-last_to : (P Q : Flight → Type 0) (fs : List Flight) → ((f : Flight) → P f → Q f) → OnLast P fs → OnLast Q fs
-last_to P Q [] to h = absurd h
-last_to P Q (f ∷ []) to h = to f h
-last_to P Q (f ∷ g ∷ fs) to h = last_to P Q (g ∷ fs) to h
 
 -- a key of flights is one with the sheet that is filed over them, or in reverse where a unit is open
 pub key_filed : (b : Book) (q : Request) (r : State) (fs : List Flight) (key : OfferKey) → KeyOfFlights b q r fs key → IsFiledKey b q fs false key ⊎ ((r.units ≢ []) × IsFiledKey b q fs true key)
@@ -34,8 +29,8 @@ key_filed b q r (f ∷ fs) key h =
     let x = last_such (λ z. IsKey b q (f ∷ fs) f.from z.to key ⊎ ((r.units ≢ []) × IsKey b q (f ∷ fs) z.to f.from key)) (f ∷ fs) h in
     let z = x.0 in
     elim x.1 [
-      | inl a ↦ inl (f.from, z.to, last_to (λ y. z ≡ y) (λ y. (f.from ≡ f.from) × (z.to ≡ y.to)) (f ∷ fs) (λ y e. (refl, ap (λ (v : Flight). v.to) e)) x.2, a)
-      | inr a ↦ inr (a.0, (z.to, f.from, last_to (λ y. z ≡ y) (λ y. (z.to ≡ y.to) × (f.from ≡ f.from)) (f ∷ fs) (λ y e. (ap (λ (v : Flight). v.to) e, refl)) x.2, a.1))
+      | inl a ↦ inl (f.from, z.to, on_last_to (λ y. z ≡ y) (λ y. (f.from ≡ f.from) × (z.to ≡ y.to)) (f ∷ fs) (λ y e. (refl, ap (λ (v : Flight). v.to) e)) x.2, a)
+      | inr a ↦ inr (a.0, (z.to, f.from, on_last_to (λ y. z ≡ y) (λ y. (z.to ≡ y.to) × (f.from ≡ f.from)) (f ∷ fs) (λ y e. (ap (λ (v : Flight). v.to) e, refl)) x.2, a.1))
     ]
 
 -- the sheet of a key that is filed over flights is the one of their market

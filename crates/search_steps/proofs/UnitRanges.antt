@@ -1,6 +1,5 @@
 -- What opens a unit of a list, or goes on in one, leaves the unit in its ranges.
 use Rattle.std.proofs.Common.{◌≡◌, ℤ, pos, List, IfSome, refl, sym, subst, inl, inr, arith}
-use Rattle.std.proofs.lemmas.Int.{ints}
 use Rattle.std.proofs.lemmas.Nat.{and_le_l}
 use Rattle.fare_law.specs.declared.names.Place.{Place}
 use Rattle.fare_law.specs.declared.tickets.Piece.{Piece}
@@ -15,17 +14,15 @@ use Rattle.outlines.specs.declared.marks.Mark.{Mark}
 use Rattle.outlines.specs.declared.outline.Entry.{Entry}
 use Rattle.outlines.specs.Marks.{IsAlone, IsList, IsOfUnit, IsOpening, written}
 use Rattle.outlines.specs.Outcomes.{EntryWithin}
-use Rattle.residual_keys.proofs.LeastOne.{in_each, weaken}
 use Rattle.rule_unit.specs.Demands.{demand_of, kinds_of}
 use Rattle.rule_unit.specs.Ranges.{DemandInRange, IsDayWithin}
 use Rattle.rule_unit.proofs.RangeLemmas.{fields_within, met_within, rule_stays}
 use Rattle.search_steps.specs.Tables.{UnitsKept}
-
-sale_within : (day : ℤ) → IsCalendarDay day → IsDayWithin (pos 99000) day
-sale_within day h = (omega (arith, ints, h.0), omega (arith, ints, h.1))
+use Rattle.law_lemmas.proofs.EachOne.{each_member, each_weaker}
+use Rattle.residual_keys.proofs.NamesKept.{day_within}
 
 piece_within : (begin : Place) (sale : ℤ) (e : Entry) → IsCalendarDay sale → EntryWithin e → PieceInRanges (written begin sale e)
-piece_within begin sale e s h = record { first_day = h.first; last_day = h.last; sale = sale_within sale s; rule = rule_stays e.rule h.rule }
+piece_within begin sale e s h = record { first_day = h.first; last_day = h.last; sale = day_within sale s; rule = rule_stays e.rule h.rule }
 
 demand_within : (p : Piece) (day : ℤ) → PieceInRanges p → IsDayWithin (pos 99000) day → DemandInRange (demand_of p.rule day)
 demand_within p day h d = fields_within p.rule day _ _ _ _ _ refl refl refl refl refl d h.rule
@@ -51,16 +48,16 @@ gone_on_within u p h k may =
 
 module _ (begin : Place) (sale : ℤ) (s : IsCalendarDay sale) (table : List Entry) (within : Each EntryWithin table) where
   piece_of_in : (e : Entry) → IsIn e table → PieceInRanges (written begin sale e)
-  piece_of_in e i = piece_within begin sale e s (in_each EntryWithin e table within i)
+  piece_of_in e i = piece_within begin sale e s (each_member EntryWithin e table within i)
 
   pub opening_kept : (list : List Listed) → IsList (IsOpening begin sale) table list → UnitsKept list
   opening_kept list h =
-      weaken (λ x. (e : Entry) × IsIn e table × IsOpening begin sale e x.mark × (x.price ≡ e.price)) (λ x. IfSome x.mark.unit UnitInRanges)
+      each_weaker (λ x. (e : Entry) × IsIn e table × IsOpening begin sale e x.mark × (x.price ≡ e.price)) (λ x. IfSome x.mark.unit UnitInRanges)
       (λ x a. subst (λ (m : Mark). IfSome m.unit UnitInRanges) (sym a.2.1) (opened_within (written begin sale a.0) (piece_of_in a.0 a.1))) list h.attained
 
   pub alone_kept : (list : List Listed) → IsList (IsAlone begin sale) table list → UnitsKept list
   alone_kept list h =
-      weaken (λ x. (e : Entry) × IsIn e table × IsAlone begin sale e x.mark × (x.price ≡ e.price)) (λ x. IfSome x.mark.unit UnitInRanges) (λ x a. subst (λ (m : Mark). IfSome m.unit UnitInRanges) (sym a.2.1) tt) list h.attained
+      each_weaker (λ x. (e : Entry) × IsIn e table × IsAlone begin sale e x.mark × (x.price ≡ e.price)) (λ x. IfSome x.mark.unit UnitInRanges) (λ x a. subst (λ (m : Mark). IfSome m.unit UnitInRanges) (sym a.2.1) tt) list h.attained
 
   of_unit : (u : OpenUnit) → UnitInRanges u → (e : Entry) → IsIn e table → (m : Mark) → IsOfUnit begin sale u e m → IfSome m.unit UnitInRanges
   of_unit u h e i m (inl a) = subst (λ (m : Mark). IfSome m.unit UnitInRanges) (sym a.1) (gone_on_within u (written begin sale e) h (piece_of_in e i) a.0)
@@ -68,4 +65,4 @@ module _ (begin : Place) (sale : ℤ) (s : IsCalendarDay sale) (table : List Ent
 
   pub unit_kept : (u : OpenUnit) → UnitInRanges u → (list : List Listed) → IsList (IsOfUnit begin sale u) table list → UnitsKept list
   unit_kept u k list h =
-      weaken (λ x. (e : Entry) × IsIn e table × IsOfUnit begin sale u e x.mark × (x.price ≡ e.price)) (λ x. IfSome x.mark.unit UnitInRanges) (λ x a. of_unit u k a.0 a.1 x.mark a.2) list h.attained
+      each_weaker (λ x. (e : Entry) × IsIn e table × IsOfUnit begin sale u e x.mark × (x.price ≡ e.price)) (λ x. IfSome x.mark.unit UnitInRanges) (λ x a. of_unit u k a.0 a.1 x.mark a.2) list h.attained

@@ -1,25 +1,16 @@
 -- Rows that are given: what they have of a key, and the first that has the key of an earlier one.
-use Rattle.std.proofs.Common.{◌≡◌, ◌≢◌, ◌+◌, ◌<◌, ℕ, suc, Bool, true, false, cond, List, [], ◌∷◌, ◌++◌, length, map, take, drop, get_or, find, Option, Some, None, option_map, is_some, refl, ap, ap₂, sym, subst, ◌∙◌, inl, inr, arith}
-use Rattle.std.proofs.Math.Seq.{drop-cons, take-suc}
+use Rattle.std.proofs.Common.{◌≡◌, ◌+◌, ◌<◌, ℕ, Bool, true, false, cond, List, [], ◌∷◌, ◌++◌, length, map, take, drop, get_or, find, Option, Some, None, option_map, is_some, refl, ap, ap₂, sym, subst, ◌∙◌, inl, inr}
 use Rattle.std.proofs.lemmas.Bool.{both_ways, cases_Bool}
-use Rattle.std.proofs.lemmas.List.{map-append, take-append-drop}
+use Rattle.std.proofs.lemmas.List.{map-append}
 use Rattle.fare_law.specs.declared.filings.SeatKey.{SeatKey}
 use Rattle.fare_law.specs.declared.rows.SeatRow.{SeatRow}
 use Rattle.fare_law.specs.Book.{row_key, same_seat_key}
-use Rattle.fare_law.specs.Lists.{AllDifferent, Each, IsIn}
+use Rattle.fare_law.specs.Lists.{AllDifferent, IsIn}
 use Rattle.seat_classes.specs.Given.{FirstRepeat, rows_have}
 use Rattle.seat_classes.specs.Held.{Changes, seats_at}
-use Rattle.seat_classes.proofs.SeatKeys.{same_keys_tell}
-
--- ---- the rows before one, and those after it
-one_more : (i : ℕ) → suc i ≡ i + 1
-one_more i = omega arith
-
-front_is : {X : Type 0} (xs : List X) (i : ℕ) (d x : X) → i < length xs → x ≡ get_or xs i d → take (i + 1) xs ≡ take i xs ++ x ∷ []
-front_is xs i d x lt e = ap (λ n. take n xs) (sym (one_more i)) ∙ take-suc xs i d lt ∙ ap (λ y. take i xs ++ y ∷ []) (sym e)
-
-split_is : {X : Type 0} (xs : List X) (i : ℕ) (d x : X) → i < length xs → x ≡ get_or xs i d → xs ≡ take i xs ++ x ∷ drop (i + 1) xs
-split_is xs i d x lt e = sym (take-append-drop i xs) ∙ ap (λ ys. take i xs ++ ys) (drop-cons xs i d lt ∙ ap₂ (λ y n. y ∷ drop n xs) (sym e) (one_more i))
+use Rattle.law_lemmas.proofs.Lists.{front_read, split_is}
+use Rattle.law_lemmas.proofs.Names.{same_seats_tell}
+use Rattle.law_lemmas.proofs.Pairs.{differ_more}
 
 -- ---- what rows have of a key
 have_push : (rows : List SeatRow) (row : SeatRow) (q : SeatKey) → rows_have (rows ++ row ∷ []) q ≡ cond (is_some (rows_have rows q)) (rows_have rows q) (cond (same_seat_key q (row_key row)) (Some row.seats) None)
@@ -43,7 +34,7 @@ key_had (r ∷ rows) q i e = by (key_had rows q) (same_seat_key q (row_key r)) r
     by : (IsIn q (map row_key rows) → rows_have rows q ≡ None → ⊥) → (b : Bool) → same_seat_key q (row_key r) ≡ b → option_map (λ (r : SeatRow). r.seats) (cond b (Some r) (find (λ s. same_seat_key q (row_key s)) rows)) ≡ None → ⊥
     by rec true t h = cc
     by rec false f h = elim i [
-      | inl s ↦ both_ways _ f ((same_keys_tell q (row_key r)).1 s)
+      | inl s ↦ both_ways _ f ((same_seats_tell q (row_key r)).1 s)
       | inr o ↦ rec o h
     ]
 
@@ -52,17 +43,8 @@ had_key [] q seats e = absurd (cc)
 had_key (r ∷ rows) q seats e = by (had_key rows q seats) (same_seat_key q (row_key r)) refl e
   where
     by : (rows_have rows q ≡ Some seats → IsIn q (map row_key rows)) → (b : Bool) → same_seat_key q (row_key r) ≡ b → option_map (λ (r : SeatRow). r.seats) (cond b (Some r) (find (λ s. same_seat_key q (row_key s)) rows)) ≡ Some seats → IsIn q (row_key r ∷ map row_key rows)
-    by rec true t h = inl ((same_keys_tell q (row_key r)).0 t)
+    by rec true t h = inl ((same_seats_tell q (row_key r)).0 t)
     by rec false f h = inr (rec h)
-
--- ---- keys that are all different
-each_push : {X : Type 0} (P : X → Type 0) (xs : List X) (x : X) → Each P xs → P x → Each P (xs ++ x ∷ [])
-each_push P [] x e p = (p, tt)
-each_push P (y ∷ ys) x e p = (e.0, each_push P ys x e.1 p)
-
-differ_push : {X : Type 0} (xs : List X) (x : X) → AllDifferent xs → (IsIn x xs → ⊥) → AllDifferent (xs ++ x ∷ [])
-differ_push [] x d n = (tt, tt)
-differ_push (y ∷ ys) x d n = (each_push (λ z. y ≢ z) ys x d.0 (λ e. n (inl (sym e))), differ_push ys x d.1 (λ i. n (inr i)))
 
 -- ---- rows that a map holds, one after another
 -- the map holds these rows, whose keys are all different
@@ -81,19 +63,19 @@ holds_push : (rows : List SeatRow) (row : SeatRow) (old new : List (SeatKey × L
 holds_push rows row old new h u none = record {
   have = λ q. u q ∙ elim (cases_Bool (same_seat_key q (row_key row))) [
     | inl t ↦
-        let e : rows_have rows q ≡ None = ap (rows_have rows) ((same_keys_tell q (row_key row)).0 t) ∙ sym (h.have (row_key row)) ∙ none in
+        let e : rows_have rows q ≡ None = ap (rows_have rows) ((same_seats_tell q (row_key row)).0 t) ∙ sym (h.have (row_key row)) ∙ none in
         ap (λ b. cond b (Some row.seats) (seats_at old q)) t ∙ sym (have_push rows row q ∙ ap₂ (λ o b. cond (is_some o) o (cond b (Some row.seats) None)) e t)
     | inr f ↦
         ap (λ b. cond b (Some row.seats) (seats_at old q)) f ∙ h.have q
         ∙ sym (have_push rows row q ∙ ap (λ b. cond (is_some (rows_have rows q)) (rows_have rows q) (cond b (Some row.seats) None)) f ∙ stays (rows_have rows q))
   ];
-  differ = subst AllDifferent (sym (map-append row_key rows (row ∷ []))) (differ_push (map row_key rows) (row_key row) h.differ (λ i. key_had rows (row_key row) i (sym (h.have (row_key row)) ∙ none)));
+  differ = subst AllDifferent (sym (map-append row_key rows (row ∷ []))) (differ_more (map row_key rows) (row_key row) h.differ (λ i. key_had rows (row_key row) i (sym (h.have (row_key row)) ∙ none)));
 }
 
 -- at a row that follows others
 module _ (rows : List SeatRow) (i : ℕ) (d row : SeatRow) (lt : i < length rows) (is : row ≡ get_or rows i d) (held : List (SeatKey × List ℕ)) (h : Holds (take i rows) held) where
   pub holds_more : (new : List (SeatKey × List ℕ)) → Changes held new (row_key row) (Some row.seats) → seats_at held (row_key row) ≡ None → Holds (take (i + 1) rows) new
-  holds_more new u none = subst (λ rs. Holds rs new) (sym (front_is rows i d row lt is)) (holds_push (take i rows) row held new h u none)
+  holds_more new u none = subst (λ rs. Holds rs new) (sym (front_read rows i d row lt is)) (holds_push (take i rows) row held new h u none)
 
   pub first_repeat : (old : Option (List ℕ)) → old ≡ seats_at held (row_key row) → is_some old ≡ true → FirstRepeat rows row.line
   first_repeat None e s = absurd (cc)

@@ -11,7 +11,10 @@ use Rattle.fare_law.specs.declared.filings.SeatKey.{SeatKey}
 use Rattle.fare_law.specs.Book.{same_seat_key}
 use Rattle.fare_law.specs.Lists.{HasMany, AllDifferent, Each, IsIn}
 use Rattle.seat_classes.specs.Held.{Changes, Counts, HasNoRoom, HasRow, seats_at}
-use Rattle.seat_classes.proofs.SeatKeys.{same_equivalence, same_flips, same_keys_tell, tests_agree}
+use Rattle.seat_classes.proofs.SeatKeys.{same_equivalence, same_flips, tests_agree}
+use Rattle.law_lemmas.proofs.EachOne.{each_from, member_holds}
+use Rattle.law_lemmas.proofs.Names.{same_seats_tell}
+use Rattle.law_lemmas.proofs.Options.{none_told}
 
 -- what a map finds is what its entries have
 pub found_is : (held : List (SeatKey × List ℕ)) (key : SeatKey) → lookup (seat.ghosts.eq key) held ≡ seats_at held key
@@ -23,10 +26,6 @@ changes_from old new key seats u other =
     subst (λ (e : SeatKey → SeatKey → Bool). (q : SeatKey) → lookup (e q) new ≡ cond (e key q) seats (lookup (e q) old)) tests_agree u other
     ∙ ap (λ b. cond b seats (seats_at old other)) (same_flips key other)
 
-pub none_told : {X : Type 0} (o : Option X) → is_some o ≡ false → o ≡ None
-none_told None e = refl
-none_told (Some x) e = absurd (cc)
-
 pub no_row_told : (held : List (SeatKey × List ℕ)) (key : SeatKey) → is_some (lookup (seat.ghosts.eq key) held) ≡ false → seats_at held key ≡ None
 no_row_told held key e = sym (found_is held key) ∙ none_told _ e
 
@@ -36,23 +35,14 @@ row_told held key e n = clash (sym (ap is_some (found_is held key ∙ n)) ∙ e)
     clash : false ≡ true → ⊥
     clash h = cc
 
-each_from : {X : Type 0} (P : X → Type 0) (xs : List X) → ((x : X) → IsIn x xs → P x) → Each P xs
-each_from P [] h = tt
-each_from P (x ∷ xs) h = (h x (inl refl), each_from P xs (λ y i. h y (inr i)))
-
-in_each : {X : Type 0} (P : X → Type 0) (x : X) (xs : List X) → IsIn x xs → Each P xs → P x
-in_each P x [] i e = absurd i
-in_each P x (y ∷ ys) (inl s) e = subst P (sym s) e.0
-in_each P x (y ∷ ys) (inr i) e = in_each P x ys i e.1
-
 -- ---- keys that are all different, by the law's test and by equality
 apart_each : (x : SeatKey) (xs : List SeatKey) → AllByRecursion (λ y. same_seat_key x y ≡ false) xs → Each (λ y. x ≢ y) xs
 apart_each x [] a = tt
-apart_each x (y ∷ ys) a = (λ e. both_ways _ a.0 ((same_keys_tell x y).1 e), apart_each x ys a.1)
+apart_each x (y ∷ ys) a = (λ e. both_ways _ a.0 ((same_seats_tell x y).1 e), apart_each x ys a.1)
 
 each_apart : (x : SeatKey) (xs : List SeatKey) → Each (λ y. x ≢ y) xs → AllByRecursion (λ y. same_seat_key x y ≡ false) xs
 each_apart x [] a = tt
-each_apart x (y ∷ ys) a = (false_from_ne_true _ (λ t. a.0 ((same_keys_tell x y).0 t)), each_apart x ys a.1)
+each_apart x (y ∷ ys) a = (false_from_ne_true _ (λ t. a.0 ((same_seats_tell x y).0 t)), each_apart x ys a.1)
 
 different_from : (keys : List SeatKey) → IsDistinct same_seat_key keys → AllDifferent keys
 different_from [] d = tt
@@ -74,21 +64,21 @@ key_has_row (e ∷ es) key i = by (λ r. key_has_row es key r) (same_seat_key ke
     by : (IsIn key (keys_of es) → HasRow es key) → (b : Bool) → same_seat_key key e.0 ≡ b → IsSome (cond b (Some e.1) (seats_at es key))
     by rec true t = refl
     by rec false f = elim i [
-      | inl s ↦ absurd (both_ways _ f ((same_keys_tell key e.0).1 s))
+      | inl s ↦ absurd (both_ways _ f ((same_seats_tell key e.0).1 s))
       | inr r ↦ rec r
     ]
 
 any_in : (key : SeatKey) (keys : List SeatKey) → list_any (same_seat_key key) keys ≡ true → IsIn key keys
 any_in key [] h = absurd (cc)
 any_in key (x ∷ xs) h = elim (or_cases _ _ h) [
-  | inl t ↦ inl ((same_keys_tell key x).0 t)
+  | inl t ↦ inl ((same_seats_tell key x).0 t)
   | inr r ↦ inr (any_in key xs r)
 ]
 
 most_rows : (held : List (SeatKey × List ℕ)) (m : ℕ) → HasMany m (HasRow held) → m ≤ length held
 most_rows held m (keys, l, d, e) =
     subst (λ n. n ≤ length held) l
-    (length-le_from_keys same_equivalence keys held (distinct_from keys d) (λ q a. in_each (HasRow held) q keys (any_in q keys a) e))
+    (length-le_from_keys same_equivalence keys held (distinct_from keys d) (λ q a. member_holds (HasRow held) q keys (any_in q keys a) e))
 
 module _ (held : List (SeatKey × List ℕ)) (unique : IsDistinct seat.ghosts.eq (keys_of held)) where
   pub all_rows : HasMany (length held) (HasRow held)

@@ -5,21 +5,10 @@ use Rattle.std.specs.Cmp.Lexicographic.{bytes_decides}
 use Rattle.std.specs.Option.{option_eq}
 use Rattle.std.specs.Ordering.{int_eq}
 use Rattle.std.proofs.lemmas.Bool.Decides.{Decides-like, Decides-and, Decides-eqb, Decides-int_eq, same_from_decides}
-use Rattle.std.proofs.lemmas.Slice.Eq.{bytes_eq-Decides}
 use Rattle.fare_law.specs.contracts.filings.SeatKeyPartialEq.TheImpl as seat
 use Rattle.fare_law.specs.declared.filings.SeatKey.{SeatKey}
-use Rattle.fare_law.specs.declared.names.Carrier.{Carrier}
-use Rattle.fare_law.specs.declared.names.Place.{Place}
-use Rattle.fare_law.specs.Book.{same_day, same_seat_key}
-
-carrier_whole : (a b : Carrier) → a.0 ≡ b.0 → a ≡ b
-carrier_whole a b e = λ i. record { 0 = e i }
-
-place_whole : (a b : Place) → a.0 ≡ b.0 → a ≡ b
-place_whole a b e = λ i. record { 0 = e i }
-
-key_whole : (a b : SeatKey) → a.carrier ≡ b.carrier → a.number ≡ b.number → a.from ≡ b.from → a.day ≡ b.day → a ≡ b
-key_whole a b c n f d = λ i. record { carrier = c i; number = n i; from = f i; day = d i }
+use Rattle.fare_law.specs.Book.{same_seat_key}
+use Rattle.law_lemmas.proofs.Names.{carrier_whole, place_whole, same_seats_tell, seat_key_whole}
 
 -- the derived test of days
 days_tell : (a b : Option ℤ) → Decides (option_eq int_eq a b) (a ≡ b)
@@ -31,38 +20,22 @@ days_tell (Some x) (Some y) = Decides-like _ (λ e. ap Some e) one (Decides-int_
     one : Some x ≡ Some y → x ≡ y
     one e = cc
 
--- the law's test of days
-same_days_tell : (a b : Option ℤ) → Decides (same_day a b) (a ≡ b)
-same_days_tell None None = (λ _. refl, λ _. refl)
-same_days_tell None (Some y) = (λ h. absurd (cc), λ h. absurd (cc))
-same_days_tell (Some x) None = (λ h. absurd (cc), λ h. absurd (cc))
-same_days_tell (Some x) (Some y) = Decides-like _ (λ e. ap Some e) one (Decides-int_eq x y)
-  where
-    one : Some x ≡ Some y → x ≡ y
-    one e = cc
-
 keys_tell : (a b : SeatKey) → Decides (seat.ghosts.eq a b) (a ≡ b)
 keys_tell a b =
-    Decides-like _ (λ e. key_whole a b (carrier_whole _ _ e.0) e.1.0 (place_whole _ _ e.1.1.0) e.1.1.1)
+    Decides-like _ (λ e. seat_key_whole a b (carrier_whole _ _ e.0) e.1.0 (place_whole _ _ e.1.1.0) e.1.1.1)
     (λ e. (ap (λ x. x.carrier.0) e, (ap (λ x. x.number) e, (ap (λ x. x.from.0) e, ap (λ x. x.day) e))))
     (Decides-and _ _ (bytes_decides a.carrier.0 b.carrier.0) (Decides-and _ _ (Decides-eqb a.number b.number) (Decides-and _ _ (bytes_decides a.from.0 b.from.0) (days_tell a.day b.day))))
 
-pub same_keys_tell : (a b : SeatKey) → Decides (same_seat_key a b) (a ≡ b)
-same_keys_tell a b =
-    Decides-like _ (λ e. key_whole a b (carrier_whole _ _ e.0.0.0) e.0.0.1 (place_whole _ _ e.0.1) e.1)
-    (λ e. (((ap (λ x. x.carrier.0) e, ap (λ x. x.number) e), ap (λ x. x.from.0) e), ap (λ x. x.day) e))
-    (Decides-and _ _ (Decides-and _ _ (Decides-and _ _ (bytes_eq-Decides a.carrier.0 b.carrier.0) (Decides-eqb a.number b.number)) (bytes_eq-Decides a.from.0 b.from.0)) (same_days_tell a.day b.day))
-
 -- the derived test is the law's
 pub tests_agree : seat.ghosts.eq ≡ same_seat_key
-tests_agree = λ i a b. same_from_decides (seat.ghosts.eq a b) (same_seat_key a b) (keys_tell a b) (same_keys_tell a b) i
+tests_agree = λ i a b. same_from_decides (seat.ghosts.eq a b) (same_seat_key a b) (keys_tell a b) (same_seats_tell a b) i
 
 pub same_flips : (a b : SeatKey) → same_seat_key a b ≡ same_seat_key b a
-same_flips a b = same_from_decides (same_seat_key a b) (same_seat_key b a) (same_keys_tell a b) (Decides-like _ (λ e. sym e) (λ e. sym e) (same_keys_tell b a))
+same_flips a b = same_from_decides (same_seat_key a b) (same_seat_key b a) (same_seats_tell a b) (Decides-like _ (λ e. sym e) (λ e. sym e) (same_seats_tell b a))
 
 pub same_equivalence : IsEquivalence same_seat_key
 same_equivalence = record {
-  refl = λ x. (same_keys_tell x x).1 refl;
+  refl = λ x. (same_seats_tell x x).1 refl;
   symm = same_flips;
-  congr = λ x y z e. ap (λ w. same_seat_key w z) ((same_keys_tell x y).0 e);
+  congr = λ x y z e. ap (λ w. same_seat_key w z) ((same_seats_tell x y).0 e);
 }

@@ -1,4 +1,4 @@
--- One filing more was judged, and how many were.
+-- One filing more was judged, and how many were. Given on to the crates above.
 use Rattle.std.proofs.Common.{◌≡◌, ◌∙◌, ◌<◌, ℕ, suc, ◌+◌, List, [], ◌∷◌, ◌++◌, map, take, get_or, length, refl, subst, sym, ap, arith}
 use Rattle.std.proofs.lemmas.List.{length-append, map-append, take_more}
 use Rattle.fare_law.specs.Book.{Timetable}

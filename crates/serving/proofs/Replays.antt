@@ -1,5 +1,5 @@
 -- The history once more: where it ends, and which texts are made on the way.
-use Rattle.std.proofs.Common.{◌≡◌, ◌<◌, ◌≤◌, ◌+◌, ◌⊎◌, inl, inr, ◌∙◌, ℕ, zero, suc, List, [], ◌∷◌, ◌++◌, length, drop, take, get_or, map, slice_index_or, slice_set, refl, ap, sym, subst, append_assoc, append-nil, arith}
+use Rattle.std.proofs.Common.{◌≡◌, ◌<◌, ◌≤◌, ◌+◌, inl, inr, ◌∙◌, ℕ, List, [], ◌∷◌, ◌++◌, length, drop, take, get_or, map, slice_index_or, slice_set, refl, ap, sym, subst, append_assoc, append-nil, arith}
 use Rattle.std.proofs.lemmas.List.{drop_more, get_or-set_other, get_or-set_same, get_or_default, length-append, take_at}
 use Rattle.desk_teller.specs.Outcomes.{version_of}
 use Rattle.fare_law.specs.Book.{Book, Timetable}
@@ -10,6 +10,7 @@ use Rattle.serve_desks.specs.declared.log.Filed.{Filed}
 use Rattle.serve_desks.specs.declared.log.Filed.TheVariants.{Accepted, Refused}
 use Rattle.serve_desks.specs.declared.log.Reply.{Reply}
 use Rattle.serving.specs.Replaying.{HasText, HasTexts, HasTextsBetween, IsJudged, IsNext, KeepsOthers, history_after}
+use Rattle.law_lemmas.proofs.Numbers.{here_or_before}
 
 -- what came of the filing is these entries and the later filings that were accepted
 pub judged_is : (t : Timetable) (start later : List Filing) (filed : List Filed) (end : List Filing) → Judged t start later filed end → end ≡ history_after start later filed
@@ -30,14 +31,6 @@ judged_begins t start later filed end h = let (more, e) = begins t start later f
     begins t start (f ∷ fs) (Accepted n ∷ js) end h = let (more, e) = begins t (start ++ f ∷ []) fs js end h.2 in (f ∷ more, e ∙ append_assoc start (f ∷ []) more)
     begins t start (f ∷ fs) (Refused w ∷ js) end h = begins t start fs js end h.1
 
--- each later filing was judged
-pub as_many : (t : Timetable) (start later : List Filing) (filed : List Filed) (end : List Filing) → Judged t start later filed end → length filed ≡ length later
-as_many t start [] [] end h = refl
-as_many t start [] (j ∷ js) end h = absurd h
-as_many t start (f ∷ fs) [] end h = absurd h
-as_many t start (f ∷ fs) (Accepted n ∷ js) end h = ap suc (as_many t (start ++ f ∷ []) fs js end h.2)
-as_many t start (f ∷ fs) (Refused w ∷ js) end h = ap suc (as_many t start fs js end h.1)
-
 -- the first of those that are left was judged
 pub judged_here : {X : Type 0} (value : X → Filing) (t : Timetable) (start : List Filing) (later : List X) (filed : List Filed) (at : ℕ) (x dx : X) (how dh : Filed) (end : List Filing)
     → at < length later → at < length filed → x ≡ get_or later at dx → how ≡ get_or filed at dh → Judged t start (map value (drop at later)) (drop at filed) end
@@ -50,12 +43,6 @@ judged_here {X} value t start later filed at x dx how dh end ll lf ix ih h =
 pub is_judged : (b : Book) (t : Timetable) (f : Filing) (fs : List Filing) (how : Filed) (js : List Filed) (end : List Filing) → b.timetable ≡ t → Judged t b.entries (f ∷ fs) (how ∷ js) end → IsJudged b f how
 is_judged b t f fs (Accepted n) js end same h = subst (λ (u : Timetable). IsFaultless (version_of u b.entries) f) (sym same) h.0
 is_judged b t f fs (Refused why) js end same h = tt
-
-below_or_same : (m n : ℕ) → m < n + 1 → (m < n) ⊎ (m ≡ n)
-below_or_same zero zero h = inr refl
-below_or_same zero (suc n) h = inl (omega arith)
-below_or_same (suc m) zero h = absurd (omega (arith, h))
-below_or_same (suc m) (suc n) h = elim (below_or_same m n (omega (arith, h))) [ inl less ↦ inl (omega (arith, less)) | inr same ↦ inr (ap suc same) ]
 
 -- the version of a beginning of the history
 version_is : (b : Book) (t : Timetable) (filings : List Filing) (n : ℕ) → b.timetable ≡ t → take (length b.entries) filings ≡ b.entries → n ≡ length b.entries → b ≡ version_of t (take n filings)
@@ -75,7 +62,7 @@ texts_first b filings replies texts begins made = record {
 texts_more : (b : Book) (t : Timetable) (filings : List Filing) (from : ℕ) (replies : List Reply) (old new : List (List ℕ)) → b.timetable ≡ t → take (length b.entries) filings ≡ b.entries
     → HasTexts b replies new → KeepsOthers (length b.entries) replies old new → HasTextsBetween t filings from (length b.entries) replies old → HasTextsBetween t filings from (length b.entries + 1) replies new
 texts_more b t filings from replies old new same begins made kept so_far = record {
-  each = λ i d less late below. elim (below_or_same (slice_index_or replies i d).number (length b.entries) below) [
+  each = λ i d less late below. elim (here_or_before (slice_index_or replies i d).number (length b.entries) below) [
     | inl before ↦
         subst (HasText (version_of t (take (slice_index_or replies i d).number filings)) (slice_index_or replies i d).body) (sym (kept.each i d less (λ e. absurd (omega (arith, e, before))))) (so_far.each i d less late before)
     | inr is ↦
@@ -134,7 +121,7 @@ none_told b replies old = record { made = λ i d less. absurd (omega (arith, les
 pub one_told : (b : Book) (replies : List Reply) (old mid new : List (List ℕ)) (at : ℕ) (r : Reply) (text : List ℕ) → at < length replies → at < length mid → r ≡ get_or replies at r
     → HasText b r.body text → r.number ≡ length b.entries → new ≡ slice_set mid at text → ToldSome b replies old mid at → ToldSome b replies old new (at + 1)
 one_told b replies old mid new at r text lr lm is has names e so_far = record {
-  made = λ i d less number. elim (below_or_same i at less) [
+  made = λ i d less number. elim (here_or_before i at less) [
     | inl before ↦ subst (HasText b (slice_index_or replies i d).body) (sym (other i (λ same. absurd (omega (arith, same, before))))) (so_far.made i d before number)
     | inr same ↦
         subst (λ k. HasText b (slice_index_or replies k d).body (slice_index_or new k [])) (sym same)
@@ -151,7 +138,7 @@ one_told b replies old mid new at r text lr lm is has names e so_far = record {
 pub none_more : (b : Book) (replies : List Reply) (old mid : List (List ℕ)) (at : ℕ) (r : Reply) → at < length replies → r ≡ get_or replies at r → (r.number ≡ length b.entries → ⊥)
     → ToldSome b replies old mid at → ToldSome b replies old mid (at + 1)
 none_more b replies old mid at r lr is apart so_far = record {
-  made = λ i d less number. elim (below_or_same i at less) [
+  made = λ i d less number. elim (here_or_before i at less) [
     | inl before ↦ so_far.made i d before number
     | inr same ↦ absurd (apart (ap (λ (x : Reply). x.number) (is ∙ get_or_default replies at r d lr) ∙ subst (λ k. (slice_index_or replies k d).number ≡ length b.entries) same number))
   ];

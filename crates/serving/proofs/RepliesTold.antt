@@ -1,5 +1,5 @@
 -- The replies of a log, one for each search, and their text: for `serve_text`.
-use Rattle.std.proofs.Common.{◌≡◌, ◌<◌, ◌≤◌, ◌+◌, ◌-◌, ◌∙◌, ℕ, zero, suc, max, List, [], ◌∷◌, ◌++◌, length, map, replicate, take, slice_index, slice_set, codes, refl, ap, sym, subst, append_assoc, arith}
+use Rattle.std.proofs.Common.{◌≡◌, ◌<◌, ◌≤◌, ◌+◌, ◌-◌, ◌∙◌, ℕ, zero, suc, max, List, [], ◌∷◌, ◌++◌, length, map, replicate, take, slice_index, slice_set, codes, refl, sym, subst, append_assoc, arith}
 use Rattle.std.proofs.lemmas.List.{length-replicate, length-set}
 use Rattle.answer_text.specs.Answer.{AnswerText, IsRight as IsRightTicket}
 use Rattle.desk_teller.specs.Outcomes.{IsOutcome, version_of}
@@ -72,12 +72,6 @@ module _ (terms : Terms) (opening : ℕ) (filed : List Filed) (filings : List Fi
   pub all_answered : (lines : List ScriptLine) (rs : List Reply) → Each (IsWithin (counts desks later asks)) lines
       → Replies IsOutcome terms opening filed filings (replicate desks opening) lines rs → Matched (Answered terms opening filings) (searches_from 1 lines) rs
   all_answered lines rs within h = replies_answer 1 (replicate desks opening) lines rs (length-replicate desks opening) (all_from opening desks) within h
-
-pub matched_length : {X Y : Type 0} (R : X → Y → Type 0) (xs : List X) (ys : List Y) → Matched R xs ys → length ys ≡ length xs
-matched_length R [] [] h = refl
-matched_length R [] (y ∷ ys) h = absurd h
-matched_length R (x ∷ xs) [] h = absurd h
-matched_length R (x ∷ xs) (y ∷ ys) h = ap suc (matched_length R xs ys h.1)
 
 -- lawful tickets at their prices are right
 are_right : (b : Book) (q : Request) (tickets : List Priced) → Each (λ t. Lawful t b q) (map (λ p. p.ticket) tickets) → Each (λ t. Costs t.ticket b q t.price) tickets → Each (IsRightTicket b q) tickets

@@ -1,7 +1,6 @@
 -- The tellers of watches, one after another: for `tellers_of`.
-use Rattle.std.proofs.Common.{◌≡◌, ◌∙◌, List, [], ◌∷◌, ◌++◌, ap, sym, subst}
+use Rattle.std.proofs.Common.{◌≡◌, ◌∙◌, List, ap, sym, subst}
 use Rattle.fare_law.specs.Book.{Book}
-use Rattle.fare_law.specs.Lists.{Each}
 use Rattle.fare_versions.specs.Published.{Published}
 use Rattle.fare_versions.specs.Seen.{HasSeen, Sight}
 use Rattle.desk_teller.specs.Tellers.{AreAllowed, TellerView}
@@ -19,8 +18,3 @@ allowed_of p w asks seen allowed = subst (λ (b : Book). AreAllowed b asks) (sym
 pub of_watch : (p : Published) (w : Sight) (asks : List Ask) (t : TellerView) → HasSeen p w → t ≡ record { sight = w; asks = asks }
     → IsOf (λ (v : TellerView). v.sight.house) (λ (v : TellerView). record { asks = v.asks; timetable = v.sight.book.timetable }) p.house (terms_of asks p.book) t
 of_watch p w asks t seen is = (ap (λ (v : TellerView). v.sight.house) is ∙ seen.house, ap asked_of is ∙ ap (terms_of asks) seen.book)
-
--- one more
-pub each_and : {X : Type 0} (P : X → Type 0) (xs : List X) (y : X) → Each P xs → P y → Each P (xs ++ y ∷ [])
-each_and P [] y all h = (h, tt)
-each_and P (x ∷ xs) y all h = (all.0, each_and P xs y all.1 h)

@@ -17,7 +17,8 @@ use Rattle.serving.specs.Replies.{searches_from}
 use Rattle.serving.specs.Serves.{Serves}
 use Rattle.serving.specs.declared.searches.SearchLine.{SearchLine}
 use Rattle.serving.proofs.Replays.{judged_is}
-use Rattle.serving.proofs.RepliesTold.{all_answered, matched_length, replies_told}
+use Rattle.serving.proofs.RepliesTold.{all_answered, replies_told}
+use Rattle.law_lemmas.proofs.Pairs.{matched_long}
 
 module _ {X : Type 0} (value : X → Filing) (t : Timetable) (start : List Filing) (later slice : List X) (filed told : List Filed) (end : List Filing) (same : slice ≡ later) (as_told : told ≡ filed) where
   judged_of_slices : Judged t start (map value later) filed end → Judged t start (map value slice) told end
@@ -36,7 +37,7 @@ pub as_many_replies : (start : Book) (work : Workload) (log : Log) (searches : L
 as_many_replies start work log searches replies script logged ss rs =
     let opening = length start.entries in
     let answered = all_answered (terms_of work.asks start) opening log.filed logged.filings work.script.desks (length work.later) (length work.asks) work.script.lines log.replies script.lines logged.replied in
-    ap length rs ∙ matched_length _ (searches_from 1 work.script.lines) log.replies answered ∙ sym (ap length ss)
+    ap length rs ∙ matched_long _ (searches_from 1 work.script.lines) log.replies answered ∙ sym (ap length ss)
 
 -- the history and then the replies are the text of the run
 pub serves : (start : Book) (work : Workload) (log : Log) (logged : Logged IsOutcome start work log) (history : List Filing) (searches : List SearchLine) (filed : List Filed) (replies : List Reply) (texts items : List (List ℕ)) (opening count : ℕ)

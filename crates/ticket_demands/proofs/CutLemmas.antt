@@ -1,4 +1,4 @@
--- Flights are cut at the first arrival at a slice's destination, and at no other place.
+-- Flights are cut at the first arrival at a slice's destination, and at no other place. Given on to the crates above.
 use Rattle.std.proofs.Common.{◌≡◌, ◌≢◌, ◌↔◌, ◌<◌, ◌+◌, ◌∙◌, ℕ, ℤ, List, [], ◌∷◌, ◌++◌, Option, Some, option_map, IfSome, length, take, drop, get_or, ap, ap₂, sym, subst}
 use Rattle.fare_law.specs.declared.flights.Flight.{Flight}
 use Rattle.fare_law.specs.declared.names.Place.{Place}
@@ -12,7 +12,7 @@ use Rattle.ticket_demands.specs.declared.demand.JourneyDemand.{JourneyDemand}
 use Rattle.ticket_demands.specs.Cuts.{IsCut, SliceMeets, CutsMeet}
 use Rattle.ticket_demands.specs.Known.{ends_of}
 use Rattle.ticket_demands.proofs.FlightEnds.{on_last, last_on}
-use Rattle.ticket_demands.proofs.Gathering.{here, front_at}
+use Rattle.law_lemmas.proofs.Lists.{front_at, head_same, rest_at, tail_same}
 
 abbrev pub EndsAt : Place → List Flight → Type 0
 EndsAt p fs = LastDiffers (λ f. f.to ≢ p) (λ f. f.to ≡ p) fs
@@ -25,21 +25,15 @@ last_more p (g ∷ k ∷ fs) f h e = (h.0, last_more p (k ∷ fs) f h.1 e)
 pub ends_here : (p : Place) (fs : List Flight) (at : ℕ) (d : Flight) → at < length fs → Each (λ g. g.to ≢ p) (take at fs) → (get_or fs at d).to ≡ p → EndsAt p (take (at + 1) fs)
 ends_here p fs at d lt h e = subst (EndsAt p) (sym (front_at fs at d lt)) (last_more p (take at fs) (get_or fs at d) h e)
 
-heads : {X : Type 0} (x y : X) (xs ys : List X) → x ∷ xs ≡ y ∷ ys → x ≡ y
-heads x y xs ys e = cc
-
-tails : {X : Type 0} (x y : X) (xs ys : List X) → x ∷ xs ≡ y ∷ ys → xs ≡ ys
-tails x y xs ys e = cc
-
 one_cut : (p : Place) (fs gs more rest : List Flight) → EndsAt p fs → EndsAt p gs → fs ++ more ≡ gs ++ rest → (fs ≡ gs) × (more ≡ rest)
 one_cut p [] gs more rest h k e = absurd h
 one_cut p (f ∷ fs) [] more rest h k e = absurd k
-one_cut p (f ∷ []) (g ∷ []) more rest h k e = (ap (λ x. x ∷ []) (heads f g more rest e), tails f g more rest e)
-one_cut p (f ∷ []) (g ∷ x ∷ gs) more rest h k e = absurd (k.0 (ap (λ (y : Flight). y.to) (sym (heads f g more (x ∷ gs ++ rest) e)) ∙ h))
-one_cut p (f ∷ x ∷ fs) (g ∷ []) more rest h k e = absurd (h.0 (ap (λ (y : Flight). y.to) (heads f g (x ∷ fs ++ more) rest e) ∙ k))
+one_cut p (f ∷ []) (g ∷ []) more rest h k e = (ap (λ x. x ∷ []) (head_same f g more rest e), tail_same f g more rest e)
+one_cut p (f ∷ []) (g ∷ x ∷ gs) more rest h k e = absurd (k.0 (ap (λ (y : Flight). y.to) (sym (head_same f g more (x ∷ gs ++ rest) e)) ∙ h))
+one_cut p (f ∷ x ∷ fs) (g ∷ []) more rest h k e = absurd (h.0 (ap (λ (y : Flight). y.to) (head_same f g (x ∷ fs ++ more) rest e) ∙ k))
 one_cut p (f ∷ x ∷ fs) (g ∷ y ∷ gs) more rest h k e =
-    let r = one_cut p (x ∷ fs) (y ∷ gs) more rest h.1 k.1 (tails f g (x ∷ fs ++ more) (y ∷ gs ++ rest) e) in
-    (ap₂ (λ z zs. z ∷ zs) (heads f g (x ∷ fs ++ more) (y ∷ gs ++ rest) e) r.0, r.1)
+    let r = one_cut p (x ∷ fs) (y ∷ gs) more rest h.1 k.1 (tail_same f g (x ∷ fs ++ more) (y ∷ gs ++ rest) e) in
+    (ap₂ (λ z zs. z ∷ zs) (head_same f g (x ∷ fs ++ more) (y ∷ gs ++ rest) e) r.0, r.1)
 
 never_ends : (p : Place) (fs more : List Flight) → EndsAt p fs → Each (λ g. g.to ≢ p) (fs ++ more) → ⊥
 never_ends p [] more h n = h
@@ -59,7 +53,7 @@ module _ (b : Book) (d : JourneyDemand) (arrival : Option ℤ) (slices : List Sl
   slice = get_or slices i dflt
 
   first_slice : (fs : List Flight) → CutsMeet b d arrival (drop i slices) fs → CutsMeet b d arrival (slice ∷ drop (i + 1) slices) fs
-  first_slice fs h = subst (λ ss. CutsMeet b d arrival ss fs) (here slices i dflt lt) h
+  first_slice fs h = subst (λ ss. CutsMeet b d arrival ss fs) (rest_at slices i dflt lt) h
 
   pub cut_none : (fs : List Flight) → Each (λ f. f.to ≢ slice.to) fs → CutsMeet b d arrival (drop i slices) fs → ⊥
   cut_none fs n h = let k = first_slice fs h in never_ends slice.to k.0 k.1 k.3.ends (subst (Each (λ f. f.to ≢ slice.to)) k.2 n)
@@ -82,7 +76,7 @@ module _ (b : Book) (d : JourneyDemand) (arrival : Option ℤ) (slices : List Sl
       → CutsMeet b d arrival (drop i slices) fs ↔ CutsMeet b d (option_map (λ (e : Flight × Flight). e.1.arr) (ends_of now)) (drop (i + 1) slices) later
   cut_on fs now later e ends start meets = (
     λ h. next_from now later (cut_first b d arrival slice (drop (i + 1) slices) fs now later e ends (first_slice fs h)).2,
-    λ k. subst (λ ss. CutsMeet b d arrival ss fs) (sym (here slices i dflt lt)) (now, later, e, record { begins = start.0; ends = ends; joined = start.1 }, meets, from_next slice.to now later ends k),
+    λ k. subst (λ ss. CutsMeet b d arrival ss fs) (sym (rest_at slices i dflt lt)) (now, later, e, record { begins = start.0; ends = ends; joined = start.1 }, meets, from_next slice.to now later ends k),
   )
 
 pub arrives_in_time : (fs : List Flight) → Each IsFlight fs → IfSome (option_map (λ (e : Flight × Flight). e.1.arr) (ends_of fs)) IsInstant

@@ -1,4 +1,4 @@
--- The first flight of a list and the last.
+-- The first flight of a list and the last. Given on to the crates above.
 use Rattle.std.proofs.Common.{◌≡◌, ◌∙◌, ◌-◌, sym, subst, List, [], ◌∷◌, length, Some, slice_get, refl, ap, arith}
 use Rattle.fare_law.specs.declared.flights.Flight.{Flight}
 use Rattle.fare_law.specs.Days.{IsCalendarDay}

@@ -13,7 +13,7 @@ use Rattle.ticket_demands.specs.declared.stretch.Stretch.{Stretch}
 use Rattle.ticket_demands.specs.declared.units.UnitFacts.{UnitFacts}
 use Rattle.ticket_demands.specs.Kinds.{HasNoKind}
 use Rattle.ticket_demands.specs.Stretches.{stretch_of, only_if, kind_of_ends, facts_from, facts_of}
-use Rattle.ticket_demands.proofs.Neighbours.{places_told}
+use Rattle.law_lemmas.proofs.Names.{places_told}
 
 abbrev pub KindTold : Option UnitKind → List Piece → Type 0
 KindTold o ps = MatchOption o (HasNoKind ps) (λ kind. IsUnit kind ps)

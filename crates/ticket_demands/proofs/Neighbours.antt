@@ -1,21 +1,18 @@
 -- Flights beside the next ones, and the places that they call at.
-use Rattle.std.proofs.Common.{◌≡◌, ◌≢◌, ◌↔◌, ◌<◌, ◌≤◌, ◌+◌, ◌&&◌, ℕ, zero, suc, ℤ, pos, ◌+ℤ◌, ◌≤ℤ◌, int_le, List, [], ◌∷◌, Bool, refl, ap, sym, subst, drop, get_or, length, map, arith}
+use Rattle.std.proofs.Common.{◌≢◌, ◌↔◌, ◌<◌, ◌≤◌, ◌+◌, ◌&&◌, ℕ, zero, suc, ℤ, pos, ◌+ℤ◌, ◌≤ℤ◌, int_le, List, [], ◌∷◌, Bool, refl, sym, subst, drop, get_or, length, map, arith}
 use Rattle.std.specs.Bool.{Decides}
 use Rattle.std.specs.List.{zip, list_all, All}
-use Rattle.std.proofs.lemmas.Bool.Decides.{Decides-and, Decides-like}
+use Rattle.std.proofs.lemmas.Bool.Decides.{Decides-and}
 use Rattle.std.proofs.lemmas.Int.{ints}
 use Rattle.std.proofs.lemmas.List.{drop_all}
 use Rattle.std.proofs.lemmas.List.Elements.{All-nil, All-cons}
-use Rattle.std.proofs.lemmas.Slice.Eq.{bytes_eq-Decides}
 use Rattle.fare_law.specs.declared.flights.Flight.{Flight}
 use Rattle.fare_law.specs.declared.names.Place.{Place}
 use Rattle.fare_law.specs.Book.{Book, connect, same_place}
 use Rattle.fare_law.specs.Journey.{Joins, ShortStop, calls}
 use Rattle.fare_law.specs.Lists.{AllDifferent, Each, EachPair}
-use Rattle.ticket_demands.proofs.Gathering.{here}
-
-pub places_told : (p q : Place) → Decides (same_place p q) (p ≡ q)
-places_told p q = Decides-like _ (λ h. ap {B = Place} (λ x. record { 0 = x }) h) (λ e. ap (λ p. p.0) e) (bytes_eq-Decides p.0 q.0)
+use Rattle.law_lemmas.proofs.Lists.{rest_at}
+use Rattle.law_lemmas.proofs.Names.{places_told}
 
 pairs_told : {X : Type 0} (p : X → X → Bool) (R : X → X → Type 0) → ((a b : X) → Decides (p a b) (R a b)) → (xs : List X) → Decides (list_all (λ (q : X × X). p q.0 q.1) (zip xs (drop 1 xs))) (EachPair R xs)
 pairs_told p R d [] = (λ _. tt, λ _. refl)
@@ -49,8 +46,8 @@ calls_on p f fs m = (λ h. h.1, λ k. (each_missed p (f ∷ fs) m, k))
 -- the calls from here on are all different where this place comes no more and the calls from the next on are
 pub once_more : (p : Place) (fs : List Flight) (at : ℕ) (d : Flight) → at < length fs → All (λ f. p ≢ f.to) (drop at fs) → AllDifferent (calls p (drop at fs)) ↔ AllDifferent (calls (get_or fs at d).to (drop (at + 1) fs))
 once_more p fs at d lt m =
-    subst (λ gs. AllDifferent (calls p gs) ↔ AllDifferent (calls (get_or fs at d).to (drop (at + 1) fs))) (sym (here fs at d lt))
-    (calls_on p (get_or fs at d) (drop (at + 1) fs) (subst (All (λ f. p ≢ f.to)) (here fs at d lt) m))
+    subst (λ gs. AllDifferent (calls p gs) ↔ AllDifferent (calls (get_or fs at d).to (drop (at + 1) fs))) (sym (rest_at fs at d lt))
+    (calls_on p (get_or fs at d) (drop (at + 1) fs) (subst (All (λ f. p ≢ f.to)) (rest_at fs at d lt) m))
 
 pub missed_from : (p : Place) (fs : List Flight) (at : ℕ) → AllDifferent (calls p (drop at fs)) → All (λ f. p ≢ f.to) (drop at fs)
 missed_from p fs at h = all_calls p (drop at fs) h

@@ -1,4 +1,4 @@
--- What components cost, summed: for the price of a ticket.
+-- What components cost, summed: for the price of a ticket. Given on to the crates above.
 use Rattle.std.proofs.Common.{◌≡◌, ◌<◌, ◌≤◌, ◌+◌, ◌*◌, ℕ, zero, suc, List, [], ◌∷◌, ◌++◌, length, take, get_or, refl, ap, ap₂, sym, ◌∙◌, subst, Option, Some, None, MatchOption, add-one, take-suc, arith, inl, inr, sum, sum_by}
 use Rattle.std.specs.List.{Any, cons_option, slice_index_or}
 use Rattle.std.proofs.lemmas.List.{take_all}
@@ -14,29 +14,17 @@ use Rattle.fare_law.specs.Lists.{Matched, OnFirst}
 use Rattle.fare_law.specs.Best.{Costs}
 use Rattle.ticket_demands.specs.Known.{IsUnknown, known_flights}
 use Rattle.ticket_demands.specs.Prices.{ComponentCosts, HasNoPrice, TicketCosts}
-use Rattle.ticket_demands.proofs.Gathering.{is_none_or_some, matched_more, some_is}
+use Rattle.law_lemmas.proofs.LawFacts.{numbered_unknown, numbers_one}
+use Rattle.law_lemmas.proofs.Options.{none_or_some, some_same}
+use Rattle.law_lemmas.proofs.Pairs.{matched_more}
 
 -- flights that are all known are those of their numbers
 pub numbered : (b : Book) (ns : List ℕ) → (Any (IsUnknown b) ns → ⊥) → Numbers b ns (known_flights b ns)
 numbered b [] h = tt
-numbered b (n ∷ ns) h = elim (is_none_or_some (flight_at b n)) [
+numbered b (n ∷ ns) h = elim (none_or_some (flight_at b n)) [
   | inl none ↦ absurd (h (0, n, omega arith, refl, none))
   | inr some ↦ subst (λ o. Matched (λ m f. flight_at b m ≡ Some f) (n ∷ ns) (cons_option o (known_flights b ns))) (sym some.1) (some.1, numbered b ns (λ u. h (suc u.0, u.1, omega (arith, u.2), u.3, u.4)))
 ]
-
-pub numbered_unknown : (b : Book) (ns : List ℕ) (fs : List Flight) → Numbers b ns fs → (k x : ℕ) → k < length ns → slice_index_or ns k x ≡ x → flight_at b x ≡ None → ⊥
-numbered_unknown b [] fs h k x lt e none = absurd (omega arith)
-numbered_unknown b (n ∷ ns) [] h k x lt e none = absurd h
-numbered_unknown b (n ∷ ns) (f ∷ fs) h zero x lt e none = let w : ◌≡◌ {A = Option Flight} (Some f) None = sym h.0 ∙ ap (flight_at b) e ∙ none in absurd (cc)
-numbered_unknown b (n ∷ ns) (f ∷ fs) h (suc k) x lt e none = numbered_unknown b ns fs h.1 k x (omega (arith, lt)) e none
-
-pub numbered_once : (b : Book) (ns : List ℕ) (fs gs : List Flight) → Numbers b ns fs → Numbers b ns gs → fs ≡ gs
-numbered_once b [] [] [] h k = refl
-numbered_once b [] [] (g ∷ gs) h k = absurd k
-numbered_once b [] (f ∷ fs) gs h k = absurd h
-numbered_once b (n ∷ ns) [] gs h k = absurd h
-numbered_once b (n ∷ ns) (f ∷ fs) [] h k = absurd k
-numbered_once b (n ∷ ns) (f ∷ fs) (g ∷ gs) h k = ap₂ (λ x xs. x ∷ xs) (some_is f g (sym h.0 ∙ k.0)) (numbered_once b ns fs gs h.1 k.1)
 
 -- the first components cost so much
 pub record SoFar (b : Book) (cs : List Component) (i total : ℕ) : Type 0 where
@@ -74,9 +62,9 @@ part_has_price b q c part h (inr (inr none)) = let w : ◌≡◌ {A = Option Far
 
 one_price : (b : Book) (q : Request) (c : Component) (part : Part) (p : ℕ) → IsPart b q c part → ComponentCosts b c p → p ≡ price_of part.flights part.piece
 one_price b q c part p h k =
-    let fare : k.fare ≡ part.piece.fare = some_is k.fare part.piece.fare (sym k.fare_is ∙ h.stands.fare) in
-    let rule : k.rule ≡ part.piece.rule = some_is k.rule part.piece.rule (sym k.rule_is ∙ ap (λ (f : Fare). live_rule b c.fare.carrier f.rule) fare ∙ h.stands.rule) in
-    let flights : k.flights ≡ part.flights = numbered_once b c.flights k.flights part.flights k.numbered h.flights in
+    let fare : k.fare ≡ part.piece.fare = some_same k.fare part.piece.fare (sym k.fare_is ∙ h.stands.fare) in
+    let rule : k.rule ≡ part.piece.rule = some_same k.rule part.piece.rule (sym k.rule_is ∙ ap (λ (f : Fare). live_rule b c.fare.carrier f.rule) fare ∙ h.stands.rule) in
+    let flights : k.flights ≡ part.flights = numbers_one b c.flights k.flights part.flights k.numbered h.flights in
     k.adds
     ∙ ap₂ (fare_price k.flights) fare rule
     ∙ ap (λ fs. price_of fs part.piece) flights

@@ -1,8 +1,6 @@
 -- The breaches of a ticket: each is a demand of the law that the ticket, or one of its components, doesn't meet.
 use Rattle.std.specs.Prelude.{◌≡◌, ◌≢◌, ◌⊎◌, ◌++◌, ℕ, ℤ, suc, true, ◌≤◌, ◌<◌, List, [], ◌∷◌, length, max, map, flat_map, None, IsSome, IfSome, Any}
 use Rattle.fare_law.specs.declared.flights.Flight.{Flight}
-use Rattle.fare_law.specs.declared.fares.FareKey.{FareKey}
-use Rattle.fare_law.specs.declared.names.Place.{Place}
 use Rattle.fare_law.specs.declared.requests.Request.{Request}
 use Rattle.fare_law.specs.declared.rules.UnitKind.{UnitKind}
 use Rattle.fare_law.specs.declared.rules.UnitKind.TheVariants.{OneWay}
@@ -11,6 +9,7 @@ use Rattle.fare_law.specs.declared.tickets.Component.{Component}
 use Rattle.fare_law.specs.declared.tickets.Ticket.{Ticket}
 use Rattle.fare_law.specs.Book.{Book}
 use Rattle.fare_law.specs.Journey.{Joins, calls}
+use Rattle.fare_law.specs.Offers.{FiledBetween}
 use Rattle.fare_law.specs.Lawful.{comes_in, unit_of, EndOnEndHolds, AtMostTwoStraddle}
 use Rattle.fare_law.specs.Parts.{Part, Seated, DayTimeHolds, FlightsHold, StopoversHold, TransfersHold}
 use Rattle.fare_law.specs.Lists.{Each, EachPair, OnFirst, OnLast, AllDifferent}
@@ -26,10 +25,6 @@ use Rattle.ticket_demands.specs.declared.demand.UnitDemand.{UnitDemand}
 use Rattle.ticket_demands.specs.declared.demand.UnitDemand.TheVariants.{Shape, FareKind, FirstDay, TravelDates, Stay, Combination}
 use Rattle.ticket_demands.specs.Cuts.{CutsMeet}
 use Rattle.ticket_demands.specs.Known.{IsUnknown, known_flights, live_row, ends_of, part_of, parts_of}
-
--- the fare is filed from the one place to the other, or the other way
-abbrev pub EndsFit : FareKey → Place → Place → Type 0
-EndsFit key begin end = ((key.from ≡ begin) × (key.to ≡ end)) ⊎ ((key.from ≡ end) × (key.to ≡ begin))
 
 -- the greatest of these labels, 0 where there is none
 abbrev pub greatest : List ℕ → ℕ
@@ -57,7 +52,7 @@ ComponentMeets b party FlightCount c = (1 ≤ length c.flights) × (length c.fli
 ComponentMeets b party NoGap c = EachPair Joins (known_flights b c.flights)
 ComponentMeets b party PlacesOnce c = IfSome (ends_of (known_flights b c.flights)) (λ e. AllDifferent (calls e.0.from (known_flights b c.flights)))
 ComponentMeets b party LiveFare c = IsSome (live_row b c.fare)
-ComponentMeets b party FareEnds c = OnRow b c (λ row fs. IfSome (ends_of fs) (λ e. EndsFit row.fare.key e.0.from e.1.to))
+ComponentMeets b party FareEnds c = OnRow b c (λ row fs. IfSome (ends_of fs) (λ e. FiledBetween row.fare.key e.0.from e.1.to))
 ComponentMeets b party Seats c = OnRow b c (λ row fs. Seated b party row.fare.class fs)
 ComponentMeets b party DayTime c = OnRow b c (λ row fs. IfSome (ends_of fs) (λ e. DayTimeHolds row.rule e.0))
 ComponentMeets b party Flights c = OnRow b c (λ row fs. FlightsHold row.rule fs)

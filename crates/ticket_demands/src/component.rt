@@ -7,7 +7,8 @@ ghost use Rattle.fare_law.specs.Limits.{IsFlight};
 ghost use Rattle.fare_law.specs.Lists.{AllDifferent, Each, EachPair};
 ghost use Rattle.fare_law.specs.Parts.{DayTimeHolds, FlightsHold, Seated, StopoversHold, TransfersHold};
 ghost use Rattle.fare_law.specs.RuleLimits.{IsRule};
-ghost use Rattle.ticket_demands.specs.Breaches.{ComponentMeets, EndsFit, OnRow};
+ghost use Rattle.fare_law.specs.Offers.{FiledBetween};
+ghost use Rattle.ticket_demands.specs.Breaches.{ComponentMeets, OnRow};
 ghost use Rattle.ticket_demands.specs.Known.{ends_of, known_flights, live_row};
 
 use crate::ComponentDemand;
@@ -59,7 +60,7 @@ fn calls_once(component: &Component, book: &Book) -> bool
 }
 
 fn fare_fits(component: &Component, book: &Book) -> bool
-    ensures { IsTrue result ↔ OnRow book.now component.now (λ row fs. IfSome (ends_of fs) (λ e. EndsFit row.fare.key e.0.from e.1.to)) }
+    ensures { IsTrue result ↔ OnRow book.now component.now (λ row fs. IfSome (ends_of fs) (λ e. FiledBetween row.fare.key e.0.from e.1.to)) }
 {
     let Some(row) = row_of(component, book) else {
         return true;
@@ -72,7 +73,7 @@ fn fare_fits(component: &Component, book: &Book) -> bool
 
 /// Whether a fare is filed between two places, in one direction.
 fn ends_fit(key: &FareKey, begin: Place, end: Place) -> bool
-    ensures { IsTrue result ↔ EndsFit key.now begin end }
+    ensures { IsTrue result ↔ FiledBetween key.now begin end }
 {
     (key.from.is(begin) && key.to.is(end)) || (key.from.is(end) && key.to.is(begin))
 }

@@ -10,8 +10,10 @@ use Rattle.fare_law.specs.declared.moves.Move.{Move}
 use Rattle.fare_law.specs.declared.moves.Role.{Role}
 use Rattle.fare_law.specs.declared.moves.Role.TheVariants.{Alone, Opens, GoesOn, Closes}
 use Rattle.ticket_order.specs.Coding.{Apart}
+use Rattle.law_lemmas.proofs.Lists.{parts_same}
 pub use Rattle.ticket_order.specs.Coding.{Coded}
-pub use Rattle.ticket_order.proofs.Words.{less_cut, less_total}
+pub use Rattle.law_lemmas.proofs.Words.{less_total}
+pub use Rattle.ticket_order.proofs.Words.{less_cut}
 
 pub value_small : (c : ℕ) → IsCharacter c → (1 ≤ character_value c) × (character_value c ≤ 36)
 value_small c (inl h) = subst (λ b. (1 ≤ cond b (c - 47) (c - 54)) × (cond b (c - 47) (c - 54) ≤ 36)) (sym (le-leb c 57 h.1)) (omega (arith, h.0), omega (arith, h.1))
@@ -92,17 +94,6 @@ role_one Closes Alone e = absurd (omega arith)
 role_one Closes Opens e = absurd (omega arith)
 role_one Closes GoesOn e = absurd (omega arith)
 role_one Closes Closes e = refl
-
--- two lists with equal parts of one length
-pub parts_same : (xs ys us vs : List ℕ) → length xs ≡ length ys → xs ++ us ≡ ys ++ vs → (xs ≡ ys) × (us ≡ vs)
-parts_same [] [] us vs l e = (refl, e)
-parts_same [] (y ∷ ys) us vs l e = absurd (omega arith)
-parts_same (x ∷ xs) [] us vs l e = absurd (omega arith)
-parts_same (x ∷ xs) (y ∷ ys) us vs l e =
-    let h : x ≡ y = cc in
-    let t : xs ++ us ≡ ys ++ vs = cc in
-    let r = parts_same xs ys us vs (omega arith) t in
-    (ap₂ (λ z zs. z ∷ zs) h r.0, r.1)
 
 pub move_parts : (m n : Move) (us vs : List ℕ) → Coded m → Coded n → move_code m ++ us ≡ move_code n ++ vs → (m ≡ n) × (us ≡ vs)
 move_parts m n us vs h k e =

@@ -7,8 +7,8 @@ use Rattle.std.specs.Cmp.Lexicographic.{slice_cmp}
 use Rattle.std.proofs.lemmas.Cmp.{ranked}
 use Rattle.fare_law.specs.Lists.{Less}
 use Rattle.fare_law.specs.Best.{Before}
-use Rattle.schedule_book.proofs.Sorting.{words_told}
 use Rattle.ticket_order.proofs.Words.{before_never, before_trans}
+use Rattle.law_lemmas.proofs.Words.{words_told}
 
 -- the answer names how the two stand
 abbrev pub Tells : Ordering → ℕ → List ℕ → ℕ → List ℕ → Type 0

@@ -5,7 +5,7 @@ use Rattle.fare_law.specs.declared.names.Place.{Place}
 use Rattle.fare_law.specs.Lists.{Matched, OnLast}
 use Rattle.std.proofs.lemmas.List.{drop_all}
 use Rattle.ticket_order.specs.Tickets.{LeadFrom}
-use Rattle.ticket_order.proofs.TicketMoves.{rest_at}
+use Rattle.law_lemmas.proofs.Lists.{rest_at}
 
 -- the ends with one more flight
 abbrev pub further : Option (Place × Place) → Flight → Place × Place

@@ -15,13 +15,14 @@ use Rattle.fare_law.specs.declared.tickets.Ticket.{Ticket}
 use Rattle.fare_law.specs.Book.{Book}
 use Rattle.fare_law.specs.Lawful.{Lawful, Numbered, comes_in, unit_of}
 use Rattle.fare_law.specs.Parts.{IsPart, Part, Numbers, StandsFor}
-use Rattle.fare_law.specs.Lists.{Each, LastDiffers, Matched, OnFirst, OnLast}
+use Rattle.fare_law.specs.Lists.{Each, LastDiffers, Matched, OnFirst}
 use Rattle.fare_law.specs.Moves.{moves_after, moves_of}
 use Rattle.fare_law.specs.Units.{Forward, IsUnit, Reverse, UnitLawful}
 use Rattle.ticket_order.specs.Tickets.{FiledOver, LeadFrom, TicketOfMoves, labels, market_of}
 use Rattle.ticket_order.proofs.LiveKeys.{live_key}
 use Rattle.ticket_order.proofs.ReadLabels.{same_is}
 use Rattle.ticket_order.proofs.TicketMoves.{same_test}
+use Rattle.law_lemmas.proofs.Ends.{on_last}
 
 some : List Piece → Bool
 some [] = false
@@ -93,11 +94,6 @@ market_told x y r key begin end e h = go x y (subst (λ z. MatchBool z ((key.fro
     go true false h = pair end begin h
     go false true h = pair begin end h
     go false false h = pair begin end h
-
-on_last : (Q R : Flight → Type 0) → ((f : Flight) → Q f → R f) → (fs : List Flight) → OnLast Q fs → OnLast R fs
-on_last Q R to [] h = h
-on_last Q R to (f ∷ []) h = to f h
-on_last Q R to (f ∷ g ∷ gs) h = on_last Q R to (g ∷ gs) h
 
 module _ (b : Book) (sale : ℤ) where
   lead : (key : FareKey) (ns : List ℕ) (fs : List Flight) (p : Piece) → Numbers b ns fs → StandsFor b sale key fs p → LeadFrom b.timetable.flights ns p.begin p.end

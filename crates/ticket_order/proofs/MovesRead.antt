@@ -7,7 +7,8 @@ use Rattle.fare_law.specs.Lists.{Each}
 use Rattle.fare_law.specs.Codes.{move_code, role_code, run_code, basis_number, carrier_number}
 use Rattle.fare_law.specs.Names.{IsBasis, IsCarrier}
 use Rattle.ticket_order.specs.Coding.{Coded, IsCodeOf, IsMove}
-use Rattle.ticket_order.proofs.Codes.{codes_joined, codes_same, move_parts, parts_same}
+use Rattle.ticket_order.proofs.Codes.{codes_joined, codes_same, move_parts}
+use Rattle.law_lemmas.proofs.Lists.{parts_same}
 
 -- numbers are their first, and a front and a rest of the others
 pub first_flights_are : (ns fs front back : List ℕ) → 1 ≤ length ns → front ≡ take (get_or ns 0 0) (take (length ns - 1) (drop 1 ns)) → back ≡ drop (get_or ns 0 0) (take (length ns - 1) (drop 1 ns))

@@ -8,6 +8,7 @@ use Rattle.fare_law.specs.Lists.{Each}
 use Rattle.fare_law.specs.Names.{IsBasis, IsCarrier, IsCharacter}
 use Rattle.fare_law.specs.Codes.{basis_number, carrier_number, character_value, in_places}
 use Rattle.ticket_order.proofs.Codes.{basis_one, carrier_one, digits, places_below, positive, some_places, value_one}
+use Rattle.law_lemmas.proofs.Options.{some_same}
 
 -- this is the character of a value, if there is one
 abbrev pub IsFound : ℕ → Option ℕ → Type 0
@@ -15,9 +16,6 @@ IsFound value found = (c : ℕ) → (found ≡ Some c) ↔ (IsCharacter c × (ch
 
 none_found : (value : ℕ) (c : ℕ) → IsFound value None → IsCharacter c → character_value c ≡ value → ⊥
 none_found value c h is e = let f : None ≡ Some c = (h c).1 (is, e) in absurd (cc)
-
-some_same : {X : Type 0} (x y : X) → Some x ≡ Some y → x ≡ y
-some_same x y e = cc
 
 -- ---- carriers
 

@@ -9,7 +9,8 @@ use Rattle.fare_law.specs.Lawful.{Numbered, comes_in}
 use Rattle.fare_law.specs.Moves.{role_of, labels_below, slot_number}
 use Rattle.ticket_order.specs.Tickets.{AreLabels, begins, stays_open}
 use Rattle.ticket_order.proofs.OpenLabels.{ones, count_open}
-use Rattle.ticket_order.proofs.TicketMoves.{rest_is, rest_at, front_at}
+use Rattle.ticket_order.proofs.TicketMoves.{rest_is}
+use Rattle.law_lemmas.proofs.Lists.{front_at, rest_at}
 
 begins_told : (a b : Bool) → begins (cond a (cond b GoesOn Closes) (cond b Opens Alone)) ≡ not a
 begins_told true true = refl

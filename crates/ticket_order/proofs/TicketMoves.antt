@@ -2,7 +2,6 @@
 use Rattle.std.proofs.Common.{◌≡◌, ℕ, zero, suc, ◌+◌, ◌-◌, ◌<◌, ◌&&◌, ◌||◌, true, cond, eqb, List, [], ◌∷◌, ◌++◌, length, take, drop, get_or, count_by, refl, sym, ap, ap₂, ◌∙◌, inl, inr, arith, append_assoc}
 use Rattle.std.specs.List.{list_any, drop-map}
 use Rattle.std.proofs.Math.ListN.{get_or-map}
-use Rattle.std.proofs.Math.Seq.{drop-cons, take-suc}
 use Rattle.std.proofs.lemmas.List.{length-map}
 use Rattle.std.proofs.lemmas.Bool.{cases_eq}
 use Rattle.std.proofs.lemmas.Bool.Decides.{nat_tests}
@@ -11,21 +10,10 @@ use Rattle.fare_law.specs.declared.tickets.Component.{Component}
 use Rattle.fare_law.specs.Lawful.{comes_in}
 use Rattle.fare_law.specs.Moves.{move_of, moves_after, upto, labels_below, slot_number}
 use Rattle.ticket_order.specs.Tickets.{labels}
-
-pub one_more : (i : ℕ) → suc i ≡ i + 1
-one_more i = omega arith
-
-pub rest_at : {X : Type 0} (xs : List X) (i : ℕ) (d : X) → i < length xs → drop i xs ≡ get_or xs i d ∷ drop (i + 1) xs
-rest_at xs i d lt = drop-cons xs i d lt ∙ ap (λ n. get_or xs i d ∷ drop n xs) (one_more i)
-
-pub front_at : {X : Type 0} (xs : List X) (i : ℕ) (d : X) → i < length xs → take (i + 1) xs ≡ take i xs ++ get_or xs i d ∷ []
-front_at xs i d lt = ap (λ n. take n xs) (sym (one_more i)) ∙ take-suc xs i d lt
+use Rattle.law_lemmas.proofs.Lists.{front_is, rest_at}
 
 pub rest_is : {X : Type 0} (xs : List X) (i : ℕ) (x : X) → i < length xs → x ≡ get_or xs i x → drop i xs ≡ x ∷ drop (i + 1) xs
 rest_is xs i x lt e = rest_at xs i x lt ∙ ap (λ y. y ∷ drop (i + 1) xs) (sym e)
-
-pub front_is : {X : Type 0} (xs : List X) (i : ℕ) (x : X) → i < length xs → x ≡ get_or xs i x → take (i + 1) xs ≡ take i xs ++ x ∷ []
-front_is xs i x lt e = front_at xs i x lt ∙ ap (λ y. take i xs ++ y ∷ []) (sym e)
 
 pub label_at : (cs : List Component) (i : ℕ) (c : Component) → c ≡ get_or cs i c → c.unit ≡ get_or (labels cs) i c.unit
 label_at cs i c e = ap (λ d. d.unit) e ∙ sym (get_or-map (λ d. d.unit) cs i c)

@@ -1,5 +1,5 @@
 -- The components of a ticket and its moves.
-use Rattle.std.proofs.Common.{◌≡◌, ℕ, suc, ◌+◌, ◌≤◌, ◌<◌, List, [], ◌∷◌, ◌++◌, length, take, drop, get_or, Option, Some, None, refl, sym, ap, ap₂, ◌∙◌, subst, append_assoc, append-nil, arith, length-append}
+use Rattle.std.proofs.Common.{◌≡◌, ℕ, ◌+◌, ◌≤◌, ◌<◌, List, [], ◌∷◌, ◌++◌, length, take, drop, get_or, Option, Some, None, refl, sym, ap, ap₂, ◌∙◌, subst, append_assoc, append-nil, arith, length-append}
 use Rattle.std.proofs.lemmas.List.{drop_all}
 use Rattle.fare_law.specs.declared.flights.Flight.{Flight}
 use Rattle.fare_law.specs.declared.moves.Move.{Move}
@@ -10,7 +10,9 @@ use Rattle.fare_law.specs.Lawful.{Numbered}
 use Rattle.fare_law.specs.Lists.{Matched}
 use Rattle.fare_law.specs.Moves.{moves_after, move_of}
 use Rattle.ticket_order.specs.Tickets.{IsComponent, FiledOver, LeadFrom, TicketOfMoves, AreLabels, labels, market_of}
-use Rattle.ticket_order.proofs.TicketMoves.{rest_is, rest_at, front_is, front_at}
+use Rattle.ticket_order.proofs.TicketMoves.{rest_is}
+use Rattle.law_lemmas.proofs.Lists.{front_at, front_is, rest_at}
+use Rattle.law_lemmas.proofs.Pairs.{matched_long, matched_more}
 
 -- what a call that looks for the ends found
 abbrev pub EndsFound : List Flight → Move → Option (Place × Place) → Type 0
@@ -58,12 +60,6 @@ pub record Built (flights : List Flight) (ms : List Move) (ls : List ℕ) (i : �
   pub units : labels made ≡ take i ls
   pub rest : (all : List Component) → Matched (IsComponent flights) ms all → labels all ≡ ls → (more : List Component) × (all ≡ made ++ more) × Matched (IsComponent flights) (drop i ms) more × (labels more ≡ drop i ls)
 
-matched_push : {X Y : Type 0} (R : X → Y → Type 0) (xs : List X) (ys : List Y) (x : X) (y : Y) → Matched R xs ys → R x y → Matched R (xs ++ x ∷ []) (ys ++ y ∷ [])
-matched_push R [] [] x y m r = (r, tt)
-matched_push R [] (b ∷ ys) x y m r = absurd m
-matched_push R (a ∷ xs) [] x y m r = absurd m
-matched_push R (a ∷ xs) (b ∷ ys) x y m r = (m.0, matched_push R xs ys x y m.1 r)
-
 labels_push : (cs : List Component) (c : Component) → labels (cs ++ c ∷ []) ≡ labels cs ++ c.unit ∷ []
 labels_push [] c = refl
 labels_push (d ∷ cs) c = ap (λ ls. d.unit ∷ ls) (labels_push cs c)
@@ -93,7 +89,7 @@ module _ (flights : List Flight) (ms : List Move) (ls : List ℕ) (i : ℕ) (mad
   pub built_next : (c : Component) → IsComponent flights m c → c.unit ≡ get_or ls i 0 → PartFound flights m (get_or ls i 0) (Some c) → Built flights ms ls (i + 1) (made ++ c ∷ [])
   built_next c part unit only = record {
     each = omega (arith, length-append made (c ∷ []), b.each);
-    parts = subst (λ x. Matched (IsComponent flights) x (made ++ c ∷ [])) (sym (front_is ms i m low is)) (matched_push (IsComponent flights) (take i ms) made m c b.parts part);
+    parts = subst (λ x. Matched (IsComponent flights) x (made ++ c ∷ [])) (sym (front_is ms i m low is)) (matched_more (IsComponent flights) (take i ms) made m c b.parts part);
     units = labels_push made c ∙ ap₂ (λ x y. x ++ y ∷ []) b.units unit ∙ sym (front_at ls i 0 high);
     rest = λ all h u.
         let (d, more, e, k, l, n, v) = next_part all h u in
@@ -160,12 +156,6 @@ parts_made flights before (c ∷ cs) (m ∷ ms) e h =
 
     tail : move_of before c (labels cs) ∷ moves_after (before ++ c.unit ∷ []) cs ≡ m ∷ ms → moves_after (before ++ c.unit ∷ []) cs ≡ ms
     tail q = cc
-
-matched_long : {X Y : Type 0} (R : X → Y → Type 0) (xs : List X) (ys : List Y) → Matched R xs ys → length ys ≡ length xs
-matched_long R [] [] h = refl
-matched_long R [] (y ∷ ys) h = absurd h
-matched_long R (x ∷ xs) [] h = absurd h
-matched_long R (x ∷ xs) (y ∷ ys) h = ap suc (matched_long R xs ys h.1)
 
 filed_each : (flights : List Flight) (ms : List Move) (cs : List Component) → Matched (IsComponent flights) ms cs → Matched (λ m c. FiledOver flights m.role c) ms cs
 filed_each flights [] [] h = tt

@@ -4,22 +4,7 @@ use Rattle.std.proofs.lemmas.Bool.{cases_eq, cases_order}
 use Rattle.fare_law.specs.Lists.{IsPrefix, Less}
 use Rattle.fare_law.specs.Best.{Before}
 use Rattle.ticket_order.specs.Coding.{Apart}
-
-pub less_never : (w : List ℕ) → Less w w → ⊥
-less_never [] h = h
-less_never (x ∷ w) (inl h) = omega arith
-less_never (x ∷ w) (inr (e, h)) = less_never w h
-
-pub less_trans : (u v w : List ℕ) → Less u v → Less v w → Less u w
-less_trans [] [] w h k = absurd h
-less_trans [] (y ∷ v) [] h k = absurd k
-less_trans [] (y ∷ v) (z ∷ w) h k = tt
-less_trans (x ∷ u) [] w h k = absurd h
-less_trans (x ∷ u) (y ∷ v) [] h k = absurd k
-less_trans (x ∷ u) (y ∷ v) (z ∷ w) (inl h) (inl k) = inl (omega arith)
-less_trans (x ∷ u) (y ∷ v) (z ∷ w) (inl h) (inr (e, k)) = inl (omega arith)
-less_trans (x ∷ u) (y ∷ v) (z ∷ w) (inr (e, h)) (inl k) = inl (omega arith)
-less_trans (x ∷ u) (y ∷ v) (z ∷ w) (inr (e, h)) (inr (f, k)) = inr (e ∙ f, less_trans u v w h k)
+use Rattle.law_lemmas.proofs.Words.{less_never, less_total, less_trans}
 
 -- what is less than a longer word is less than its front, or begins with it
 pub less_cut : (w v z : List ℕ) → Less w (v ++ z) → Less w v ⊎ IsPrefix v w
@@ -29,19 +14,6 @@ less_cut (x ∷ w) (y ∷ v) z (inl h) = inl (inl h)
 less_cut (x ∷ w) (y ∷ v) z (inr (e, h)) = elim (less_cut w v z h) [
   | inl l ↦ inl (inr (e, l))
   | inr p ↦ inr (p.0, ap₂ (λ a l. a ∷ l) e p.1)
-]
-
--- two words: one is less, or they are one
-pub less_total : (v w : List ℕ) → Less v w ⊎ ((v ≡ w) ⊎ Less w v)
-less_total [] [] = inr (inl refl)
-less_total [] (y ∷ w) = inl tt
-less_total (x ∷ v) [] = inr (inr tt)
-less_total (x ∷ v) (y ∷ w) = elim (cases_order x y) [
-  | inr o ↦ elim o [ inl lt ↦ inl (inl lt) | inr gt ↦ inr (inr (inl gt)) ]
-  | inl e ↦ elim (less_total v w) [
-    | inl l ↦ inl (inr (e, l))
-    | inr o ↦ elim o [ inl s ↦ inr (inl (ap₂ (λ a l. a ∷ l) e s)) | inr g ↦ inr (inr (inr (sym e, g))) ]
-  ]
 ]
 
 -- what is less than a word is less than each longer one

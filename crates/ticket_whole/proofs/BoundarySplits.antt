@@ -1,7 +1,8 @@
 -- Lists split at a place, and labels at each boundary.
-use Rattle.std.proofs.Common.{◌≡◌, ◌<◌, ◌∙◌, ℕ, List, [], ◌∷◌, ◌++◌, length, take, drop, refl, ap, sym, subst, arith}
+use Rattle.std.proofs.Common.{◌≡◌, ◌<◌, ◌∙◌, ℕ, List, [], ◌∷◌, ◌++◌, length, take, drop, refl, ap, sym, subst}
 use Rattle.fare_law.specs.Lawful.{AtMostTwoStraddle}
 use Rattle.ticket_whole.specs.Boundaries.{AtMostTwo}
+use Rattle.law_lemmas.proofs.Lists.{length_middle}
 
 pub front_is : {X : Type 0} (before after : List X) → take (length before) (before ++ after) ≡ before
 front_is [] after = refl
@@ -11,12 +12,8 @@ pub back_is : {X : Type 0} (before after : List X) → drop (length before) (bef
 back_is [] after = refl
 back_is (x ∷ before) after = back_is before after
 
-length_split : {X : Type 0} (before : List X) (x : X) (after : List X) → length before < length (before ++ x ∷ after)
-length_split [] x after = omega arith
-length_split (y ∷ before) x after = omega (arith, length_split before x after)
-
 pub split_below : {X : Type 0} (xs before : List X) (x : X) (after : List X) → xs ≡ before ++ x ∷ after → length before < length xs
-split_below xs before x after e = subst (λ ys. length before < length ys) (sym e) (length_split before x after)
+split_below xs before x after e = subst (λ ys. length before < length ys) (sym e) (length_middle before x after)
 
 -- at most two labels straddle where no three do at each boundary before the end
 pub straddle_told : (ls : List ℕ) → ((n : ℕ) → n < length ls → AtMostTwo (take n ls) (drop n ls)) → AtMostTwoStraddle ls

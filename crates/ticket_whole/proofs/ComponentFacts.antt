@@ -1,6 +1,5 @@
 -- What a component meets by itself, where it stands for a lawful part.
-use Rattle.std.proofs.Common.{◌≡◌, ◌∙◌, ◌<◌, ◌≤◌, ℕ, zero, suc, true, false, List, [], ◌∷◌, length, Option, Some, None, IfSome, IsSome, MatchBool, Bool, refl, ap, sym, subst, inl, inr, arith}
-use Rattle.std.specs.List.{slice_index_or}
+use Rattle.std.proofs.Common.{◌≡◌, ◌≤◌, true, false, List, [], ◌∷◌, length, Some, IfSome, IsSome, MatchBool, Bool, refl, sym, subst, inl, inr, arith}
 use Rattle.fare_law.specs.declared.flights.Flight.{Flight}
 use Rattle.fare_law.specs.declared.requests.Request.{Request}
 use Rattle.fare_law.specs.declared.rules.Rule.{Rule}
@@ -9,20 +8,17 @@ use Rattle.fare_law.specs.declared.tickets.Component.{Component}
 use Rattle.fare_law.specs.declared.tickets.Piece.{Piece}
 use Rattle.fare_law.specs.Book.{Book, flight_at}
 use Rattle.fare_law.specs.Journey.{Joins, calls}
-use Rattle.fare_law.specs.Parts.{Part, IsPart, Numbers, Filed, ComponentLawful, DayTimeHolds, FlightsHold, Seated, StopoversHold, TransfersHold}
+use Rattle.fare_law.specs.Parts.{Part, IsPart, Filed, ComponentLawful, DayTimeHolds, FlightsHold, Seated, StopoversHold, TransfersHold}
 use Rattle.fare_law.specs.Lists.{EachPair, OnFirst, OnLast, AllDifferent}
 use Rattle.ticket_demands.specs.declared.demand.ComponentDemand.{ComponentDemand}
 use Rattle.ticket_demands.specs.declared.demand.ComponentDemand.TheVariants.{KnownFlights, FlightCount, NoGap, PlacesOnce, LiveFare, FareEnds, Seats, DayTime, Flights, Stopovers, Transfers}
-use Rattle.ticket_demands.specs.Breaches.{ComponentMeets, EndsFit, OnRow}
+use Rattle.fare_law.specs.Offers.{FiledBetween}
+use Rattle.ticket_demands.specs.Breaches.{ComponentMeets, OnRow}
 use Rattle.ticket_demands.specs.Known.{known_flights, live_row, ends_of}
-use Rattle.ticket_whole.proofs.PartLookups.{numbers_known, on_last, row_live}
-use Rattle.ticket_whole.proofs.Splits.{matched_length}
-
-none_unknown : (b : Book) (ns : List ℕ) (fs : List Flight) → Numbers b ns fs → (k x : ℕ) → k < length ns → slice_index_or ns k x ≡ x → flight_at b x ≡ None → ⊥
-none_unknown b [] fs h k x lt e none = absurd (omega arith)
-none_unknown b (n ∷ ns) [] h k x lt e none = absurd h
-none_unknown b (n ∷ ns) (f ∷ fs) h zero x lt e none = let w : ◌≡◌ {A = Option Flight} (Some f) None = sym h.0 ∙ ap (flight_at b) e ∙ none in absurd (cc)
-none_unknown b (n ∷ ns) (f ∷ fs) h (suc k) x lt e none = none_unknown b ns fs h.1 k x (omega (arith, lt)) e none
+use Rattle.ticket_whole.proofs.PartLookups.{numbers_known, row_live}
+use Rattle.law_lemmas.proofs.LawFacts.{numbered_unknown}
+use Rattle.law_lemmas.proofs.Pairs.{matched_length}
+use Rattle.ticket_demands.proofs.FlightEnds.{on_last}
 
 -- the row of a fare that stands over flights
 abbrev pub row_for : Piece → SheetRow
@@ -36,15 +32,15 @@ on_time : (rule : Rule) (fs : List Flight) → OnFirst (DayTimeHolds rule) fs �
 on_time rule [] h = absurd h
 on_time rule (f ∷ fs) h = h
 
-filed_fits : (p : Piece) (r : Bool) → p.reverse ≡ r → Filed p → EndsFit p.fare.key p.begin p.end
+filed_fits : (p : Piece) (r : Bool) → p.reverse ≡ r → Filed p → FiledBetween p.fare.key p.begin p.end
 filed_fits p true is h = inr (subst (λ t. MatchBool t ((p.fare.key.from ≡ p.end) × (p.fare.key.to ≡ p.begin)) ((p.fare.key.from ≡ p.begin) × (p.fare.key.to ≡ p.end))) is h)
 filed_fits p false is h = inl (subst (λ t. MatchBool t ((p.fare.key.from ≡ p.end) × (p.fare.key.to ≡ p.begin)) ((p.fare.key.from ≡ p.begin) × (p.fare.key.to ≡ p.end))) is h)
 
-ends_fit : (p : Piece) (fs : List Flight) → OnFirst (λ f. (p.begin ≡ f.from) × (p.first_day ≡ f.day)) fs → OnLast (λ f. (p.end ≡ f.to) × (p.last_day ≡ f.day)) fs → Filed p → IfSome (ends_of fs) (λ e. EndsFit p.fare.key e.0.from e.1.to)
+ends_fit : (p : Piece) (fs : List Flight) → OnFirst (λ f. (p.begin ≡ f.from) × (p.first_day ≡ f.day)) fs → OnLast (λ f. (p.end ≡ f.to) × (p.last_day ≡ f.day)) fs → Filed p → IfSome (ends_of fs) (λ e. FiledBetween p.fare.key e.0.from e.1.to)
 ends_fit p [] o l h = absurd o
 ends_fit p (f ∷ fs) o l h =
     let z = on_last (λ g. (p.end ≡ g.to) × (p.last_day ≡ g.day)) f fs l in
-    subst (λ q. EndsFit p.fare.key f.from q) z.0 (subst (λ q. EndsFit p.fare.key q p.end) o.0 (filed_fits p p.reverse refl h))
+    subst (λ q. FiledBetween p.fare.key f.from q) z.0 (subst (λ q. FiledBetween p.fare.key q p.end) o.0 (filed_fits p p.reverse refl h))
 
 some_flight : (P : Flight → Type 0) (fs : List Flight) → OnFirst P fs → 1 ≤ length fs
 some_flight P [] h = absurd h
@@ -65,7 +61,7 @@ module _ (b : Book) (q : Request) (c : Component) (part : Part) (is : IsPart b q
 
   -- a component that stands for a lawful part meets each demand on it by itself
   pub lawful_component : ComponentLawful b q.party part.flights part.piece → (d : ComponentDemand) → ComponentMeets b q.party d c
-  lawful_component l KnownFlights = λ u. none_unknown b c.flights part.flights is.flights u.0 u.1 u.2 u.3 u.4
+  lawful_component l KnownFlights = λ u. numbered_unknown b c.flights part.flights is.flights u.0 u.1 u.2 u.3 u.4
   lawful_component l FlightCount =
       let n = matched_length (λ m f. flight_at b m ≡ Some f) c.flights part.flights is.flights in
       let some = some_flight _ part.flights is.stands.begins in
@@ -73,7 +69,7 @@ module _ (b : Book) (q : Request) (c : Component) (part : Part) (is : IsPart b q
   lawful_component l NoGap = over_known (EachPair Joins) l.shape.joined
   lawful_component l PlacesOnce = over_known (λ fs. IfSome (ends_of fs) (λ e. AllDifferent (calls e.0.from fs))) (called_once part.flights l.shape.apart)
   lawful_component l LiveFare = subst IsSome (sym live) refl
-  lawful_component l FareEnds = on_row (λ row fs. IfSome (ends_of fs) (λ e. EndsFit row.fare.key e.0.from e.1.to)) (ends_fit part.piece part.flights is.stands.begins is.stands.ends is.stands.filed)
+  lawful_component l FareEnds = on_row (λ row fs. IfSome (ends_of fs) (λ e. FiledBetween row.fare.key e.0.from e.1.to)) (ends_fit part.piece part.flights is.stands.begins is.stands.ends is.stands.filed)
   lawful_component l Seats = on_row (λ row fs. Seated b q.party row.fare.class fs) l.seated
   lawful_component l DayTime = on_row (λ row fs. IfSome (ends_of fs) (λ e. DayTimeHolds row.rule e.0)) (on_time part.piece.rule part.flights l.day_time)
   lawful_component l Flights = on_row (λ row fs. FlightsHold row.rule fs) l.flights

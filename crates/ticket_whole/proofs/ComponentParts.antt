@@ -1,7 +1,6 @@
 -- The lawful part that a component stands for, where it meets each demand on it by itself.
-use Rattle.std.proofs.Common.{◌≡◌, ◌⊎◌, ◌∙◌, ℕ, suc, true, false, List, [], ◌∷◌, length, Option, Some, None, IfSome, IsSome, MatchBool, Bool, option_map, option_and_then, refl, ap, sym, subst, inl, inr, arith}
+use Rattle.std.proofs.Common.{◌≡◌, ◌⊎◌, ◌∙◌, true, false, List, [], ◌∷◌, length, Option, Some, None, IfSome, MatchBool, Bool, option_map, option_and_then, refl, ap, sym, subst, inl, inr, arith}
 use Rattle.std.specs.Bool.{Decides}
-use Rattle.std.specs.List.{Any, cons_option}
 use Rattle.std.proofs.lemmas.Bool.Decides.{Decides-and}
 use Rattle.fare_law.specs.declared.fares.Fare.{Fare}
 use Rattle.fare_law.specs.declared.flights.Flight.{Flight}
@@ -12,37 +11,24 @@ use Rattle.fare_law.specs.declared.tickets.Component.{Component}
 use Rattle.fare_law.specs.Book.{Book, flight_at, live_fare, live_rule}
 use Rattle.fare_law.specs.Journey.{Joins, calls}
 use Rattle.fare_law.specs.Parts.{Part, IsPart, Numbers, ComponentLawful, DayTimeHolds, FlightsHold, Seated, StopoversHold, TransfersHold}
-use Rattle.fare_law.specs.Lists.{EachPair, Matched, OnLast, AllDifferent}
+use Rattle.fare_law.specs.Lists.{EachPair, AllDifferent}
 use Rattle.ticket_demands.specs.declared.demand.ComponentDemand.{ComponentDemand}
 use Rattle.ticket_demands.specs.declared.demand.ComponentDemand.TheVariants.{KnownFlights, FlightCount, NoGap, PlacesOnce, LiveFare, FareEnds, Seats, DayTime, Flights, Stopovers, Transfers}
-use Rattle.ticket_demands.specs.Breaches.{ComponentMeets, EndsFit, OnRow}
-use Rattle.ticket_demands.specs.Known.{IsUnknown, known_flights, live_row, last_of, ends_of, part_of, part_over}
-use Rattle.ticket_whole.proofs.PartLookups.{places_told, looked_up}
-use Rattle.ticket_whole.proofs.Splits.{matched_length}
+use Rattle.fare_law.specs.Offers.{FiledBetween}
+use Rattle.ticket_demands.specs.Breaches.{ComponentMeets, OnRow}
+use Rattle.ticket_demands.specs.Known.{known_flights, live_row, last_of, ends_of, part_of, part_over}
+use Rattle.ticket_whole.proofs.PartLookups.{looked_up}
+use Rattle.law_lemmas.proofs.Names.{places_told}
+use Rattle.law_lemmas.proofs.Options.{some_of, some_same}
+use Rattle.law_lemmas.proofs.Pairs.{matched_length}
+use Rattle.ticket_demands.proofs.FlightEnds.{last_on}
+use Rattle.ticket_demands.proofs.PriceSums.{numbered}
 
 -- a component stands for this lawful part, and is looked up as it
 pub record StandsAs (b : Book) (q : Request) (c : Component) (part : Part) : Type 0 where
   pub found : part_of b q.sale c ≡ Some part
   pub is : IsPart b q c part
   pub lawful : ComponentLawful b q.party part.flights part.piece
-
-pub none_or_some : {X : Type 0} (o : Option X) → (o ≡ None) ⊎ ((x : X) × (o ≡ Some x))
-none_or_some None = inl refl
-none_or_some (Some x) = inr (x, refl)
-
-is_there : {X : Type 0} (o : Option X) → IsSome o → (x : X) × (o ≡ Some x)
-is_there None h = absurd (cc)
-is_there (Some x) h = (x, refl)
-
-some_same : {X : Type 0} (x y : X) → Some x ≡ Some y → x ≡ y
-some_same x y e = cc
-
-numbers_of : (b : Book) (ns : List ℕ) → (Any (IsUnknown b) ns → ⊥) → Numbers b ns (known_flights b ns)
-numbers_of b [] h = tt
-numbers_of b (n ∷ ns) h = elim (none_or_some (flight_at b n)) [
-  | inl none ↦ absurd (h (0, n, omega arith, refl, none))
-  | inr some ↦ subst (λ o. Matched (λ m f. flight_at b m ≡ Some f) (n ∷ ns) (cons_option o (known_flights b ns))) (sym some.1) (some.1, numbers_of b ns (λ u. h (suc u.0, u.1, omega (arith, u.2), u.3, u.4)))
-]
 
 row_put : (f : Fare) (o : Option Rule) (row : SheetRow) → option_map (λ (rule : Rule). record { fare = f; rule = rule }) o ≡ Some row → (f ≡ row.fare) × (o ≡ Some row.rule)
 row_put f None row e = absurd (cc)
@@ -61,10 +47,6 @@ filed_told : {A B : Type 0} (t : Bool) → Decides t A → B ⊎ A → MatchBool
 filed_told true d h = d.0 refl
 filed_told false d h = elim h [ inl x ↦ x | inr y ↦ let w : false ≡ true = d.1 y in absurd (cc) ]
 
-last_on : (P : Flight → Type 0) (f : Flight) (fs : List Flight) → P (last_of f fs) → OnLast P (f ∷ fs)
-last_on P f [] h = h
-last_on P f (g ∷ fs) h = last_on P g fs h
-
 module _ (b : Book) (q : Request) (c : Component) (meets : (d : ComponentDemand) → ComponentMeets b q.party d c) (row : SheetRow) (live : live_row b c.fare ≡ Some row) (f : Flight) (fs : List Flight) (known : known_flights b c.flights ≡ f ∷ fs) where
   abbrev part : Part
   part = part_over q.sale c.unit row (f ∷ fs) (f, last_of f fs)
@@ -76,7 +58,7 @@ module _ (b : Book) (q : Request) (c : Component) (meets : (d : ComponentDemand)
   on_row P h = over_known (P row) (subst (λ o. IfSome o (λ r. P r (known_flights b c.flights))) live h)
 
   numbers : Numbers b c.flights (f ∷ fs)
-  numbers = over_known (Numbers b c.flights) (numbers_of b c.flights (meets KnownFlights))
+  numbers = over_known (Numbers b c.flights) (numbered b c.flights (meets KnownFlights))
 
   stands : IsPart b q c part
   stands =
@@ -89,7 +71,7 @@ module _ (b : Book) (q : Request) (c : Component) (meets : (d : ComponentDemand)
           begins = (refl, refl);
           ends = last_on (λ g. ((last_of f fs).to ≡ g.to) × ((last_of f fs).day ≡ g.day)) f fs (refl, refl);
           filed = filed_told _ (Decides-and _ _ (places_told row.fare.key.from (last_of f fs).to) (places_told row.fare.key.to f.from))
-              (on_row (λ r gs. IfSome (ends_of gs) (λ e. EndsFit r.fare.key e.0.from e.1.to)) (meets FareEnds));
+              (on_row (λ r gs. IfSome (ends_of gs) (λ e. FiledBetween r.fare.key e.0.from e.1.to)) (meets FareEnds));
           sale_is = refl;
         };
         unit = refl;
@@ -120,8 +102,8 @@ stands_as b q c meets = go (known_flights b c.flights) refl
   where
     go : (gs : List Flight) → known_flights b c.flights ≡ gs → (part : Part) × StandsAs b q c part
     go [] e =
-        let n = matched_length (λ m g. flight_at b m ≡ Some g) c.flights [] (subst (Numbers b c.flights) e (numbers_of b c.flights (meets KnownFlights))) in
+        let n = matched_length (λ m g. flight_at b m ≡ Some g) c.flights [] (subst (Numbers b c.flights) e (numbered b c.flights (meets KnownFlights))) in
         let some = (meets FlightCount).0 in
         let none : length {A = Flight} [] ≡ 0 = refl in
         absurd (omega (arith, n, some, none))
-    go (f ∷ fs) e = let row = is_there (live_row b c.fare) (meets LiveFare) in stands_over b q c meets row.0 row.1 f fs e
+    go (f ∷ fs) e = let row = some_of (live_row b c.fare) (meets LiveFare) in stands_over b q c meets row.0 row.1 f fs e

@@ -9,7 +9,7 @@ use Rattle.fare_law.specs.Lawful.{EndOnEndOf, EndOnEndHolds}
 use Rattle.fare_law.specs.Parts.{Part}
 use Rattle.fare_law.specs.Lists.{Each}
 use Rattle.ticket_whole.specs.FaresOn.{fare_on, AreAsAsked, Combines}
-use Rattle.ticket_whole.proofs.Splits.{each_to}
+use Rattle.law_lemmas.proofs.EachOne.{each_by}
 
 all_each : {X Y : Type 0} (P : Y → Type 0) (f : X → Y) (xs : List X) → All P (map f xs) → Each (λ x. P (f x)) xs
 all_each P f [] h = tt
@@ -30,6 +30,6 @@ rule_told parts part (Some c) = asked_told parts part c.end_on_end
 
 pub combine_told : (parts : List Part) → All (Combines (map fare_on parts)) (map fare_on parts) ↔ Each (λ part. EndOnEndHolds parts part.piece) parts
 combine_told parts = (
-  λ h. each_to (λ (part : Part). Combines (map fare_on parts) (fare_on part)) _ parts (λ part. (rule_told parts part part.piece.rule.cat10).0) (all_each (Combines (map fare_on parts)) fare_on parts h),
-  λ h. each_all (Combines (map fare_on parts)) fare_on parts (each_to _ (λ (part : Part). Combines (map fare_on parts) (fare_on part)) parts (λ part. (rule_told parts part part.piece.rule.cat10).1) h),
+  λ h. each_by (λ (part : Part). Combines (map fare_on parts) (fare_on part)) _ parts (λ part. (rule_told parts part part.piece.rule.cat10).0) (all_each (Combines (map fare_on parts)) fare_on parts h),
+  λ h. each_all (Combines (map fare_on parts)) fare_on parts (each_by _ (λ (part : Part). Combines (map fare_on parts) (fare_on part)) parts (λ part. (rule_told parts part part.piece.rule.cat10).1) h),
 )

@@ -8,12 +8,8 @@ use Rattle.fare_law.specs.Lists.{OnFirst, OnLast}
 use Rattle.ticket_demands.specs.declared.demand.JourneyDemand.{JourneyDemand}
 use Rattle.ticket_demands.specs.declared.demand.JourneyDemand.TheVariants.{Slices, Length, Places, Connections, Window}
 use Rattle.ticket_demands.specs.Cuts.{SliceMeets, CutsMeet}
-use Rattle.ticket_whole.proofs.FirstCut.{cut_first}
-
-on_last_to : (P Q : Flight → Type 0) (fs : List Flight) → ((f : Flight) → P f → Q f) → OnLast P fs → OnLast Q fs
-on_last_to P Q [] to h = h
-on_last_to P Q (f ∷ []) to h = to f h
-on_last_to P Q (f ∷ g ∷ fs) to h = on_last_to P Q (g ∷ fs) to h
+use Rattle.ticket_demands.proofs.CutLemmas.{cut_first}
+use Rattle.law_lemmas.proofs.LawFacts.{on_last_to}
 
 slice_meets : (b : Book) (d : JourneyDemand) (arrival : Option ℤ) (s : Slice) (fs : List Flight) → FliesSlice b s fs → OnFirst (LateEnough b arrival) fs → SliceMeets b d arrival s fs
 slice_meets b Slices arrival s fs h late = tt

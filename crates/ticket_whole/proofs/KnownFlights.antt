@@ -4,7 +4,7 @@ use Rattle.std.specs.List.{Any, filter_map, cons_option, slice_index_or}
 use Rattle.fare_law.specs.declared.flights.Flight.{Flight}
 use Rattle.fare_law.specs.Book.{Book, flight_at}
 use Rattle.ticket_demands.specs.Known.{known_flights, ends_of}
-use Rattle.ticket_whole.proofs.ComponentParts.{none_or_some}
+use Rattle.law_lemmas.proofs.Options.{none_or_some}
 
 pub numbered_same : (fs gs : List Flight) (ns ms : List ℕ) → fs ≡ gs → ns ≡ ms → filter_map (slice_get fs) ns ≡ filter_map (slice_get gs) ms
 numbered_same fs gs ns ms e f = ap (λ xs. filter_map (slice_get xs) ns) e ∙ ap (filter_map (slice_get gs)) f

@@ -1,4 +1,4 @@
--- Labels among others: whether they come, which is the greatest, and how many stand on both sides of a boundary.
+-- Labels among others: whether they come, which is the greatest, and how many stand on both sides of a boundary. Given on to the crates above.
 use Rattle.std.proofs.Common.{◌≡◌, ◌≢◌, ◌⊎◌, ◌↔◌, ◌<◌, ◌≤◌, ◌+◌, ◌==◌, ◌++◌, ◌∙◌, ℕ, zero, suc, true, false, List, [], ◌∷◌, length, map, take, get_or, refl, ap, sym, subst, inl, inr, arith}
 use Rattle.std.specs.List.{Any, slice_index_or}
 use Rattle.std.proofs.lemmas.Bool.{cases_order}
@@ -8,8 +8,9 @@ use Rattle.fare_law.specs.declared.tickets.Component.{Component}
 use Rattle.fare_law.specs.Lawful.{comes_in, StandsOnBothSides}
 use Rattle.fare_law.specs.Lists.{Each, AllDifferent}
 use Rattle.ticket_whole.specs.Boundaries.{AtMostTwo}
-use Rattle.ticket_whole.proofs.Gathering.{front_at, each_more}
 use Rattle.ticket_whole.proofs.LabelTurns.{or_split, or_left, or_right, comes_more}
+use Rattle.law_lemmas.proofs.EachOne.{each_more}
+use Rattle.law_lemmas.proofs.Lists.{front_at}
 
 come_at : (u : ℕ) (ls : List ℕ) (k x : ℕ) → k < length ls → slice_index_or ls k x ≡ x → u ≡ x → comes_in u ls ≡ true
 come_at u [] k x lt e is = absurd (omega (arith, lt))
@@ -27,12 +28,12 @@ any_come u (l ∷ ls) h = elim (or_split (u == l) (comes_in u ls) h) [
 pub comes_told : (u : ℕ) (ls : List ℕ) → Any (λ l. u ≡ l) ls ↔ (comes_in u ls ≡ true)
 comes_told u ls = (λ h. come_at u ls h.0 h.1 h.2 h.3 h.4, any_come u ls)
 
-label_at : (u : ℕ) (cs : List Component) (k : ℕ) (x : Component) → k < length cs → slice_index_or cs k x ≡ x → x.unit ≡ u → comes_in u (map (λ c. c.unit) cs) ≡ true
+pub label_at : (u : ℕ) (cs : List Component) (k : ℕ) (x : Component) → k < length cs → slice_index_or cs k x ≡ x → x.unit ≡ u → comes_in u (map (λ c. c.unit) cs) ≡ true
 label_at u [] k x lt e is = absurd (omega (arith, lt))
 label_at u (c ∷ cs) zero x lt e is = or_left (u == c.unit) (comes_in u (map (λ (y : Component). y.unit) cs)) ((Decides-eqb u c.unit).1 (sym (ap (λ (y : Component). y.unit) e ∙ is)))
 label_at u (c ∷ cs) (suc k) x lt e is = or_right (u == c.unit) (comes_in u (map (λ (y : Component). y.unit) cs)) (label_at u cs k x (omega (arith, lt)) e is)
 
-some_label : (u : ℕ) (cs : List Component) → comes_in u (map (λ c. c.unit) cs) ≡ true → Any (λ c. c.unit ≡ u) cs
+pub some_label : (u : ℕ) (cs : List Component) → comes_in u (map (λ c. c.unit) cs) ≡ true → Any (λ c. c.unit ≡ u) cs
 some_label u [] h = absurd (cc)
 some_label u (c ∷ cs) h = elim (or_split (u == c.unit) (comes_in u (map (λ (y : Component). y.unit) cs)) h) [
   | inl e ↦ (0, c, omega arith, refl, sym ((Decides-eqb u c.unit).0 e))

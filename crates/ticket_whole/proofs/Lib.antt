@@ -1,6 +1,5 @@
 pub mod Splits
 pub mod Gathering
-pub mod FirstCut
 pub mod FlownCuts
 pub mod PartLookups
 pub mod LabelTurns

@@ -1,9 +1,6 @@
 -- The part that a component is, by the law and as it is looked up. This file is given on to the crates above.
 use Rattle.std.proofs.Common.{◌≡◌, ◌≢◌, ◌&&◌, ◌∙◌, ℕ, ℤ, Bool, true, false, MatchBool, List, [], ◌∷◌, Some, option_map, option_and_then, map, refl, ap, sym, subst}
-use Rattle.std.specs.Bool.{Decides}
 use Rattle.std.specs.List.{cons_option}
-use Rattle.std.proofs.lemmas.Bool.Decides.{Decides-like}
-use Rattle.std.proofs.lemmas.Slice.Eq.{bytes_eq-Decides}
 use Rattle.fare_law.specs.declared.fares.Fare.{Fare}
 use Rattle.fare_law.specs.declared.flights.Flight.{Flight}
 use Rattle.fare_law.specs.declared.names.Place.{Place}
@@ -17,13 +14,9 @@ use Rattle.fare_law.specs.Journey.{calls}
 use Rattle.fare_law.specs.Parts.{Part, IsPart, ComponentLawful, Filed, Numbers}
 use Rattle.fare_law.specs.Lists.{Each, Matched, OnFirst, OnLast, AllDifferent}
 use Rattle.ticket_demands.specs.Known.{known_flights, live_row, last_of, ends_of, part_over, part_of, parts_of}
-
-pub places_told : (p q : Place) → Decides (same_place p q) (p ≡ q)
-places_told p q = Decides-like _ (λ h. ap {B = Place} (λ x. record { 0 = x }) h) (λ e. ap (λ p. p.0) e) (bytes_eq-Decides p.0 q.0)
-
-pub on_last : (P : Flight → Type 0) (f : Flight) (fs : List Flight) → OnLast P (f ∷ fs) → P (last_of f fs)
-on_last P f [] h = h
-on_last P f (g ∷ fs) h = on_last P g fs h
+use Rattle.law_lemmas.proofs.Names.{places_told}
+use Rattle.law_lemmas.proofs.Tests.{not_true}
+use Rattle.ticket_demands.proofs.FlightEnds.{on_last}
 
 pub numbers_known : (b : Book) (ns : List ℕ) (fs : List Flight) → Numbers b ns fs → known_flights b ns ≡ fs
 numbers_known b [] [] h = refl
@@ -40,10 +33,6 @@ away_from : (p : Place) (f : Flight) (fs : List Flight) → Each (λ q. p ≢ q)
 away_from p f [] h = h.0
 away_from p f (g ∷ fs) h = away_from p g fs h.1
 
-false_is : (t : Bool) → (t ≡ true → ⊥) → t ≡ false
-false_is true h = absurd (h refl)
-false_is false h = refl
-
 and_false : (a b : Bool) → a ≡ false → a && b ≡ false
 and_false true b e = absurd (cc)
 and_false false b e = refl
@@ -57,7 +46,7 @@ and_true false b e f = absurd (cc)
 direction : (p : Piece) (begin end : Place) → p.begin ≡ begin → p.end ≡ end → begin ≢ end → (r : Bool) → p.reverse ≡ r → Filed p → (same_place p.fare.key.from end && same_place p.fare.key.to begin) ≡ r
 direction p begin end b e differ false is h =
     let filed = subst (λ t. MatchBool t ((p.fare.key.from ≡ p.end) × (p.fare.key.to ≡ p.begin)) ((p.fare.key.from ≡ p.begin) × (p.fare.key.to ≡ p.end))) is h in
-    and_false _ _ (false_is _ (λ t. differ (sym (filed.0 ∙ b) ∙ (places_told p.fare.key.from end).0 t)))
+    and_false _ _ (not_true _ (λ t. differ (sym (filed.0 ∙ b) ∙ (places_told p.fare.key.from end).0 t)))
 direction p begin end b e differ true is h =
     let filed = subst (λ t. MatchBool t ((p.fare.key.from ≡ p.end) × (p.fare.key.to ≡ p.begin)) ((p.fare.key.from ≡ p.begin) × (p.fare.key.to ≡ p.end))) is h in
     and_true _ _ ((places_told p.fare.key.from end).1 (filed.0 ∙ e)) ((places_told p.fare.key.to begin).1 (filed.1 ∙ b))

@@ -1,23 +1,11 @@
 -- Lists that are split at an element, and lists that match.
-use Rattle.std.proofs.Common.{◌≡◌, List, [], ◌∷◌, ◌++◌, length, Option, Some, None, IfSome, refl, ap, sym, subst, inl, inr, arith}
+use Rattle.std.proofs.Common.{◌≡◌, List, [], ◌∷◌, ◌++◌, Option, Some, None, IfSome, refl, ap, subst, inl, inr}
 use Rattle.std.specs.List.{filter_map, cons_option}
 use Rattle.fare_law.specs.Lists.{Each, IsIn, Matched}
 
 pub each_split : {A : Type 0} (P : A → Type 0) (xs : List A) → ((before : List A) (x : A) (after : List A) → xs ≡ before ++ x ∷ after → P x) → Each P xs
 each_split P [] h = tt
 each_split P (x ∷ xs) h = (h [] x xs refl, each_split P xs (λ before y after e. h (x ∷ before) y after (ap (λ ys. x ∷ ys) e)))
-
-pub each_in : {A : Type 0} (P : A → Type 0) (xs : List A) (x : A) → Each P xs → IsIn x xs → P x
-each_in P [] x h i = absurd i
-each_in P (y ∷ xs) x h i = elim i [ inl e ↦ subst P (sym e) h.0 | inr k ↦ each_in P xs x h.1 k ]
-
-pub in_each : {A : Type 0} (P : A → Type 0) (xs : List A) → ((x : A) → IsIn x xs → P x) → Each P xs
-in_each P [] h = tt
-in_each P (x ∷ xs) h = (h x (inl refl), in_each P xs (λ y i. h y (inr i)))
-
-pub each_to : {A : Type 0} (P Q : A → Type 0) (xs : List A) → ((x : A) → P x → Q x) → Each P xs → Each Q xs
-each_to P Q [] to h = tt
-each_to P Q (x ∷ xs) to h = (to x h.0, each_to P Q xs to h.1)
 
 -- what an element of a list is matched with
 pub record Mate {X Y : Type 0} (R : X → Y → Type 0) (x : X) (ys : List Y) : Type 0 where
@@ -33,12 +21,6 @@ mate_between R (w ∷ before) x after (y ∷ ys) m = let r = mate_between R befo
 
 pub mate_of : {X Y : Type 0} (R : X → Y → Type 0) (xs : List X) (ys : List Y) → Matched R xs ys → (before : List X) (x : X) (after : List X) → xs ≡ before ++ x ∷ after → Mate R x ys
 mate_of R xs ys m before x after e = mate_between R before x after ys (subst (λ zs. Matched R zs ys) e m)
-
-pub matched_length : {X Y : Type 0} (R : X → Y → Type 0) (xs : List X) (ys : List Y) → Matched R xs ys → length xs ≡ length ys
-matched_length R [] [] m = refl
-matched_length R [] (y ∷ ys) m = absurd m
-matched_length R (x ∷ xs) [] m = absurd m
-matched_length R (x ∷ xs) (y ∷ ys) m = omega (arith, matched_length R xs ys m.1)
 
 each_cons : {Y : Type 0} (P : Y → Type 0) (o : Option Y) (ys : List Y) → IfSome o P → Each P ys → Each P (cons_option o ys)
 each_cons P None ys h k = k

@@ -15,25 +15,6 @@ not_both [] e h k = absurd (omega (arith, e))
 not_both (p ∷ []) e h k = absurd (omega (arith, e))
 not_both (p ∷ q ∷ ps) e h k = elim k.0 [ inl x ↦ x.1 h.0.1 | inr y ↦ y.0 h.0.0 ]
 
--- a unit has one kind
-pub one_kind : (j k : UnitKind) (ps : List Piece) → IsUnit j ps → IsUnit k ps → j ≡ k
-one_kind OneWay OneWay ps h i = refl
-one_kind OneWay RoundTrip ps h i = absurd (omega (arith, h.0, i.0))
-one_kind OneWay OpenJaw ps h i = absurd (omega (arith, h.0, i.0))
-one_kind OneWay Circle ps h i = absurd (omega (arith, h.0, i.0))
-one_kind RoundTrip OneWay ps h i = absurd (omega (arith, h.0, i.0))
-one_kind RoundTrip RoundTrip ps h i = refl
-one_kind RoundTrip OpenJaw ps h i = absurd (not_both ps h.0 h.2 i.2)
-one_kind RoundTrip Circle ps h i = absurd (omega (arith, h.0, i.0))
-one_kind OpenJaw OneWay ps h i = absurd (omega (arith, h.0, i.0))
-one_kind OpenJaw RoundTrip ps h i = absurd (not_both ps h.0 i.2 h.2)
-one_kind OpenJaw OpenJaw ps h i = refl
-one_kind OpenJaw Circle ps h i = absurd (omega (arith, h.0, i.0))
-one_kind Circle OneWay ps h i = absurd (omega (arith, h.0, i.0))
-one_kind Circle RoundTrip ps h i = absurd (omega (arith, h.0, i.0))
-one_kind Circle OpenJaw ps h i = absurd (omega (arith, h.0, i.0))
-one_kind Circle Circle ps h i = refl
-
 pub no_empty_unit : (k : UnitKind) → IsUnit k [] → ⊥
 no_empty_unit OneWay h = let z : length {A = Piece} [] ≡ 0 = refl in omega (arith, h.0, z)
 no_empty_unit RoundTrip h = let z : length {A = Piece} [] ≡ 0 = refl in omega (arith, h.0, z)

@@ -10,8 +10,9 @@ use Rattle.fare_law.specs.Units.{IsUnit, UnitLawful, FareHolds, MayStand, Season
 use Rattle.ticket_demands.specs.declared.demand.UnitDemand.{UnitDemand}
 use Rattle.ticket_demands.specs.declared.demand.UnitDemand.TheVariants.{Shape, FareKind, FirstDay, TravelDates, Stay, Combination}
 use Rattle.ticket_demands.specs.Breaches.{InUnit, PartMeets}
-use Rattle.ticket_whole.proofs.Splits.{each_in}
-use Rattle.ticket_whole.proofs.UnitEnds.{one_kind, no_empty_unit, in_unit_of, each_unit_of, AtEnds, to_ends, from_ends, ends_to, ends_both, ends_each}
+use Rattle.ticket_whole.proofs.UnitEnds.{no_empty_unit, in_unit_of, each_unit_of, AtEnds, to_ends, from_ends, ends_to, ends_both, ends_each}
+use Rattle.law_lemmas.proofs.EachOne.{each_in}
+use Rattle.ticket_demands.proofs.OneKind.{kind_once}
 
 -- what binds a piece of a unit of this kind, by the unit's ends
 abbrev Binds : UnitKind → List Piece → Piece → Piece → Piece → Type 0
@@ -21,7 +22,7 @@ Binds kind ps p a z = FareHolds kind a.first_day z.first_day z.last_day ps p
 bound : (ps : List Piece) (p : Piece) (kind : UnitKind) → UnitLawful ps → IsIn p ps → IsUnit kind ps → AtEnds (Binds kind ps p) ps
 bound ps p kind u i is =
     let ends = to_ends (λ a z. Each (FareHolds u.0 a.first_day z.first_day z.last_day ps) ps) ps u.2 in
-    subst (λ k. AtEnds (Binds k ps p) ps) (one_kind u.0 kind ps u.1 is)
+    subst (λ k. AtEnds (Binds k ps p) ps) (kind_once u.0 kind ps u.1 is)
     (ends_to _ _ ps (λ a z h. each_in (FareHolds u.0 a.first_day z.first_day z.last_day ps) ps p h i) ends)
 
 -- what is part of what binds a piece holds in the unit

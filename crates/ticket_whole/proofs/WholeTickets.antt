@@ -22,8 +22,9 @@ use Rattle.ticket_whole.proofs.ComponentParts.{StandsAs, stands_as}
 use Rattle.ticket_whole.proofs.FlownCuts.{flown_meets, meets_flown}
 use Rattle.ticket_whole.proofs.LabelTurns.{StandFrom, stand_numbered}
 use Rattle.ticket_whole.proofs.PartLookups.{numbers_known, part_is, parts_are}
-use Rattle.ticket_whole.proofs.Splits.{Mate, mate_of, each_in, in_each, each_split, each_gathered, if_some_all}
+use Rattle.ticket_whole.proofs.Splits.{Mate, mate_of, each_split, each_gathered, if_some_all}
 use Rattle.ticket_whole.proofs.UnitHolds.{lawful_unit, unit_lawful}
+use Rattle.law_lemmas.proofs.EachOne.{each_from, each_in}
 
 flights_are : (b : Book) (q : Request) (cs : List Component) (parts : List Part) → Matched (IsPart b q) cs parts → flights_of b cs ≡ flat_map (λ part. part.flights) parts
 flights_are b q [] [] m = refl
@@ -122,7 +123,7 @@ module _ (t : Ticket) (b : Book) (q : Request) (met : (d : Demand) → Met b q t
           (meets_flown b None q.slices (flights_of b t.components) (met (OfJourney Slices)).whole (met (OfJourney Length)).whole (met (OfJourney Places)).whole (met (OfJourney Connections)).whole (met (OfJourney Window)).whole);
       components = parts_lawful b q t.components stood;
       numbered = subst (Numbered 0) (sym (labels_are b q t.components parts matched)) ((stand_numbered (map (λ (c : Component). c.unit) t.components)).0 (all_stand [] t.components (λ before c after e. (met Labels).each before c after e)));
-      units = in_each (λ part. UnitLawful (unit_of part.unit parts)) parts (unit_lawful parts in_units);
+      units = each_from (λ part. UnitLawful (unit_of part.unit parts)) parts (unit_lawful parts in_units);
       end_on_end = (met EndOnEnd).whole;
       straddling = subst AtMostTwoStraddle (sym (labels_are b q t.components parts matched)) (met Straddling).whole;
     },

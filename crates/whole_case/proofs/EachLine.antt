@@ -7,14 +7,12 @@ use Rattle.whole_case.specs.declared.refusals.LoadFault.TheVariants.{Refused, Me
 use Rattle.whole_case.specs.declared.refusals.Refusal.{Refusal}
 use Rattle.whole_case.specs.ServeCases.{each_of}
 use Rattle.whole_case.specs.Stages.{Reads, Stage}
+use Rattle.law_lemmas.proofs.Options.{ok_same}
 
 -- with what was given before in front
 abbrev pub in_front : {A : Type 0} → List A → Result (List A) Refusal → Result (List A) Refusal
 in_front front (Ok rest) = Ok (front ++ rest)
 in_front front (Err refusal) = Err refusal
-
-ok_same : {A E : Type 0} (a b : A) → ◌≡◌ {A = Result A E} (Ok a) (Ok b) → a ≡ b
-ok_same a b e = cc
 
 -- what the lines from a place on come to, all lines come to, with what was given before in front
 abbrev pub LeadsOn : {X A : Type 0} → (X → Stage A) → List X → List A → ℕ → Type 0

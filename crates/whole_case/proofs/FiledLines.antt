@@ -11,9 +11,7 @@ use Rattle.whole_case.specs.declared.refusals.LoadFault.TheVariants.{Refused, Me
 use Rattle.whole_case.specs.declared.refusals.Refusal.{Refusal}
 use Rattle.whole_case.specs.Filings.{are_taken, filed, filed_version, kept, next, version}
 use Rattle.whole_case.specs.Stages.{Reads}
-
-ok_same : {A E : Type 0} (a b : A) → ◌≡◌ {A = Result A E} (Ok a) (Ok b) → a ≡ b
-ok_same a b e = cc
+use Rattle.law_lemmas.proofs.Options.{ok_same}
 
 -- what the lines from a place on come to, the lines before them come to
 pub filed_on : (b : Book) (front rest : List TextLine) (named : Book) → filed b front (Ok named) → (outcome : Result Book Refusal) → filed named rest outcome → filed b (front ++ rest) outcome

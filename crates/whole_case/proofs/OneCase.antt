@@ -20,7 +20,8 @@ use Rattle.whole_case.specs.Refusals.{of_certificate, of_ticket}
 use Rattle.whole_case.specs.Stages.{IsOne, done}
 use Rattle.whole_case.specs.Tickets.{ticket_in}
 use Rattle.whole_case.proofs.CaseSteps.{after_certificate, after_ticket, after_two, at_version, checked, searched, spanned, ticketed, to_calendar, to_check, to_verdict}
-use Rattle.whole_case.proofs.OneOutcome.{none_some, one_done, one_number, one_then, one_told}
+use Rattle.whole_case.proofs.OneOutcome.{one_done, one_number, one_then, one_told}
+use Rattle.law_lemmas.proofs.Options.{none_some, some_same}
 
 one_after : {A : Type 0} (at : Option ℕ) (asked : AskedCase) (a : A) → IsOne (at_version at asked a)
 one_after at asked a = one_then (has_version at (length asked.filings)) (λ u. done a) (one_number at (length asked.filings)) (λ u. one_done a)
@@ -29,9 +30,6 @@ one_after at asked a = one_then (has_version at (length asked.filings)) (λ u. d
 -- want of memory refuses no case
 refusal_apart : (fault : CertFault) (refusal : Refusal) → of_certificate fault ≡ Some refusal → fault ≢ Mem
 refusal_apart fault refusal e m = none_some refusal (sym (ap of_certificate m) ∙ e)
-
-some_same : {A : Type 0} (a b : A) → Some a ≡ Some b → a ≡ b
-some_same a b e = cc
 
 module _ (one : OneCertificate) (none : NoFault) (fault : OneFault) where
   one_certificate : (lines : List TextLine) (end : ℕ) → IsOne (certificate_in lines end)

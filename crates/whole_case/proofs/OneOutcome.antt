@@ -28,6 +28,7 @@ use Rattle.whole_case.specs.Requests.{allowed_in, request_in, sole_request, spel
 use Rattle.whole_case.specs.Stages.{IsOne, Stage, done, told, ◌>>=◌}
 use Rattle.whole_case.specs.Timetables.{flights_of, opening_of, seats_apart, sections_in, timetable_of}
 use Rattle.whole_case.proofs.AskedSteps.{after_book, after_form, after_opening, after_request, asked_of, opening}
+use Rattle.law_lemmas.proofs.Options.{none_some, ok_or_fault, ok_same, some_same}
 
 -- what is known of the layers below, as their law functions give it
 pub record Known : Type 0 where
@@ -38,17 +39,8 @@ pub record Known : Type 0 where
   pub no_repeat : (rows : List SeatRow) (line : ℕ) → AllDifferent (map row_key rows) → FirstRepeat rows line → ⊥
   pub filing_fault : (b : Book) (filing : Filing) (at other : ℕ) (why reason : BookWhy) → Fault b filing at why → Fault b filing other reason → (at ≡ other) × (why ≡ reason)
 
-pub ok_same : {A E : Type 0} (a b : A) → ◌≡◌ {A = Result A E} (Ok a) (Ok b) → a ≡ b
-ok_same a b e = cc
-
 err_same : {A E : Type 0} (a b : E) → ◌≡◌ {A = Result A E} (Err a) (Err b) → a ≡ b
 err_same a b e = cc
-
-some_same : {A : Type 0} (a b : A) → Some a ≡ Some b → a ≡ b
-some_same a b e = cc
-
-not_both : {A E : Type 0} (a : A) (e : E) → ◌≡◌ {A = Result A E} (Ok a) (Err e) → ⊥
-not_both a e h = cc
 
 -- ---- stages one after another
 pub one_done : {A : Type 0} (a : A) → IsOne (done a)
@@ -56,25 +48,21 @@ one_done a x y p q = p ∙ sym q
 
 pub one_then : {A B : Type 0} (first : Stage A) (then : A → Stage B) → IsOne first → ((a : A) → IsOne (then a)) → IsOne (first >>= then)
 one_then first then f t (Ok b) (Ok c) (a, p, q) (d, r, s) = t a (Ok b) (Ok c) q (subst (λ x. then x (Ok c)) (sym (ok_same a d (f (Ok a) (Ok d) p r))) s)
-one_then first then f t (Ok b) (Err refusal) (a, p, q) (inl r) = absurd (not_both a refusal (f (Ok a) (Err refusal) p r))
+one_then first then f t (Ok b) (Err refusal) (a, p, q) (inl r) = absurd (ok_or_fault a refusal (f (Ok a) (Err refusal) p r))
 one_then first then f t (Ok b) (Err refusal) (a, p, q) (inr (d, r, s)) = t a (Ok b) (Err refusal) q (subst (λ x. then x (Err refusal)) (sym (ok_same a d (f (Ok a) (Ok d) p r))) s)
-one_then first then f t (Err refusal) (Ok b) (inl r) (a, p, q) = absurd (not_both a refusal (f (Ok a) (Err refusal) p r))
+one_then first then f t (Err refusal) (Ok b) (inl r) (a, p, q) = absurd (ok_or_fault a refusal (f (Ok a) (Err refusal) p r))
 one_then first then f t (Err refusal) (Ok b) (inr (d, r, s)) (a, p, q) = t d (Err refusal) (Ok b) s (subst (λ x. then x (Ok b)) (ok_same a d (f (Ok a) (Ok d) p r)) q)
 one_then first then f t (Err one) (Err other) (inl p) (inl q) = ap Err (err_same one other (f (Err one) (Err other) p q))
-one_then first then f t (Err one) (Err other) (inl p) (inr (a, q, r)) = absurd (not_both a one (f (Ok a) (Err one) q p))
-one_then first then f t (Err one) (Err other) (inr (a, q, r)) (inl p) = absurd (not_both a other (f (Ok a) (Err other) q p))
+one_then first then f t (Err one) (Err other) (inl p) (inr (a, q, r)) = absurd (ok_or_fault a one (f (Ok a) (Err one) q p))
+one_then first then f t (Err one) (Err other) (inr (a, q, r)) (inl p) = absurd (ok_or_fault a other (f (Ok a) (Err other) q p))
 one_then first then f t (Err one) (Err other) (inr (a, p, q)) (inr (d, r, s)) = t a (Err one) (Err other) q (subst (λ x. then x (Err other)) (sym (ok_same a d (f (Ok a) (Ok d) p r))) s)
 
 -- what a reader tells
 pub one_told : {A F : Type 0} (spelled : Result A F) (refusal_of : F → Option Refusal) → IsOne (told spelled refusal_of)
 one_told spelled refusal_of (Ok a) (Ok b) p q = ap Ok (ok_same a b (sym p ∙ q))
-one_told spelled refusal_of (Ok a) (Err refusal) p (fault, q, e) = absurd (not_both a fault (sym p ∙ q))
-one_told spelled refusal_of (Err refusal) (Ok a) (fault, q, e) p = absurd (not_both a fault (sym p ∙ q))
+one_told spelled refusal_of (Ok a) (Err refusal) p (fault, q, e) = absurd (ok_or_fault a fault (sym p ∙ q))
+one_told spelled refusal_of (Err refusal) (Ok a) (fault, q, e) p = absurd (ok_or_fault a fault (sym p ∙ q))
 one_told spelled refusal_of (Err one) (Err other) (fault, p, e) (later, q, g) = ap Err (some_same one other (sym e ∙ ap refusal_of (err_same fault later (sym p ∙ q)) ∙ g))
-
--- ---- the request
-pub none_some : {A : Type 0} (a : A) → ◌≡◌ {A = Option A} None (Some a) → ⊥
-none_some a e = cc
 
 one_allowed : (b : Book) (line : ℕ) (request : Request) → IsOne (allowed_in b line request)
 one_allowed b line request (Ok u) (Ok v) p q = refl

@@ -19,9 +19,10 @@ use Rattle.whole_case.specs.ServeCases.{asked_in, each_of, script_in, serve_case
 use Rattle.whole_case.specs.Stages.{IsOne, Stage, done, ◌>>=◌}
 use Rattle.whole_case.specs.Timetables.{opening_of, sections_in}
 use Rattle.whole_case.proofs.EachLine.{each_such}
-use Rattle.whole_case.proofs.OneOutcome.{Known, ok_same, one_done, one_opening, one_request, one_then, one_told, one_version}
+use Rattle.whole_case.proofs.OneOutcome.{Known, one_done, one_opening, one_request, one_then, one_told, one_version}
 use Rattle.whole_case.proofs.RightRequests.{right_with}
 use Rattle.whole_case.proofs.ServeSteps.{after_asks, after_filed, after_later, after_form, after_opened, serve_of}
+use Rattle.law_lemmas.proofs.Options.{ok_same}
 
 one_each : {X A : Type 0} (stage : X → Stage A) → ((x : X) → IsOne (stage x)) → (xs : List X) → IsOne (each_of stage xs)
 one_each stage one [] = one_done []

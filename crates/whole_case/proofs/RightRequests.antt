@@ -23,7 +23,7 @@ use Rattle.whole_case.specs.Requests.{sole_request, with_best}
 use Rattle.whole_case.proofs.AskedSteps.{asked_of}
 use Rattle.whole_case.proofs.CaseSteps.{spanned, ticketed}
 use Rattle.whole_case.proofs.Judgements.{same_after, tested}
-use Rattle.whole_case.proofs.OneOutcome.{ok_same}
+use Rattle.law_lemmas.proofs.Options.{ok_same}
 
 sole_right : (b : Book) (lines : List TextLine) (q : Request) → sole_request b lines (Ok q) → judged (known_places b) q ≡ None
 sole_right b [] q h = absurd h

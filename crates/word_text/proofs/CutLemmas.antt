@@ -2,10 +2,10 @@
 use Rattle.std.proofs.Common.{◌==◌, is_some, if◌then◌else◌, zero, suc, ◌+◌, ◌-◌, ◌<◌, ◌≤◌, length, take, drop, get_or, arith, subst, sym, ◌∙◌, add-one, drop-cons, length-drop, ◌≡◌, ◌≢◌, ℕ, Bool, true, false, List, [], ◌∷◌, ◌++◌, Option, Some, None, option_map, refl, ap, eq-eqb, ne_eqb}
 use Rattle.std.proofs.lemmas.List.{take_all, take-append-drop}
 use Rattle.std.proofs.lemmas.Bool.{true≢false}
-use Rattle.std.proofs.lemmas.Bool.Decides.{nat_tests}
 use Rattle.std.proofs.lemmas.Option.{some_pair_parts}
 use Rattle.word_text.specs.Laws.{CutTells, LastCutTells}
 use Rattle.word_text.specs.Words.{IsFreeOf, cut_at, cut_last_at}
+use Rattle.law_lemmas.proofs.Tests.{same_byte}
 
 -- what stands before the separator and after it is found again
 pub cut_again : (c : ℕ) (word rest : List ℕ) → IsFreeOf c word → cut_at c (word ++ c ∷ rest) ≡ Some (word, rest)
@@ -24,9 +24,6 @@ cut_of c text word rest e h = rw e (cut_again c word rest h)
 
 both : {A B : Type 0} (a x : A) (b y : B) → ◌≡◌ {A = Option (A × B)} (Some (a, b)) (Some (x, y)) → (a ≡ x) × (b ≡ y)
 both = some_pair_parts
-
-same_byte : (b c : ℕ) → (b == c) ≡ true → b ≡ c
-same_byte b c e = grind (arith, nat_tests)
 
 other_byte : (b c : ℕ) → (b == c) ≡ false → b ≢ c
 other_byte b c e same = true≢false (sym (eq-eqb b c same) ∙ e)

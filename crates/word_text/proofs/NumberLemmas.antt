@@ -8,21 +8,19 @@ use Rattle.std.proofs.lemmas.Bool.{le-leb}
 use Rattle.std.proofs.lemmas.Bool.Decides.{nat_tests}
 use Rattle.std.proofs.lemmas.Slice.Eq.{bytes_eq-Decides}
 use Rattle.std.proofs.lemmas.Str.{IsUtf8-from_ascii}
-use Rattle.std.proofs.lemmas.Str.Parse.{IsNumeralModel, numerals_by_value, tells_digits, parse_plain, digit_at}
+use Rattle.std.proofs.lemmas.Str.Parse.{IsNumeralModel, numerals_by_value, parse_plain, digit_at}
 use Rattle.std.proofs.lemmas.Fmt.{decimal-digits_value, digits_decimal, digits_value-decimal, decimal_nonempty, first_decimal, decimal_digit, IsAscii-decimal}
 use Rattle.std.specs.Int.{IsInRange}
 use Rattle.fare_law.specs.Lists.{Each}
 use Rattle.word_text.specs.Laws.{DigitsAre, NumberTells}
 use Rattle.word_text.specs.Words.{BeginsAsNumber, number_in}
-
-own : IsNumeralModel (AllDigits 10) (digits_value 10)
-own = numerals_by_value (AllDigits 10) tells_digits
+use Rattle.law_lemmas.proofs.Words.{decimal_model}
 
 -- a number's own digits are read as it
 pub number_again : (most n : ℕ) → n ≤ most → n < 2 ^ 64 → number_in most (decimal n) ≡ Some n
 unfolding number_in
 number_again most n h small =
-    rw (digits_value-decimal own n small, le-leb n most h, (bytes_eq-Decides (decimal n) (decimal n)).1 refl) refl
+    rw (digits_value-decimal decimal_model n small, le-leb n most h, (bytes_eq-Decides (decimal n) (decimal n)).1 refl) refl
 
 -- a number that is read is at most the greatest, and the text is its digits
 pub number_read : (most n : ℕ) (text : List ℕ) → number_in most text ≡ Some n → (n ≤ most) × (text ≡ decimal n)
@@ -49,7 +47,7 @@ number_none most text none = go (number_in most text) refl
 begins : (n : ℕ) → n < 2 ^ 64 → BeginsAsNumber (decimal n)
 begins n small = elim (eq-zero-or-pos n) [
   | inl zero ↦ inr (subst (λ m. decimal m ≡ 48 ∷ []) (sym zero) (decimal_digit 0 (omega arith)))
-  | inr more ↦ inl (omega (arith, first_decimal n more small), (digit_at (decimal n) 0 (digits_decimal own n small) (decimal_nonempty n small)).1)
+  | inr more ↦ inl (omega (arith, first_decimal n more small), (digit_at (decimal n) 0 (digits_decimal decimal_model n small) (decimal_nonempty n small)).1)
 ]
 
 -- no sign
@@ -73,15 +71,15 @@ not_text text other = sym (number_none (2 ^ 64 - 1) text (λ n h e. other (subst
 -- what is parsed of a text that begins as a number does
 pub parsed : {E : Type 0} (text : List ℕ) (r : Result ℕ E) → BeginsAsNumber text → ParsesUnsigned 64 10 text r → result_ok r ≡ number_in (2 ^ 64 - 1) text
 parsed {E = E} text (Ok n) b p =
-    let h = parse_plain own {E = E} 64 text (Ok n) p (no_plus text b) in
+    let h = parse_plain decimal_model {E = E} 64 text (Ok n) p (no_plus text b) in
     let small : n < 2 ^ 64 = omega (arith, h.0.2, h.1) in
-    let digits : decimal n ≡ text = ap decimal h.1 ∙ decimal-digits_value own text h.0.0 h.0.1 (alone text b) (omega (arith, h.0.2)) in
+    let digits : decimal n ≡ text = ap decimal h.1 ∙ decimal-digits_value decimal_model text h.0.0 h.0.1 (alone text b) (omega (arith, h.0.2)) in
     sym (subst (λ (t : List ℕ). number_in (2 ^ 64 - 1) t ≡ Some n) digits (number_again (2 ^ 64 - 1) n (omega arith) small))
 parsed {E = E} text (Err e) b p =
-    let k = parse_plain own {E = E} 64 text (Err e) p (no_plus text b) in
+    let k = parse_plain decimal_model {E = E} 64 text (Err e) p (no_plus text b) in
     sym (number_none (2 ^ 64 - 1) text (λ n h w.
     let small : n < 2 ^ 64 = omega (arith, h) in
-    k (subst (AllDigits 10) (sym w) (digits_decimal own n small), omega (arith, ap length w, decimal_nonempty n small), omega (arith, ap (digits_value 10) w, digits_value-decimal own n small, small))))
+    k (subst (AllDigits 10) (sym w) (digits_decimal decimal_model n small), omega (arith, ap length w, decimal_nonempty n small), omega (arith, ap (digits_value 10) w, digits_value-decimal decimal_model n small, small))))
 
 -- a smaller greatest number
 pub number_within : (most n : ℕ) (text : List ℕ) → number_in (2 ^ 64 - 1) text ≡ Some n → n ≤ most → Some n ≡ number_in most text

@@ -1,5 +1,6 @@
 use Rattle.std.proofs.Common.{◌*◌}
-use Rattle.case_maker.proofs.PageSteps.{none, more, two, all, whenever}
+use Rattle.case_maker.proofs.PageSteps.{none, more, two, all}
+use Rattle.law_lemmas.proofs.Options.{on_ok}
 use Rattle.case_maker.proofs.filing.push_filing.Goals as goal
 
 pub loop-j-init : goal.loop-j-init
@@ -16,7 +17,7 @@ loop-i-preserved c = more _ _ c.loop-i.i c.loop-i.invariant c.in_ok-push_hub_far
 
 pub returns : goal.returns
 returns c =
-    whenever c.say-2.result _ _
+    on_ok c.say-2.result _ _
     (λ last. two _ _ _ c.in_ok-say.ensures (two _ _ _ c.in_ok-say_all.ensures (two _ _ _
     (all _ _ (2 * c.args.size) c.loop-j.j c.loop-j-test.false c.loop-j.auto.j-end c.loop-j.invariant)
     (two _ _ _ c.in_ok-push_free_fare.ensures (two _ _ _ (all _ _ c.args.size c.loop-i.i c.loop-i-test.false c.loop-i.auto.i-end c.loop-i.invariant) last)))))

@@ -3,7 +3,7 @@ use Rattle.market_time.specs.Clock.{time_text}
 use Rattle.case_maker.specs.declared.legs.Leg.{Leg}
 use Rattle.case_maker.specs.Drawing.{Made, going_on}
 use Rattle.case_maker.specs.Tables.{row}
-use Rattle.case_maker.proofs.PageSteps.{whenever}
+use Rattle.law_lemmas.proofs.Options.{on_ok}
 use Rattle.case_maker.proofs.tables.push_flight.Goals as goal
 
 abbrev written : Made → Leg → List ℕ → List ℕ → List ℕ → Made
@@ -14,7 +14,7 @@ pub returns : goal.returns
 returns c =
     let page = c.args.page.now in
     let leg = c.args.leg in
-    whenever c.say_row.result _ _
+    on_ok c.say_row.result _ _
     (λ said. said ∙ ap (λ n. written page leg n c.clock_time-departure.result c.clock_time-arrival.result) (c.as_bytes-number.ensures.value ∙ c.format.ensures.text)
     ∙ ap (λ d. written page leg (decimal leg.number) d c.clock_time-arrival.result) c.clock_time-departure.ensures
     ∙ ap (λ a. written page leg (decimal leg.number) (time_text c.args.departs) a) c.clock_time-arrival.ensures)

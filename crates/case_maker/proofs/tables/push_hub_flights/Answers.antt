@@ -2,7 +2,8 @@ use Rattle.std.proofs.Common.{◌∙◌, ◌+◌, ap, ℕ, List}
 use Rattle.case_maker.specs.Drawing.{Making, going_on, ◌before◌}
 use Rattle.case_maker.specs.Names.{home, away, out_date, back_date}
 use Rattle.case_maker.specs.Tables.{drawn_flight}
-use Rattle.case_maker.proofs.PageSteps.{two, whenever}
+use Rattle.case_maker.proofs.PageSteps.{two}
+use Rattle.law_lemmas.proofs.Options.{on_ok}
 use Rattle.case_maker.proofs.tables.push_hub_flights.Goals as goal
 
 abbrev flights_by : ℕ → List ℕ → Making
@@ -14,7 +15,7 @@ flights_by i name =
 
 pub returns : goal.returns
 returns c =
-    whenever c.push_drawn_flight-4.result _ _
+    on_ok c.push_drawn_flight-4.result _ _
     (λ last. two _ _ _ c.in_ok-push_drawn_flight.ensures (two _ _ _ c.in_ok-push_drawn_flight-2.ensures (two _ _ _ c.in_ok-push_drawn_flight-3.ensures last))
     ∙ ap (λ name. going_on c.args.page.now (flights_by c.args.i name)) c.hub_name-hub.ensures)
     c.push_drawn_flight-4.ensures

@@ -1,6 +1,7 @@
 use Rattle.std.proofs.Common.{◌≡◌, true, get_or, arith}
 use Rattle.certificate.specs.AnswerCheck.{AnswerRight}
-use Rattle.certificate_check.proofs.FromFront.{all_next, all_none, take_length, wrong_at}
+use Rattle.certificate_check.proofs.FromFront.{all_next, take_length, wrong_at}
+use Rattle.certificate.proofs.SomeFailure.{all_none}
 use Rattle.certificate_check.proofs.answering.answers_fail.Goals as goal
 
 pub loop-i-init : goal.loop-i-init

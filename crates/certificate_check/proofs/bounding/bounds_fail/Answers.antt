@@ -4,10 +4,11 @@ use Rattle.certificate.specs.BoundCheck.{BoundRight}
 use Rattle.certificate.specs.declared.parts.CertRow.{CertRow}
 use Rattle.certificate_check.proofs.AllowedBounds.{right_told}
 use Rattle.certificate_check.proofs.ByNumbers.{key_got}
-use Rattle.certificate_check.proofs.FromFront.{all_next, all_none, wrong_at}
+use Rattle.certificate_check.proofs.FromFront.{all_next, wrong_at}
 use Rattle.certificate_check.proofs.LaterSteps.{has_still, entry_still, later_still, same_steps}
 use Rattle.certificate_check.proofs.RowTables.{as_many}
 use Rattle.search_steps.specs.Keys.{live, state}
+use Rattle.certificate.proofs.SomeFailure.{all_none}
 use Rattle.certificate_check.proofs.bounding.bounds_fail.Goals as goal
 
 pub loop-i-init : goal.loop-i-init

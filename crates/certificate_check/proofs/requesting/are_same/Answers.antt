@@ -1,5 +1,5 @@
 use Rattle.std.proofs.lemmas.Slice.Eq.{slice_eq-Decides}
-use Rattle.certificate_check.proofs.SameParts.{slices_tell}
+use Rattle.law_lemmas.proofs.Names.{slices_tell}
 use Rattle.certificate_check.proofs.requesting.are_same.Goals as goal
 
 pub returns : goal.returns

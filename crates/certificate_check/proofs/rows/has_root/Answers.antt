@@ -1,8 +1,8 @@
 use Rattle.std.proofs.Common.{◌≡◌, ◌∙◌, true, get_or, refl, sym, ap, inl, inr}
 use Rattle.std.proofs.lemmas.Option.{get_or_from_slice_get, slice_get_within}
 use Rattle.certificate_check.proofs.EachSoFar.{in_at, in_next}
-use Rattle.certificate_check.proofs.LeastDepartures.{root_one}
 use Rattle.certificate_check.proofs.RootAt.{root_at, root_row}
+use Rattle.certificate.proofs.YesIsBest.{root_same}
 use Rattle.certificate_check.proofs.rows.has_root.Goals as goal
 
 pub returns-then-is_same : goal.returns-then-is_same
@@ -27,6 +27,6 @@ loop-place-preserved c =
       | inl k ↦ c.loop-place.invariant (h.0, k, h.2)
       | inr e ↦
           let at = root_at c.args.book.now c.args.request.now c.root-root.result c.requires c.root-root.ensures.root in
-          let t = c.is_same.ensures.1 (ap (λ z. z.residual) (sym e) ∙ root_one c.args.book.now c.args.request.now h.0.residual c.root-root.result h.2 at) in
+          let t = c.is_same.ensures.1 (ap (λ z. z.residual) (sym e) ∙ root_same c.args.book.now c.args.request.now h.0.residual c.root-root.result h.2 at) in
           cc
     ]

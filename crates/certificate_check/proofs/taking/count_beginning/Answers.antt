@@ -1,9 +1,9 @@
 use Rattle.std.proofs.Common.{◌≡◌, ◌+◌, ℕ, true, false, take, sym, subst, arith}
 use Rattle.certificate_check.specs.Fronts.{CountsBeginning}
 use Rattle.certificate_check.proofs.Begins.{count_none, count_one}
-use Rattle.certificate_check.proofs.FromFront.{take_next}
 use Rattle.certificate_check.proofs.taking.count_beginning.Goals as goal
 use Rattle.certificate_check.proofs.taking.count_beginning.Goals.{then-begins_with, else-begins_with}
+use Rattle.law_lemmas.proofs.Lists.{front_is}
 
 pub loop-answer-preserved : goal.loop-answer-preserved
 loop-answer-preserved c =
@@ -12,7 +12,7 @@ loop-answer-preserved c =
     let i = c.loop-answer.answer-index in
     let o = c.answer-item.result in
     let invariant = c.loop-answer.invariant in
-    let more = take_next xs i o c.loop-answer-test.true c.answer-item.is in
+    let more = front_is xs i o c.loop-answer-test.true c.answer-item.is in
     elim c.if-begins_with.branch [
       | then-begins_with w ↦
           let so : c.begins_with.result ≡ true = cc in

@@ -4,9 +4,9 @@ use Rattle.certificate_text.specs.Faults.{Answer, AnswerCount, answers_due}
 use Rattle.certificate_text.specs.Lines.{IsAnswer, answer_line, number_line}
 use Rattle.certificate_text.specs.Unread.{unread}
 use Rattle.fare_law.specs.Lists.{Each}
-use Rattle.certificate_text.proofs.LineFeeds.{each_append}
 use Rattle.certificate_text.proofs.ListLemmas.{DueAfter, item_fault, item_passed}
 use Rattle.certificate_text.proofs.TakingLemmas.{room_all}
+use Rattle.law_lemmas.proofs.EachOne.{each_append}
 use Rattle.certificate_text.proofs.lists.answers.Goals as goal
 
 due_after : DueAfter answers_due Answer

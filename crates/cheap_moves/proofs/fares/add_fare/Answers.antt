@@ -1,8 +1,9 @@
 use Rattle.std.proofs.Common.{◌≡◌, ◌<◌, ◌+◌, ℕ, length, slice_get, Some, sym, ap, ap₂, subst, ◌∙◌}
 use Rattle.cheap_moves.specs.Within.{IsWithin}
 use Rattle.cheap_moves.proofs.FareMoves.{class_low, fare_made, place_low, row_at, share_low}
-use Rattle.cheap_moves.proofs.Looking.{got_same, on_ok}
 use Rattle.fare_law.specs.Sheets.{Sheet}
+use Rattle.law_lemmas.proofs.Lists.{got_same}
+use Rattle.law_lemmas.proofs.Options.{on_ok}
 use Rattle.cheap_moves.proofs.fares.add_fare.Goals as goal
 
 pub is_open-requires : goal.is_open-requires

@@ -4,7 +4,7 @@ use Rattle.cheap_moves.proofs.FareMoves.{fares_more}
 use Rattle.fare_groups.specs.declared.group.GroupedFare.{GroupedFare}
 use Rattle.fare_law.specs.Lists.{IsIn}
 use Rattle.residual_keys.specs.Gathered.{Adds}
-use Rattle.residual_keys.proofs.PathByPath.{read_in}
+use Rattle.law_lemmas.proofs.Members.{read_in}
 use Rattle.cheap_moves.proofs.fares.add_fares.Goals as goal
 
 abbrev no_fare : GroupedFare

@@ -3,20 +3,21 @@ use Rattle.cheap_moves.specs.Making.{HasRows, IsReadOver, IsRowIn}
 use Rattle.cheap_moves.specs.Within.{IsWithin}
 use Rattle.cheap_moves.proofs.FareMoves.{class_low}
 use Rattle.cheap_moves.proofs.GroupMoves.{component_is, group_done, has_row, none_cheap, none_open, none_permitted, rule_within}
-use Rattle.cheap_moves.proofs.Looking.{clash, low_sum}
 use Rattle.fare_groups.specs.declared.group.GroupedFare.{GroupedFare}
 use Rattle.fare_groups.specs.Groups.{Permits, extra_of}
-use Rattle.fare_groups.proofs.Grouped.{in_each}
 use Rattle.fare_law.specs.Parts.{stopover_charge, surcharges}
 use Rattle.fare_law.specs.RuleLimits.{IsRule}
 use Rattle.fare_law.specs.Sheets.{Sheet}
+use Rattle.law_lemmas.proofs.EachOne.{each_from}
+use Rattle.law_lemmas.proofs.LawFacts.{low_sum}
+use Rattle.law_lemmas.proofs.Tests.{true_false}
 use Rattle.cheap_moves.proofs.groups.add_group.Goals as goal
 
 pub cheapest-requires : goal.cheapest-requires
 cheapest-requires g c =
     let flown = c.args.flown.now in
     let m = c.args.market.now in
-    in_each (λ (f : GroupedFare). f.class ≤ 25) c.args.group.now.fares
+    each_from (λ (f : GroupedFare). f.class ≤ 25) c.args.group.now.fares
     (class_low c.args.search.now.book.now c.args.search.now.request.now c.args.search.now.residual.now.at flown.way.path flown.way.flights flown.way.legs flown.classes c.args.reverse m.sheet.value m.groups c.requires.over.over c.args.group.now c.requires.group)
 
 pub returns-in_default : goal.returns-in_default
@@ -27,7 +28,7 @@ returns-in_default g c =
 pub returns-then-not-is_within : goal.returns-then-not-is_within
 returns-then-not-is_within g c =
     none_cheap c.args.search.now.book.now c.args.search.now.request.now c.args.search.now.residual.now (g.B.ResidualBounds.bound c.args.search.now.bounds.now) c.args.search.now.limit c.args.flown.now c.args.reverse c.args.market.now c.requires.over c.args.group.now c.requires.group
-    c.args.found.now c.in-Some.share c.in-Some.ensures (λ w. clash (c.is_within.ensures.1 (subst (IsWithin c.args.search.now.limit) (sym c.from.ensures) w)) c.if-not-is_within.true)
+    c.args.found.now c.in-Some.share c.in-Some.ensures (λ w. true_false (c.is_within.ensures.1 (subst (IsWithin c.args.search.now.limit) (sym c.from.ensures) w)) c.if-not-is_within.true)
 
 pub first_row-row-requires : goal.first_row-row-requires
 first_row-row-requires g c =

@@ -1,11 +1,11 @@
 use Rattle.std.proofs.Common.{◌<◌, ap, length, slice_index_or, subst, sym, ◌∙◌}
-use Rattle.cheap_moves.proofs.Looking.{first_in, got_lt, got_same}
 use Rattle.fare_groups.specs.declared.group.GroupedFare.{GroupedFare}
 use Rattle.fare_groups.specs.Groups.{group_of}
 use Rattle.fare_law.specs.declared.sheets.SheetRow.{SheetRow}
 use Rattle.fare_law.specs.Lists.{IsIn}
 use Rattle.fare_law.specs.Sheets.{Sheet}
-use Rattle.residual_keys.proofs.Sheeted.{got_in}
+use Rattle.law_lemmas.proofs.Lists.{got_same, got_within}
+use Rattle.law_lemmas.proofs.Members.{first_in, got_in}
 use Rattle.cheap_moves.proofs.groups.first_row.Goals as goal
 
 pub bounds-as_slice-place : goal.bounds-as_slice-place
@@ -16,7 +16,7 @@ bounds-as_slice-place c =
     let within = subst (λ xs. IsIn (slice_index_or xs 0 none) fares) (sym c.as_slice.ensures) (first_in fares none c.requires.some) in
     let x = c.requires.are f within in
     let rows = c.as_slice-2.ensures ∙ ap (λ (s : Sheet). s.rows) c.sheet.view_is in
-    subst (λ rs. f.place < length rs) (sym rows) (got_lt c.args.sheet.now.rows f.place x.0 x.1)
+    subst (λ rs. f.place < length rs) (sym rows) (got_within c.args.sheet.now.rows f.place x.0 x.1)
 
 pub returns : goal.returns
 returns c =

@@ -1,6 +1,6 @@
 use Rattle.cheap_moves.specs.contracts.hopes.PathClassPartialEq.TheImpl as class
 use Rattle.cheap_moves.proofs.Hoped.{are_hopes}
-use Rattle.cheap_moves.proofs.Looking.{if_ok}
+use Rattle.law_lemmas.proofs.Options.{if_ok}
 use Rattle.fare_law.specs.contracts.names.PlacePartialEq.TheImpl as place
 use Rattle.cheap_moves.proofs.hopes.hopes_of.Goals as goal
 

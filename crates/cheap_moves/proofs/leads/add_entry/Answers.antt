@@ -1,7 +1,7 @@
 use Rattle.std.proofs.Common.{subst}
 use Rattle.cheap_moves.proofs.LeadMoves.{lead_had, lead_not}
-use Rattle.cheap_moves.proofs.Looking.{on_ok}
 use Rattle.cheap_moves.specs.Leads.{LeastOf}
+use Rattle.law_lemmas.proofs.Options.{on_ok}
 use Rattle.cheap_moves.proofs.leads.add_entry.Goals as goal
 
 pub returns-in-Some : goal.returns-in-Some

@@ -11,7 +11,7 @@ use Rattle.fare_law.specs.contracts.names.PlacePartialEq.TheImpl as place
 use Rattle.flight_paths.specs.Heads.{AreReached}
 use Rattle.residual_keys.specs.Gathered.{Adds}
 use Rattle.residual_keys.specs.Residuals.{State}
-use Rattle.residual_keys.proofs.PathByPath.{read_in}
+use Rattle.law_lemmas.proofs.Members.{read_in}
 use Rattle.cheap_moves.proofs.listing.gathered.Goals as goal
 
 pub returns-then-from-len-clause-moves : goal.returns-then-from-len-clause-moves

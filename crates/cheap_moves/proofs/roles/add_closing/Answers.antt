@@ -1,5 +1,5 @@
-use Rattle.cheap_moves.proofs.Looking.{on_ok}
 use Rattle.cheap_moves.proofs.RoleMoves.{back_roles}
+use Rattle.law_lemmas.proofs.Options.{on_ok}
 use Rattle.cheap_moves.proofs.roles.add_closing.Goals as goal
 
 pub returns : goal.returns

@@ -1,6 +1,6 @@
 use Rattle.std.proofs.Common.{sym}
-use Rattle.cheap_moves.proofs.Looking.{on_ok}
 use Rattle.cheap_moves.proofs.RoleMoves.{role_had, role_none, role_unbound}
+use Rattle.law_lemmas.proofs.Options.{on_ok}
 use Rattle.cheap_moves.proofs.roles.add_role.Goals as goal
 
 pub returns-in_default : goal.returns-in_default

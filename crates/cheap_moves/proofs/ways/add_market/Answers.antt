@@ -6,7 +6,7 @@ use Rattle.cheap_moves.proofs.Joining.{of_none}
 use Rattle.cheap_moves.proofs.MarketMoves.{market_had}
 use Rattle.fare_law.specs.Lists.{IsIn}
 use Rattle.residual_keys.specs.Gathered.{Adds}
-use Rattle.residual_keys.proofs.PathByPath.{read_in}
+use Rattle.law_lemmas.proofs.Members.{read_in}
 use Rattle.cheap_moves.proofs.ways.add_market.Goals as goal
 
 pub loop-group-init : goal.loop-group-init

@@ -2,11 +2,11 @@ use Rattle.std.proofs.Common.{false, true, sym, subst, ◌∙◌}
 use Rattle.cheap_moves.specs.contracts.hopes.PathClassPartialEq.TheImpl as class
 use Rattle.cheap_moves.specs.Making.{IsWithinFiled}
 use Rattle.cheap_moves.proofs.Hoped.{hopeless}
-use Rattle.cheap_moves.proofs.Looking.{on_ok}
 use Rattle.cheap_moves.proofs.PathMoves.{both_ways, forward_alone}
 use Rattle.fare_law.specs.contracts.names.PlacePartialEq.TheImpl as place
 use Rattle.flight_paths.specs.declared.positions.Path.{Path}
 use Rattle.residual_keys.specs.Gathered.{Adds}
+use Rattle.law_lemmas.proofs.Options.{on_ok}
 use Rattle.cheap_moves.proofs.ways.add_path.Goals as goal
 
 pub returns-then-is_hopeless-clause-moves : goal.returns-then-is_hopeless-clause-moves

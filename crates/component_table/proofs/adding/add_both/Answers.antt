@@ -6,7 +6,7 @@ use Rattle.component_table.proofs.PathFacts.{path_added, path_numbers}
 use Rattle.component_table.proofs.SettledFacts.{both_ways, reaches_end, way_on}
 use Rattle.fare_law.specs.Parts.{Numbers}
 use Rattle.flight_paths.specs.Positions.{IsPath}
-use Rattle.residual_keys.proofs.OneNext.{numbers_one}
+use Rattle.law_lemmas.proofs.LawFacts.{numbers_one}
 use Rattle.component_table.proofs.adding.add_both.Goals as goal
 
 pub returns-in_default-clause-covers : goal.returns-in_default-clause-covers

@@ -4,12 +4,12 @@ use Rattle.component_table.specs.declared.growing.Spot.{Spot}
 use Rattle.component_table.specs.Blocks.{HasOutline, outline_of}
 use Rattle.component_table.proofs.BlockFacts.{block_outline, class_outline}
 use Rattle.component_table.proofs.GroupFacts.{free_below, group_below, group_dear, group_had, had_settled, has_row, low_classes, none_cheap, none_settled, rule_within, share_low}
-use Rattle.component_table.proofs.Lower.{itself}
-use Rattle.component_table.proofs.PathFacts.{low_sum}
 use Rattle.fare_groups.specs.Groups.{Permits, extra_of}
 use Rattle.fare_law.specs.RuleLimits.{IsRule}
 use Rattle.fare_law.specs.Parts.{stopover_charge, surcharges}
 use Rattle.fare_law.specs.Sheets.{Sheet}
+use Rattle.law_lemmas.proofs.LawFacts.{low_sum}
+use Rattle.law_lemmas.proofs.Numbers.{le_itself}
 use Rattle.component_table.proofs.adding.add_group.Goals as goal
 
 pub cheapest-requires : goal.cheapest-requires
@@ -78,7 +78,7 @@ returns-then-is_below-clause-settled c = λ all.
     let o = outline_of f.class key r in
     let spot : Spot = record { block = f.block; key = key; reverse = r; slot = c.args.slot } in
     had_settled f.path.now.after f.flights.now f.classes r c.args.group.now t.entries.items share share o c.in-Some.ensures (class_outline f.class f.path.now.after f.flights.now key r o c.requires.class refl)
-    (c.is_below.ensures c.if-is_below.true c.requires.low o (block_outline t.blocks.items f.class spot c.requires.block)) (itself share)
+    (c.is_below.ensures c.if-is_below.true c.requires.low o (block_outline t.blocks.items f.class spot c.requires.block)) (le_itself share)
 
 pub returns-then-is_below-clause-done : goal.returns-then-is_below-clause-done
 returns-then-is_below-clause-done c = λ p.

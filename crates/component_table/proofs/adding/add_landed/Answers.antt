@@ -4,7 +4,7 @@ use Rattle.component_table.specs.declared.settled.SettledClass.{SettledClass}
 use Rattle.component_table.specs.Classes.{AreSettled, ClassDone, IsOfClass}
 use Rattle.component_table.proofs.RowFacts.{has_rows_on}
 use Rattle.component_table.proofs.SettledFacts.{class_done, settled_added, settled_more, settled_on}
-use Rattle.fare_groups.proofs.Grouped.{each_in}
+use Rattle.law_lemmas.proofs.EachOne.{each_in}
 use Rattle.component_table.proofs.adding.add_landed.Goals as goal
 
 pub returns-then-has-clause-done : goal.returns-then-has-clause-done

@@ -1,10 +1,10 @@
 use Rattle.std.proofs.Common.{◌<◌, ap, length, slice_get, subst, sym, ◌∙◌, arith}
 use Rattle.component_table.specs.Blocks.{HasBlock}
 use Rattle.component_table.proofs.Lower.{covers_on, goes_self}
-use Rattle.component_table.proofs.PathFacts.{read_in}
 use Rattle.component_table.proofs.Served.{between_more, groups_apart, groups_between}
 use Rattle.component_table.proofs.SettledFacts.{groups_next}
 use Rattle.fare_law.specs.Lists.{IsIn}
+use Rattle.law_lemmas.proofs.Members.{read_in}
 use Rattle.component_table.proofs.adding.add_market.Goals as goal
 
 pub returns-then-to-from-clause-done : goal.returns-then-to-from-clause-done

@@ -2,11 +2,12 @@ use Rattle.std.proofs.Common.{ap, length, slice_get, subst, sym, ◌∙◌, arit
 use Rattle.component_table.specs.declared.classes.PathClass.{PathClass}
 use Rattle.component_table.specs.declared.ends.EndKey.{EndKey}
 use Rattle.component_table.specs.Reaches.{IsEnd}
-use Rattle.component_table.proofs.PathFacts.{got_lt, path_numbers}
+use Rattle.component_table.proofs.PathFacts.{path_numbers}
 use Rattle.component_table.proofs.ReachFacts.{end_stands}
 use Rattle.component_table.proofs.Served.{closed_added, reaches_as, unserved_added}
 use Rattle.component_table.proofs.SettledFacts.{of_class}
 use Rattle.fare_law.specs.Parts.{Numbers}
+use Rattle.law_lemmas.proofs.Lists.{got_within}
 use Rattle.component_table.proofs.adding.add_path.Goals as goal
 
 pub returns-in_default-clause-done : goal.returns-in_default-clause-done
@@ -51,7 +52,7 @@ returns-then-classes-eq0-clause-done c = λ p.
 pub end_at-end-requires : goal.end_at-end-requires
 end_at-end-requires c =
     let s = c.in_ok-at.ensures.end in
-    omega (arith, got_lt c.find.new.self.ends.items c.in_ok-at.at s.one s.stands, ap length c.as_slice-ends.ensures.value)
+    omega (arith, got_within c.find.new.self.ends.items c.in_ok-at.at s.one s.stands, ap length c.as_slice-ends.ensures.value)
 
 pub add_landed-requires-clause-landed : goal.add_landed-requires-clause-landed
 add_landed-requires-clause-landed c =

@@ -3,12 +3,12 @@ use Rattle.component_table.specs.declared.markets.Market.{Market}
 use Rattle.component_table.specs.Markets.{IsMarket}
 use Rattle.component_table.specs.Reaches.{FiledAt, StandBetween}
 use Rattle.component_table.specs.Tables.{IsOver, IsPathOver}
-use Rattle.component_table.proofs.FiledFacts.{some_same}
-use Rattle.component_table.proofs.PathFacts.{end_from, end_to, market_over, none_done, on_ok, path_over, way_done}
+use Rattle.component_table.proofs.PathFacts.{end_from, end_to, market_over, none_done, path_over, way_done}
 use Rattle.component_table.proofs.ReachFacts.{end_found}
 use Rattle.fare_book.specs.Keeping.{NoFare}
-use Rattle.fare_groups.proofs.Grouped.{each_in}
-use Rattle.residual_keys.proofs.Sheeted.{got_in}
+use Rattle.law_lemmas.proofs.EachOne.{each_in}
+use Rattle.law_lemmas.proofs.Members.{got_in}
+use Rattle.law_lemmas.proofs.Options.{on_ok, some_one}
 use Rattle.component_table.proofs.adding.add_way.Goals as goal
 
 pub returns-in-Some-clause-done : goal.returns-in-Some-clause-done
@@ -24,7 +24,7 @@ returns-in-Some-clause-done c =
     let f = c.in-Some.filed in
     let found = subst (λ o. MatchOption o (NoFare b (end_from r p e.key.place) (end_to r p e.key.place)) (FiledAt ms (record { from = end_from r p e.key.place; to = end_to r p e.key.place }) e.key.carrier)) (sym c.filed_of.ensures ∙ c.in-Some.is) (end_found b p ms e r c.requires.end) in
     let m = c.market_at-market.result.now in
-    let same = some_same (slice_get ms f.market) found.at.market m found.at.stands c.market_at-market.ensures in
+    let same = some_one (slice_get ms f.market) found.at.market m found.at.stands c.market_at-market.ensures in
     let is : IsOver b q flown m = record { flown_is = c.requires.flown; market_is = each_in (IsMarket b) ms m c.requires.markets (got_in ms f.market m c.market_at-market.ensures); limited = c.limits.ensures } in
     on_ok c.add_market.result _ _
     (λ d path begins ends.

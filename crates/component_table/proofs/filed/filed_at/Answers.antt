@@ -1,8 +1,8 @@
 use Rattle.std.proofs.Common.{◌≡◌, ◌≤◌, ap, length, slice_get, MatchOption, subst, sym, ◌∙◌}
 use Rattle.component_table.specs.declared.markets.Market.{Market}
 use Rattle.component_table.specs.Markets.{StandsAt}
-use Rattle.component_table.proofs.PathFacts.{got_is}
 use Rattle.fare_book.specs.Keeping.{NoFare}
+use Rattle.law_lemmas.proofs.Lists.{got_is}
 use Rattle.component_table.proofs.filed.filed_at.Goals as goal
 
 pub returns : goal.returns

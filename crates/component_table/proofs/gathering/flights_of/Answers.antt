@@ -1,18 +1,20 @@
 use Rattle.std.proofs.Common.{◌+◌, get_or, option_copied, slice_get, take, ap, subst, sym, ◌∙◌, arith}
 use Rattle.std.proofs.lemmas.List.{take_all}
-use Rattle.component_table.proofs.Collected.{not_both, number_known, numbers_long, numbers_next, taken_long}
+use Rattle.component_table.proofs.Collected.{number_known, numbers_long, numbers_next}
 use Rattle.fare_law.specs.Book.{flight_at}
 use Rattle.fare_law.specs.Limits.{IsFlight}
 use Rattle.fare_law.specs.Lists.{Each}
 use Rattle.fare_law.specs.Parts.{Numbers}
 use Rattle.residual_keys.proofs.Components.{numbered_hold}
+use Rattle.law_lemmas.proofs.Lists.{front_length}
+use Rattle.law_lemmas.proofs.Options.{not_both}
 use Rattle.component_table.proofs.gathering.flights_of.Goals as goal
 
 pub push-requires : goal.push-requires
 push-requires c =
     let i = c.loop-number.number-index in
     let long = numbers_long c.args.book.now (take i c.args.numbers.now) c.loop-number.flights c.loop-number.invariant in
-    let short = taken_long c.args.numbers.now i c.loop-number-test.true in
+    let short = front_length c.args.numbers.now i c.loop-number-test.true in
     omega (arith, long, short, c.loop-number-test.true, c.requires)
 
 pub returns-in-None-clause-none : goal.returns-in-None-clause-none

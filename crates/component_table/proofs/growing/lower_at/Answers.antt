@@ -1,7 +1,7 @@
 use Rattle.std.proofs.Common.{◌≡◌, ◌<◌, ◌≤◌, ap, length, slice_set, subst, vec_len, ◌∙◌, arith}
 use Rattle.component_table.proofs.Lower.{covers_lowered, covers_self, lowered_not, lowered_set}
-use Rattle.component_table.proofs.PathFacts.{got_is, got_lt}
 use Rattle.outlines.specs.declared.outline.Entry.{Entry}
+use Rattle.law_lemmas.proofs.Lists.{got_is, got_within}
 use Rattle.component_table.proofs.growing.lower_at.Goals as goal
 
 pub returns-then-index-price-clause-covers : goal.returns-then-index-price-clause-covers
@@ -15,7 +15,7 @@ returns-then-index-price-clause-lowered c =
 
 pub index_mut-requires : goal.index_mut-requires
 index_mut-requires c =
-    let lt = got_lt c.args.entries.now.items c.args.at c.requires.entry c.requires.stands in
+    let lt = got_within c.args.entries.now.items c.args.at c.requires.entry c.requires.stands in
     let e : vec_len c.args.entries.now ≡ length c.args.entries.now.items = omega arith in
     omega (arith, lt, e)
 

@@ -3,8 +3,8 @@ use Rattle.component_table.specs.declared.kinds.TailClass.{TailClass}
 use Rattle.component_table.specs.Kinds.{KindAdded}
 use Rattle.component_table.specs.Tables.{EndsWith}
 use Rattle.component_table.proofs.KindFacts.{kinds_more, one_longer}
-use Rattle.component_table.proofs.PathFacts.{got_at}
 use Rattle.fare_law.specs.Parts.{Numbers}
+use Rattle.law_lemmas.proofs.Lists.{read_got}
 use Rattle.component_table.proofs.kinds.kinds_of.Goals as goal
 
 pub loop-at-preserved : goal.loop-at-preserved
@@ -15,7 +15,7 @@ loop-at-preserved c =
     let old = c.loop-at.kinds in
     let new = c.add.new.self in
     let lt : c.loop-at.at < length tails = omega (arith, c.loop-at-test.true, c.loop-at.auto.at-end) in
-    let own = ap (slice_get tails) c.loop-at.invariant.counted ∙ got_at tails c.loop-at.at _ tail lt c.index-tails-at.is in
+    let own = ap (slice_get tails) c.loop-at.invariant.counted ∙ read_got tails c.loop-at.at _ tail lt c.index-tails-at.is in
     let same = c.as_slice-numbers.ensures.items in
     let added = subst (λ (x : TailClass). KindAdded x c.in_ok-classes.classes old.classes.items old.of.items new.classes.items new.of.items) c.class_with.ensures c.in_ok-add.ensures in
     record {

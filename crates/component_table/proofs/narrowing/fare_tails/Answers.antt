@@ -1,7 +1,8 @@
 use Rattle.std.proofs.Common.{true, unwrap_or, ◌∙◌}
-use Rattle.component_table.proofs.FareEnds.{if_ok, unwrapped}
+use Rattle.component_table.proofs.FareEnds.{unwrapped}
 use Rattle.fare_law.specs.contracts.names.PlacePartialEq.TheImpl as place
 use Rattle.indexmap.specs.IndexMap.{get}
+use Rattle.law_lemmas.proofs.Options.{if_ok}
 use Rattle.component_table.proofs.narrowing.fare_tails.Goals as goal
 
 pub returns-clause-tails : goal.returns-clause-tails

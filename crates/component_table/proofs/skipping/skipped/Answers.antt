@@ -1,7 +1,7 @@
 use Rattle.std.proofs.Common.{ap, slice_get, subst, sym, ◌∙◌, inl, inr, arith}
 use Rattle.component_table.specs.Rows.{IsKnownTail}
-use Rattle.component_table.proofs.FiledFacts.{below_or}
 use Rattle.component_table.proofs.RowFacts.{nothing_to}
+use Rattle.law_lemmas.proofs.Numbers.{here_or_before}
 use Rattle.component_table.proofs.skipping.skipped.Goals as goal
 
 pub returns-then-not-adds_nothing_at-clause-rows : goal.returns-then-not-adds_nothing_at-clause-rows
@@ -27,7 +27,7 @@ loop-at-preserved c =
       within = let lt = more.within c.if-not-adds_nothing_at.false in omega (arith, lt);
       row = more.row;
       rows = λ table has. more.rows table (was.rows table has);
-      nothing = λ table has head is tails kinds i number lt got. elim (below_or i c.known_to-at.result lt) [
+      nothing = λ table has head is tails kinds i number lt got. elim (here_or_before i c.known_to-at.result lt) [
         | inl k ↦ nothing_to o.book.now o.request.now o.at.now head m.head m.kinds.now.classes.items tails m.kinds.now.of.items c.loop-at.rows.kept.items c.args.numbers.now c.loop-at.at c.known_to-at.result table is kinds (was.rows table has).each was.row
             (λ j one low high at. subst (λ ks. IsKnownTail ks was.row.row.masks.items m.head.classes one) c.as_slice.ensures.value (subst (λ ms. IsKnownTail c.as_slice.result.now ms m.head.classes one) masks (c.known_to-at.ensures.known j one low high at)))
             (was.nothing table has head is tails kinds) i number k got

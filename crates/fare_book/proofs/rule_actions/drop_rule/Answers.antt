@@ -7,9 +7,9 @@ use Rattle.fare_book.specs.declared.keys.RuleKey.{RuleKey}
 use Rattle.fare_book.proofs.Assembled.{rules_alone}
 use Rattle.fare_book.proofs.Counting.{none_counted, some_counted}
 use Rattle.fare_book.proofs.Following.{fares_stay, rule_dropped_after, seats_stay}
-use Rattle.fare_book.proofs.LiveRows.{some_of}
 use Rattle.fare_book.proofs.RuleKeeping.{fares_stay_kept, proper_number, rules_gone, stand_drop}
 use Rattle.fare_book.proofs.Stops.{faultless_rule, rule_in_use}
+use Rattle.law_lemmas.proofs.Options.{some_of}
 use Rattle.fare_book.proofs.rule_actions.drop_rule.Goals as goal
 
 pub returns-then-uses_of-ne0 : goal.returns-then-uses_of-ne0

@@ -4,9 +4,9 @@ use Rattle.fare_law.specs.declared.filings.BookWhy.TheVariants.{Limit}
 use Rattle.fare_law.specs.Book.{live_fare, live_rule}
 use Rattle.fare_book.proofs.Assembled.{rules_alone}
 use Rattle.fare_book.proofs.Following.{fares_stay, rule_put_after, seats_stay}
-use Rattle.fare_book.proofs.LiveRows.{some_of}
 use Rattle.fare_book.proofs.RuleKeeping.{fares_stay_kept, none_of, proper_number, rules_new, rules_old, stand_put}
 use Rattle.fare_book.proofs.Stops.{faultless, none_live, put_rule_limit}
+use Rattle.law_lemmas.proofs.Options.{some_of}
 use Rattle.fare_book.proofs.rule_actions.put_rule.Goals as goal
 
 pub returns-then-has_rule : goal.returns-then-has_rule

@@ -11,7 +11,7 @@ use Rattle.fare_law.specs.Book.{Book, live_rule}
 use Rattle.fare_law.specs.Sheets.{SheetOf}
 use Rattle.fare_book.specs.Keeping.{Rules}
 use Rattle.fare_book.proofs.Making.{Made, is_sheet, made_push, sheet_made}
-use Rattle.fare_book.proofs.TableRows.{ok_as}
+use Rattle.law_lemmas.proofs.Options.{if_ok}
 use Rattle.fare_book.proofs.sheets.sheet_of.Goals as goal
 
 pub loop-fare-init : goal.loop-fare-init
@@ -41,5 +41,5 @@ returns c =
     let all : map deref_pair c.loop-fare.yielded ≡ entries = search (rules, iter_end) in
     let sorted : IsStrictlySortedBy fare_order.ghosts.cmp (keys_of entries) = c.into_iter-fare-iterator.ensures.into_iter_gives.5 in
     let made = subst (Made c.args.rules.now.entries c.loop-fare.rows) all c.loop-fare.invariant in
-    ok_as c.of.result (λ s. s ≡ record { from = market.from; to = market.to; rows = c.loop-fare.rows }) _
+    if_ok c.of.result (λ s. s ≡ record { from = market.from; to = market.to; rows = c.loop-fare.rows }) _
     (λ s e b makes. subst (SheetOf b market.from market.to) (sym e) (sheet_made c.args.rules.now.entries b market entries makes sorted c.loop-fare.rows made c.requires.some)) c.of.ensures

@@ -1,7 +1,7 @@
 use Rattle.std.proofs.Common.{◌≡◌, ◌∷◌, [], Some, sym, ap, subst, ◌∙◌}
 use Rattle.fare_law.specs.Sheets.{SheetOf}
 use Rattle.fare_book.proofs.Making.{is_sheet, made_one, sheet_made, sorted_one}
-use Rattle.fare_book.proofs.TableRows.{ok_as}
+use Rattle.law_lemmas.proofs.Options.{if_ok}
 use Rattle.fare_book.proofs.sheets.sheet_of_one.Goals as goal
 
 pub of-requires : goal.of-requires
@@ -19,5 +19,5 @@ returns c =
     let market = c.args.market in
     let made = made_one rules c.from_vec-rows.result c.push.new.self c.copied.result fare c.in_ok-rule.rule (c.from_vec-rows.ensures ∙ c.in_ok-with_capacity.ensures.items) c.in_ok-push.ensures.items c.copied.ensures
     (λ b r s. c.rule_for.ensures b r s ∙ ap Some (sym c.in_ok-rule.ensures)) in
-    ok_as c.of.result (λ s. s ≡ record { from = market.from; to = market.to; rows = c.push.new.self }) _
+    if_ok c.of.result (λ s. s ≡ record { from = market.from; to = market.to; rows = c.push.new.self }) _
     (λ s e b makes. subst (SheetOf b market.from market.to) (sym e) (sheet_made rules b market ((fare.key, fare) ∷ []) makes (sorted_one fare) c.push.new.self made (λ e. cc))) c.of.ensures

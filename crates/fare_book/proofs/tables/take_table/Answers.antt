@@ -3,7 +3,8 @@ use Rattle.std.specs.Map.{lookup}
 use Rattle.fare_book.specs.Keys.{same_market}
 use Rattle.fare_book.specs.Tables.{fares_in}
 use Rattle.fare_book.proofs.Finding.{market_changes, market_found}
-use Rattle.fare_book.proofs.TableRows.{RowsIn, ok_as, old_table}
+use Rattle.fare_book.proofs.TableRows.{RowsIn, old_table}
+use Rattle.law_lemmas.proofs.Options.{if_ok}
 use Rattle.fare_book.proofs.tables.take_table.Goals as goal
 
 pub returns-in-Some-clause-others : goal.returns-in-Some-clause-others
@@ -19,5 +20,5 @@ returns-in-Some-get-clause-table c =
     let none : lookup (same_market m) tables ≡ None = sym (c.in-None.ensures.value ∙ market_found tables m) in
     let some : lookup (same_market m) sheets ≡ Some c.in-Some-get.sheet.now = sym (c.in-Some-get.ensures.value ∙ market_found sheets m) in
     let rows = c.as_slice.ensures ∙ ap (λ s. s.rows) c.behind-sheet.view_is in
-    ok_as c.table_of.result (λ t. RowsIn c.as_slice.result.now (fares_in t)) _
+    if_ok c.table_of.result (λ t. RowsIn c.as_slice.result.now (fares_in t)) _
     (λ t held fare rule changed keyed holds. old_table fare rule changed sheets tables m c.in-Some-get.sheet.now c.deref.result.now (fares_in t) none some c.deref.ensures (subst (λ rs. RowsIn rs (fares_in t)) rows held) keyed holds) c.table_of.ensures

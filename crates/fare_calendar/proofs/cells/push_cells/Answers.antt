@@ -2,7 +2,8 @@ use Rattle.std.proofs.Common.{sym, subst}
 use Rattle.fare_calendar.specs.CalendarText.{HasDates}
 use Rattle.fare_calendar.specs.Calendars.{IsCell}
 use Rattle.fare_law.specs.Lists.{Each, Matched}
-use Rattle.fare_calendar.proofs.DayPairs.{each_more, no_back, one_back}
+use Rattle.fare_calendar.proofs.DayPairs.{no_back, one_back}
+use Rattle.law_lemmas.proofs.EachOne.{each_more}
 use Rattle.fare_calendar.proofs.cells.push_cells.Goals as goal
 
 pub loop-back-init : goal.loop-back-init

@@ -2,7 +2,8 @@ use Rattle.std.proofs.Common.{◌≡◌, ◌+◌, List, [], ◌∷◌, ◌++◌,
 use Rattle.fare_law.specs.FilingLimits.{IsAction}
 use Rattle.fare_law.specs.Lists.{Each}
 use Rattle.fare_law.specs.declared.filings.Action.{Action}
-use Rattle.fare_filing.proofs.ActionLemmas.{actions_more, after, each_more, left}
+use Rattle.fare_filing.proofs.ActionLemmas.{actions_more, after, left}
+use Rattle.law_lemmas.proofs.EachOne.{each_more}
 use Rattle.fare_filing.proofs.reading.each_action.Goals as goal
 
 pub loop-item-preserved : goal.loop-item-preserved

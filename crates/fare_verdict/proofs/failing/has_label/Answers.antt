@@ -1,6 +1,6 @@
 use Rattle.std.proofs.Common.{◌≡◌, ◌↔◌, IsTrue, rules}
 use Rattle.std.specs.List.{Any}
-use Rattle.fare_verdict.proofs.Categories.{label_told}
+use Rattle.ticket_whole.proofs.LabelsAmong.{label_told}
 use Rattle.fare_verdict.proofs.failing.has_label.Goals as goal
 
 pub returns : goal.returns

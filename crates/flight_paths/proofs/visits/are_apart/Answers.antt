@@ -3,7 +3,8 @@ use Rattle.fare_law.specs.declared.names.Place.{Place}
 use Rattle.fare_law.specs.Lists.{Each}
 use Rattle.flight_paths.specs.Ways.{arrivals_of}
 use Rattle.flight_paths.proofs.Apart.{more_apart, next_apart}
-use Rattle.flight_paths.proofs.Places.{arrival_next, arrivals_all, no_flight, not_so, numbers_known}
+use Rattle.flight_paths.proofs.Places.{arrival_next, arrivals_all, no_flight, numbers_known}
+use Rattle.law_lemmas.proofs.Tests.{not_so}
 use Rattle.flight_paths.proofs.visits.are_apart.Goals as goal
 
 pub bounds-flights-number : goal.bounds-flights-number

@@ -6,7 +6,8 @@ use Rattle.flight_paths.specs.Plans.{plan_book}
 use Rattle.flight_paths.proofs.Apart.{not_before}
 use Rattle.flight_paths.proofs.Seeing.{AreSeen, saw_like, saw_more, seen_more, seen_reached}
 use Rattle.flight_paths.proofs.Orders.{in_front}
-use Rattle.flight_paths.proofs.Places.{front_is, in_list}
+use Rattle.law_lemmas.proofs.Lists.{front_at}
+use Rattle.law_lemmas.proofs.Members.{in_list}
 use Rattle.flight_paths.proofs.visits.visit_heads.Goals as goal
 
 pub visit_head-requires-clause-head : goal.visit_head-requires-clause-head
@@ -25,7 +26,7 @@ loop-head-preserved g c =
     let ts = chosen c.args.tails.now.all.now c.args.tails.now.numbers.now in
     let i = c.loop-head.head-index in
     let h = c.head-item.result in
-    let front : take (i + 1) hs ≡ take i hs ++ h ∷ [] = front_is hs i h c.loop-head-test.true ∙ ap (λ x. take i hs ++ x ∷ []) (sym c.head-item.is) in
+    let front : take (i + 1) hs ≡ take i hs ++ h ∷ [] = front_at hs i h c.loop-head-test.true ∙ ap (λ x. take i hs ++ x ∷ []) (sym c.head-item.is) in
     let new : IsIn h (take i hs) → ⊥ = λ k. not_before hs i h c.requires.heads.in_order c.loop-head-test.true (subst (λ x. IsIn x (take i hs)) c.head-item.is k) in
     subst (λ xs. Saw (g.V.PathVisitor.told c.args.visitor.now) (g.V.PathVisitor.told c.visit_head.new.visitor) (AreSeen b sl at ts xs)) (sym front)
     (saw_more (g.V.PathVisitor.told c.args.visitor.now) (g.V.PathVisitor.told c.loop-head.visitor) (g.V.PathVisitor.told c.visit_head.new.visitor) (AreSeen b sl at ts (take i hs)) (AreFrom b sl at h ts) (AreSeen b sl at ts (take i hs ++ h ∷ []))

@@ -2,9 +2,10 @@ use Rattle.std.proofs.Common.{◌≡◌, ◌++◌, ◌∷◌, [], List, Some, sl
 use Rattle.flight_paths.specs.declared.positions.Path.{Path}
 use Rattle.flight_paths.specs.Heads.{AreRest, IsJoined, Saw}
 use Rattle.flight_paths.specs.Plans.{plan_book}
-use Rattle.flight_paths.proofs.Parting.{same_some}
 use Rattle.flight_paths.proofs.Seeing.{on_ok, rest_not, rest_one, saw_none, saw_one}
-use Rattle.flight_paths.proofs.Places.{get_some, not_so}
+use Rattle.law_lemmas.proofs.Lists.{got_read}
+use Rattle.law_lemmas.proofs.Options.{some_same}
+use Rattle.law_lemmas.proofs.Tests.{not_so}
 use Rattle.flight_paths.proofs.visits.visit_joined.Goals as goal
 
 pub follows-requires-clause-tail : goal.follows-requires-clause-tail
@@ -12,7 +13,7 @@ follows-requires-clause-tail g c =
     let all = c.args.all.now in
     let n = c.args.number in
     let t = c.index-all-number.result in
-    c.requires.tails t (get_some all n t c.requires.number ∙ ap Some (sym c.index-all-number.is))
+    c.requires.tails t (got_read all n t c.requires.number ∙ ap Some (sym c.index-all-number.is))
 
 pub visit_after-requires : goal.visit_after-requires
 visit_after-requires g c =
@@ -23,7 +24,7 @@ visit_after-requires g c =
       tails = all;
       known = c.requires.knows;
       tail = t;
-      stands = get_some all n t c.requires.number ∙ ap Some (sym c.index-all-number.is);
+      stands = got_read all n t c.requires.number ∙ ap Some (sym c.index-all-number.is);
       flights = c.joined.ensures.flights;
       after = c.joined.ensures.after;
     }
@@ -37,7 +38,7 @@ returns-then-not-follows g c = λ t got.
     let all = c.args.all.now in
     let n = c.args.number in
     let x = c.index-all-number.result in
-    let same = same_some x t (sym (get_some all n x c.requires.number ∙ ap Some (sym c.index-all-number.is)) ∙ got) in
+    let same = some_same x t (sym (got_read all n x c.requires.number ∙ ap Some (sym c.index-all-number.is)) ∙ got) in
     let told = g.V.PathVisitor.told c.args.visitor.now in
     subst (λ y. Saw told told (AreRest b sl at h (y ∷ []))) same (saw_none told (AreRest b sl at h (x ∷ [])) (rest_not b sl at h x (not_so c.follows.result c.if-not-follows.true c.follows.ensures.1)))
 
@@ -55,7 +56,7 @@ returns g c =
     let joined : IsJoined b sl at h x c.joined.result = record { follows = c.follows.ensures.0 c.if-not-follows.false; numbers = c.joined.ensures.flights; after = c.joined.ensures.after } in
     on_ok ((before : List Path) → old before → new (before ++ c.joined.result ∷ [])) ((t : Path) → slice_get all n ≡ Some t → Saw old new (AreRest b sl at h (t ∷ []))) c.visit_after.result c.visit_after.ensures
     (λ told t got.
-    let same = same_some x t (sym (get_some all n x c.requires.number ∙ ap Some (sym c.index-all-number.is)) ∙ got) in
+    let same = some_same x t (sym (got_read all n x c.requires.number ∙ ap Some (sym c.index-all-number.is)) ∙ got) in
     subst (λ y. Saw old new (AreRest b sl at h (y ∷ []))) same (saw_one old new (AreRest b sl at h (x ∷ [])) c.joined.result told (rest_one b sl at h x c.joined.result joined)))
 
 pub joined-requires : goal.joined-requires

@@ -3,9 +3,10 @@ use Rattle.fare_law.specs.Lists.{IsIn}
 use Rattle.flight_paths.specs.Heads.{AreRest, chosen}
 use Rattle.flight_paths.specs.Plans.{plan_book}
 use Rattle.flight_paths.proofs.Choosing.{in_chosen}
-use Rattle.flight_paths.proofs.Parting.{each_in}
-use Rattle.flight_paths.proofs.Places.{get_some, in_list}
 use Rattle.flight_paths.proofs.Running.{part_tails, run_and_one, run_skipped, saw_since}
+use Rattle.law_lemmas.proofs.EachOne.{each_in}
+use Rattle.law_lemmas.proofs.Lists.{got_read}
+use Rattle.law_lemmas.proofs.Members.{in_list}
 use Rattle.flight_paths.proofs.visits.visit_run.Goals as goal
 
 pub visit_joined-requires-clause-number : goal.visit_joined-requires-clause-number
@@ -24,7 +25,7 @@ visit_joined-requires-clause-tails g c = λ t there.
     let k = c.skips-skipped.result in
     let n = c.in-Some.number.now in
     let found = c.in-Some.ensures.lookup in
-    let here : slice_get ns k ≡ Some n = get_some ns k n found.3.0 ∙ ap Some (sym found.1) in
+    let here : slice_get ns k ≡ Some n = got_read ns k n found.3.0 ∙ ap Some (sym found.1) in
     c.requires.tails.each t (in_chosen all ns k n t here there)
 
 pub returns-in_ok-visit_joined-in-Some-clause-saw :
@@ -45,7 +46,7 @@ returns-in_ok-visit_joined-in-Some-clause-saw g c =
     let within : n < length all = each_in (λ m. m < length all) ns n c.requires.numbers (subst (λ m. IsIn m ns) (sym found.1) (in_list ns k n found.3.0)) in
     let first = c.args.junction.now.head.now in
     let t = get_or all n first in
-    let there = get_some all n first within in
+    let there = got_read all n first within in
     saw_since old mid new (AreRest b sl at h (chosen all (take (k + 1) ns))) c.skips-skipped.ensures.stays
     (run_and_one b sl at h c.args.junction.now.middle c.requires.crossing mid all new ns k n t c.requires.numbers c.requires.tails (c.skips-skipped.ensures.skipped all c.requires.knows) found.3.0 found.1 there (c.in_ok-visit_joined-in-Some.ensures t there))
 

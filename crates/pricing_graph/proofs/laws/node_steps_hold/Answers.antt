@@ -9,7 +9,8 @@ use Rattle.residual_keys.specs.Written.{InLimits}
 use Rattle.pricing_graph.specs.NodeSteps.{BoundIn, HasNodeStep, level_at}
 use Rattle.pricing_graph.proofs.KnownGraph.{MoveLaws, all_different, known_graph, moves_lawful}
 use Rattle.pricing_graph.proofs.NodeLaws.{step_laws}
-use Rattle.pricing_graph.proofs.RunsRead.{as_many_nodes, best_of_least, has_moves, total_small}
+use Rattle.pricing_graph.proofs.RunsRead.{best_of_least, has_moves, total_small}
+use Rattle.graph_walk.proofs.RowFacts.{states_length}
 use Rattle.pricing_graph.proofs.laws.node_steps_hold.Goals as goal
 
 -- the laws of moves, from those that are called
@@ -20,7 +21,7 @@ lawful c b q limits request =
 
 pub returns-clause-laws : goal.returns-clause-laws
 returns-clause-laws c b q limits request nodes graph =
-    subst (λ n. StepLaws (HasNodeStep b q nodes) n (level_at (states nodes))) (as_many_nodes nodes) (step_laws b q (states nodes) (BoundIn nodes) (known_graph b q (lawful c b q limits request) nodes graph))
+    subst (λ n. StepLaws (HasNodeStep b q nodes) n (level_at (states nodes))) (states_length nodes) (step_laws b q (states nodes) (BoundIn nodes) (known_graph b q (lawful c b q limits request) nodes graph))
 
 pub returns-clause-once : goal.returns-clause-once
 returns-clause-once c b q limits request nodes graph = all_different StateBefore c.residual_order.ensures.order.trans c.residual_order.ensures.order.never (states nodes) graph.needed.in_order

@@ -5,7 +5,8 @@ use Rattle.graph_walk.specs.Walks.{IsShort}
 use Rattle.search_steps.specs.Keys.{state}
 use Rattle.search_steps.specs.Leads.{IsRoot, leads_of, level_of}
 use Rattle.pricing_graph.specs.Graphs.{AreRows, IsTooLarge, fault_as}
-use Rattle.pricing_graph.proofs.Whole.{are_found, are_least, large_as, low_moves, root_of, said_of, too_large}
+use Rattle.pricing_graph.proofs.Whole.{are_found, are_least, large_as, low_moves, root_of, too_large}
+use Rattle.law_lemmas.proofs.LawFacts.{said_of}
 use Rattle.pricing_graph.proofs.rows.reached_rows.Goals as goal
 
 pub reached-requires-clause-request : goal.reached-requires-clause-request

@@ -4,8 +4,8 @@ use Rattle.graph_walk.specs.Steps.{AreLive, rows_of}
 use Rattle.residual_table.specs.Keys.{IsLive}
 use Rattle.search_steps.specs.Keys.{state}
 use Rattle.pricing_graph.specs.Settled.{AreSettledFrom}
-use Rattle.pricing_graph.proofs.Keyed.{as_many_rows}
 use Rattle.pricing_graph.proofs.SettledNodes.{none_behind}
+use Rattle.graph_walk.proofs.RowFacts.{rows_length}
 use Rattle.pricing_graph.proofs.settling.settle_nodes.Goals as goal
 
 pub loop-left-init : goal.loop-left-init
@@ -16,7 +16,7 @@ loop-left-init g c =
       few = omega (arith, c.size-left.ensures);
       request = c.requires.request;
       alive = c.requires.live;
-      settled = none_behind steps.case.book.now steps.case.request.now (rows_of (state steps) es) (g.O.OfferSource.settled steps.offers.now) c.size-left.result (c.size-left.ensures ∙ sym (as_many_rows (state steps) es));
+      settled = none_behind steps.case.book.now steps.case.request.now (rows_of (state steps) es) (g.O.OfferSource.settled steps.offers.now) c.size-left.result (c.size-left.ensures ∙ sym (rows_length (state steps) es));
       same_offers = refl;
       same = refl;
       base = refl;

@@ -6,8 +6,9 @@ use Rattle.fare_law.specs.Lists.{IsIn}
 use Rattle.flight_paths.specs.Paths.{ArePaths}
 use Rattle.residual_keys.specs.Gathered.{Adds}
 use Rattle.residual_keys.specs.Steps.{IsChosen}
-use Rattle.residual_keys.proofs.PathByPath.{HoldsOn, OnPaths, all_keys, all_paths, holds_more, no_slice, path_more, read_in}
+use Rattle.residual_keys.proofs.PathByPath.{HoldsOn, OnPaths, all_keys, all_paths, holds_more, no_slice, path_more}
 use Rattle.residual_keys.proofs.StepTaken.{path_known}
+use Rattle.law_lemmas.proofs.Members.{read_in}
 use Rattle.residual_keys.proofs.choosing.gathered.Goals as goal
 
 pub returns-then-from-len-clause-moves : goal.returns-then-from-len-clause-moves

@@ -3,9 +3,9 @@ use Rattle.fare_law.specs.Lists.{Each, EachPair, IsIn, Less}
 use Rattle.fare_law.specs.Codes.{move_code}
 use Rattle.ticket_order.specs.Coding.{Coded}
 use Rattle.residual_keys.proofs.SortedWords.{same_elements, same_length, written}
-use Rattle.residual_keys.proofs.Needed.{each_from}
 use Rattle.residual_keys.proofs.PathByPath.{all_coded}
 use Rattle.residual_keys.specs.Written.{IsWrittenNext}
+use Rattle.law_lemmas.proofs.EachOne.{each_from}
 use Rattle.residual_keys.proofs.choosing.moves.Goals as goal
 
 pub put_in_order-requires-clause-coded : goal.put_in_order-requires-clause-coded

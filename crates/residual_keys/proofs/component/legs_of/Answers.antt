@@ -4,7 +4,8 @@ use Rattle.fare_law.specs.declared.sheets.Leg.{Leg}
 use Rattle.fare_law.specs.Lists.{Matched}
 use Rattle.fare_law.specs.Offers.{flights_of}
 use Rattle.residual_keys.specs.AskedKeys.{IsLeg}
-use Rattle.residual_keys.proofs.Components.{legs_more, matched_more}
+use Rattle.residual_keys.proofs.Components.{legs_more}
+use Rattle.law_lemmas.proofs.Pairs.{matched_more}
 use Rattle.residual_keys.proofs.component.legs_of.Goals as goal
 
 one_more : (i : ℕ) → suc i ≡ i + 1

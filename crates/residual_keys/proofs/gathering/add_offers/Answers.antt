@@ -3,8 +3,9 @@ use Rattle.std.proofs.lemmas.List.{take_all}
 use Rattle.fare_component.specs.declared.offer.Offer.{Offer}
 use Rattle.fare_law.specs.Lists.{IsIn}
 use Rattle.residual_keys.specs.Gathered.{Adds}
-use Rattle.residual_keys.proofs.Offered.{Upto, all_upto, got_read, read_is, offered_at, offers_behind, place_within, row_within, upto_more, upto_none}
-use Rattle.residual_keys.proofs.Sheeted.{got_in}
+use Rattle.residual_keys.proofs.Offered.{Upto, all_upto, offered_at, offers_behind, place_within, row_within, upto_more, upto_none}
+use Rattle.law_lemmas.proofs.Lists.{got_read, read_got}
+use Rattle.law_lemmas.proofs.Members.{got_in}
 use Rattle.residual_keys.proofs.gathering.add_offers.Goals as goal
 
 offer_in : (os : List Offer) (i : ℕ) → i < length os → IsIn (get_or os i (record { place = 0; price = 0 })) os
@@ -29,7 +30,7 @@ add_offer-requires-clause-row c =
     let within = offer_in os i c.loop-offer-test.true in
     let rows = c.as_slice-rows.ensures ∙ ap (λ s. s.rows) c.sheet.view_is in
     let lt = place_within b c.args.request.now c.args.residual.now c.args.way.now.path c.args.way.now.flights c.args.way.now.legs c.args.reverse c.args.sheet.now os c.requires.way.path c.requires.way.legs c.requires.market c.requires.sheet c.limits.ensures c.requires.offered o within in
-    let stands = subst (λ xs. slice_get xs o.place ≡ Some c.index-rows-offer.result) rows (read_is c.as_slice-rows.result.now o.place _ c.index-rows-offer.result (subst (λ xs. o.place < length xs) (sym rows) lt) c.index-rows-offer.is) in
+    let stands = subst (λ xs. slice_get xs o.place ≡ Some c.index-rows-offer.result) rows (read_got c.as_slice-rows.result.now o.place _ c.index-rows-offer.result (subst (λ xs. o.place < length xs) (sym rows) lt) c.index-rows-offer.is) in
     offered_at b c.args.request.now c.args.residual.now c.args.way.now.path c.args.way.now.flights c.args.way.now.legs c.args.reverse c.args.sheet.now os c.requires.way.path c.requires.way.legs c.requires.market c.requires.sheet c.limits.ensures c.requires.offered o within c.index-rows-offer.result stands
 
 pub add_offer-requires-clause-fare : goal.add_offer-requires-clause-fare
@@ -41,7 +42,7 @@ add_offer-requires-clause-fare c =
     let within = offer_in os i c.loop-offer-test.true in
     let rows = c.as_slice-rows.ensures ∙ ap (λ s. s.rows) c.sheet.view_is in
     let lt = place_within b c.args.request.now c.args.residual.now c.args.way.now.path c.args.way.now.flights c.args.way.now.legs c.args.reverse c.args.sheet.now os c.requires.way.path c.requires.way.legs c.requires.market c.requires.sheet c.limits.ensures c.requires.offered o within in
-    let stands = subst (λ xs. slice_get xs o.place ≡ Some c.index-rows-offer.result) rows (read_is c.as_slice-rows.result.now o.place _ c.index-rows-offer.result (subst (λ xs. o.place < length xs) (sym rows) lt) c.index-rows-offer.is) in
+    let stands = subst (λ xs. slice_get xs o.place ≡ Some c.index-rows-offer.result) rows (read_got c.as_slice-rows.result.now o.place _ c.index-rows-offer.result (subst (λ xs. o.place < length xs) (sym rows) lt) c.index-rows-offer.is) in
     (row_within b c.args.request.now c.args.residual.now c.args.way.now.path c.args.way.now.flights c.args.way.now.legs c.args.reverse c.args.sheet.now os c.requires.way.path c.requires.way.legs c.requires.market c.requires.sheet c.limits.ensures c.requires.offered o within c.index-rows-offer.result stands).0
 
 pub add_offer-requires-clause-rule : goal.add_offer-requires-clause-rule
@@ -53,7 +54,7 @@ add_offer-requires-clause-rule c =
     let within = offer_in os i c.loop-offer-test.true in
     let rows = c.as_slice-rows.ensures ∙ ap (λ s. s.rows) c.sheet.view_is in
     let lt = place_within b c.args.request.now c.args.residual.now c.args.way.now.path c.args.way.now.flights c.args.way.now.legs c.args.reverse c.args.sheet.now os c.requires.way.path c.requires.way.legs c.requires.market c.requires.sheet c.limits.ensures c.requires.offered o within in
-    let stands = subst (λ xs. slice_get xs o.place ≡ Some c.index-rows-offer.result) rows (read_is c.as_slice-rows.result.now o.place _ c.index-rows-offer.result (subst (λ xs. o.place < length xs) (sym rows) lt) c.index-rows-offer.is) in
+    let stands = subst (λ xs. slice_get xs o.place ≡ Some c.index-rows-offer.result) rows (read_got c.as_slice-rows.result.now o.place _ c.index-rows-offer.result (subst (λ xs. o.place < length xs) (sym rows) lt) c.index-rows-offer.is) in
     (row_within b c.args.request.now c.args.residual.now c.args.way.now.path c.args.way.now.flights c.args.way.now.legs c.args.reverse c.args.sheet.now os c.requires.way.path c.requires.way.legs c.requires.market c.requires.sheet c.limits.ensures c.requires.offered o within c.index-rows-offer.result stands).1
 
 pub loop-offer-preserved : goal.loop-offer-preserved
@@ -65,7 +66,7 @@ loop-offer-preserved c =
     let within = offer_in os i c.loop-offer-test.true in
     let rows = c.as_slice-rows.ensures ∙ ap (λ s. s.rows) c.sheet.view_is in
     let lt = place_within b c.args.request.now c.args.residual.now c.args.way.now.path c.args.way.now.flights c.args.way.now.legs c.args.reverse c.args.sheet.now os c.requires.way.path c.requires.way.legs c.requires.market c.requires.sheet c.limits.ensures c.requires.offered o within in
-    let stands = subst (λ xs. slice_get xs o.place ≡ Some c.index-rows-offer.result) rows (read_is c.as_slice-rows.result.now o.place _ c.index-rows-offer.result (subst (λ xs. o.place < length xs) (sym rows) lt) c.index-rows-offer.is) in
+    let stands = subst (λ xs. slice_get xs o.place ≡ Some c.index-rows-offer.result) rows (read_got c.as_slice-rows.result.now o.place _ c.index-rows-offer.result (subst (λ xs. o.place < length xs) (sym rows) lt) c.index-rows-offer.is) in
     let laws = c.order_laws.ensures in
     upto_more b c.args.request.now c.args.residual.now c.args.way.now.path.flights c.args.reverse c.args.sheet.now.rows laws.less_never laws.less_trans laws.less_total c.requires.sheet.ascending os i (record { place = 0; price = 0 }) c.index-rows-offer.result
     c.args.found.now c.loop-offer.found c.add_offer.new.found c.loop-offer-test.true stands (λ p k. offers_behind os i (record { place = 0; price = 0 }) p c.requires.offered.ascending c.loop-offer-test.true k) c.loop-offer.invariant c.in_ok-add_offer.ensures

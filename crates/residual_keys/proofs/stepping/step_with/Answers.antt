@@ -5,7 +5,8 @@ use Rattle.residual_keys.specs.AskedKeys.{IsLeg}
 use Rattle.residual_keys.specs.declared.residual.Next.{Next}
 use Rattle.residual_keys.specs.Steps.{Leaves, StepsTo}
 use Rattle.residual_keys.proofs.StepFacts.{IsOver, key_directed, offered_lawful}
-use Rattle.residual_keys.proofs.StepTaken.{if_none, if_some, missed, move_offered, not_so, taken}
+use Rattle.residual_keys.proofs.StepTaken.{if_none, if_some, missed, move_offered, taken}
+use Rattle.law_lemmas.proofs.Tests.{not_so}
 use Rattle.residual_keys.proofs.stepping.step_with.Goals as goal
 
 pub is_offered-requires-clause-direction : goal.is_offered-requires-clause-direction

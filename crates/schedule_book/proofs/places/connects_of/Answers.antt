@@ -5,8 +5,8 @@ use Rattle.fare_law.specs.declared.names.Place.{Place}
 use Rattle.fare_law.specs.declared.rows.PlaceRow.{PlaceRow}
 use Rattle.schedule_book.specs.Connects.{connect_of}
 use Rattle.schedule_book.specs.Faults.{PlacesDiffer}
-use Rattle.schedule_book.proofs.Rows.{front_is}
 use Rattle.schedule_book.proofs.PlaceRows.{connects_more, differ_more, known_some, known_told, none_told, place_fault}
+use Rattle.law_lemmas.proofs.Lists.{front_read}
 use Rattle.schedule_book.proofs.places.connects_of.Goals as goal
 
 no_row : PlaceRow
@@ -29,7 +29,7 @@ loop-row-preserved c =
     let row : PlaceRow = get_or rows i no_row in
     let none : c.in_ok-old.old ≡ None = none_told c.in_ok-old.old (sym c.is_some.ensures ∙ c.if-is_some.false) in
     let absent : get place.ghosts.eq c.loop-row.connects row.place ≡ None = sym c.in_ok-old.ensures.old ∙ none in
-    let more : take (i + 1) rows ≡ take i rows ++ row ∷ [] = front_is rows i no_row row c.loop-row-test.true refl in (
+    let more : take (i + 1) rows ≡ take i rows ++ row ∷ [] = front_read rows i no_row row c.loop-row-test.true refl in (
       subst (λ rs. (q : Place) → get place.ghosts.eq c.insert.new.self q ≡ connect_of rs q) (sym more)
           (connects_more (get place.ghosts.eq c.loop-row.connects) (get place.ghosts.eq c.insert.new.self) (take i rows) row c.in_ok-old.ensures.updates.0 absent c.loop-row.invariant.0),
       subst PlacesDiffer (sym more) (differ_more (take i rows) row c.loop-row.invariant.1 (λ k. known_some row.place (take i rows) k (sym (c.loop-row.invariant.0 row.place) ∙ absent))),

@@ -6,9 +6,9 @@ use Rattle.graph_walk.proofs.RowFacts.{live_rows, same_rows}
 use Rattle.pricing_graph.specs.Graphs.{IsGraph}
 use Rattle.residual_keys.specs.Searches.{BestRuns}
 use Rattle.residual_table.specs.Keys.{IsLive, residual_at}
-use Rattle.search_core.proofs.Causes.{said_of}
 use Rattle.search_core.proofs.RunTickets.{still_best}
 use Rattle.search_steps.specs.Numbers.{Numbered}
+use Rattle.law_lemmas.proofs.LawFacts.{said_of}
 use Rattle.search_core.proofs.searching.answer_by.Goals as goal
 
 pub rows_of-requires : goal.rows_of-requires

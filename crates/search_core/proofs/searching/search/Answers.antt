@@ -1,7 +1,8 @@
 use Rattle.std.proofs.lemmas.Result.{IfErr-weaker, IfOk-weaker}
 use Rattle.residual_keys.specs.Searches.{ReachesMoreThan}
 use Rattle.search_core.specs.Answers.{HasCause, IsTooLarge, Searchable}
-use Rattle.search_core.proofs.Causes.{caused, said_of, searchable}
+use Rattle.search_core.proofs.Causes.{caused, searchable}
+use Rattle.law_lemmas.proofs.LawFacts.{said_of}
 use Rattle.search_core.proofs.searching.search.Goals as goal
 
 pub returns-clause-fits : goal.returns-clause-fits

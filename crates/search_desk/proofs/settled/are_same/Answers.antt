@@ -1,5 +1,5 @@
 use Rattle.std.proofs.lemmas.Slice.Eq.{slice_eq-Decides}
-use Rattle.search_desk.proofs.SameRequests.{slices_tell}
+use Rattle.law_lemmas.proofs.Names.{slices_tell}
 use Rattle.search_desk.proofs.settled.are_same.Goals as goal
 
 pub returns : goal.returns

@@ -4,8 +4,9 @@ use Rattle.residual_keys.proofs.SortedWords.{same_elements, same_length, written
 use Rattle.residual_keys.specs.Residuals.{State}
 use Rattle.search_steps.specs.declared.least.LeastMove.{LeastMove}
 use Rattle.search_steps.specs.LeastMoves.{IsSooner}
-use Rattle.search_steps.proofs.Counting.{front_least, same_least, take_long}
+use Rattle.search_steps.proofs.Counting.{front_least, same_least}
 use Rattle.search_steps.proofs.Sooner.{code_of}
+use Rattle.law_lemmas.proofs.Lists.{front_many}
 use Rattle.search_steps.proofs.least.first_of.Goals as goal
 
 pub returns-clause-least : goal.returns-clause-least
@@ -32,4 +33,4 @@ returns-clause-long c = λ enough.
     let long : length new ≡ length items = same_length old new c.put_in_order.ensures.same ∙ ap length c.as_mut_slice.ensures.value in
     let whole = written c.args.counted.len items new (omega (arith, c.args.counted.ok.0)) long in
     let result_is : c.from_vec.result ≡ take c.args.wanted new = c.from_vec.ensures ∙ c.truncate.ensures.items ∙ ap (take c.args.wanted) whole in
-    ap length result_is ∙ take_long c.args.wanted new (omega (arith, enough, long))
+    ap length result_is ∙ front_many c.args.wanted new (omega (arith, enough, long))

@@ -1,11 +1,11 @@
 use Rattle.std.proofs.Common.{◌≡◌, ◌∙◌, ◌≤◌, not, length, ap, subst, sym}
 use Rattle.cheap_moves.specs.Making.{HasRows, IsRowIn}
-use Rattle.cheap_moves.proofs.Looking.{clash}
 use Rattle.fare_groups.specs.Groups.{Permits}
 use Rattle.fare_law.specs.Lists.{OnFirst}
 use Rattle.fare_law.specs.RuleLimits.{IsRule}
 use Rattle.fare_law.specs.Sheets.{Sheet}
 use Rattle.search_steps.proofs.OfferedFacts.{cheapest_none, has_rows, low_classes, none_first, none_open, none_permitted, none_when, rule_within}
+use Rattle.law_lemmas.proofs.Tests.{true_false}
 use Rattle.search_steps.proofs.offered.is_offered.Goals as goal
 
 pub first_of-requires : goal.first_of-requires
@@ -15,7 +15,7 @@ pub returns-then-not-is : goal.returns-then-not-is
 returns-then-not-is c = λ _.
     let f = c.first_of.result.now in
     none_first c.args.case.now.book.now c.args.case.now.request.now c.args.flown.now c.args.market.now c.args.group.now c.requires.market c.requires.flown c.requires.limited c.requires.group f
-    (subst (OnFirst (λ x. f ≡ x)) c.as_slice-flights.ensures.items c.first_of.ensures.first) (λ e. clash (c.is.ensures.1 e) c.if-not-is.true)
+    (subst (OnFirst (λ x. f ≡ x)) c.as_slice-flights.ensures.items c.first_of.ensures.first) (λ e. true_false (c.is.ensures.1 e) c.if-not-is.true)
 
 pub cheapest-requires : goal.cheapest-requires
 cheapest-requires c = low_classes c.args.case.now.book.now c.args.case.now.request.now c.args.flown.now c.args.market.now c.args.group.now c.requires.market c.requires.flown c.requires.limited c.requires.group

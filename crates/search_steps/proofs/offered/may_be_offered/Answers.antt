@@ -1,8 +1,8 @@
 use Rattle.std.proofs.Common.{subst}
 use Rattle.std.proofs.lemmas.List.{take_all}
 use Rattle.fare_law.specs.Lists.{IsIn}
-use Rattle.residual_keys.proofs.PathByPath.{read_in}
 use Rattle.search_steps.proofs.OfferedFacts.{NoneBefore, none_filed, none_more}
+use Rattle.law_lemmas.proofs.Members.{read_in}
 use Rattle.search_steps.proofs.offered.may_be_offered.Goals as goal
 
 pub loop-group-init : goal.loop-group-init

@@ -1,15 +1,15 @@
 use Rattle.std.proofs.Common.{◌≡◌, ◌≤◌, MatchOption, ap, length, subst, sym, vec_len, ◌∙◌, arith}
-use Rattle.cheap_moves.proofs.Looking.{got_lt, on_ok}
 use Rattle.component_table.specs.declared.markets.Market.{Market}
 use Rattle.component_table.specs.Markets.{IsMarket, StandsAt}
 use Rattle.fare_book.specs.Keeping.{NoFare}
-use Rattle.fare_groups.proofs.Grouped.{each_in}
 use Rattle.residual_keys.specs.AskedKeys.{IsKey}
 use Rattle.residual_keys.specs.Steps.{MarketOver}
 use Rattle.residual_keys.proofs.Markets.{no_sheet}
-use Rattle.residual_keys.proofs.Sheeted.{got_in}
-use Rattle.search_steps.proofs.TableFacts.{got_is}
 use Rattle.search_steps.proofs.TakenKeys.{key_of_market}
+use Rattle.law_lemmas.proofs.EachOne.{each_in}
+use Rattle.law_lemmas.proofs.Lists.{got_is, got_within}
+use Rattle.law_lemmas.proofs.Members.{got_in}
+use Rattle.law_lemmas.proofs.Options.{on_ok}
 use Rattle.search_steps.proofs.taking.take_filed.Goals as goal
 
 pub market_over-ends-requires : goal.market_over-ends-requires
@@ -26,7 +26,7 @@ returns-in_default-clause-asked g c = λ key k.
 pub index-requires : goal.index-requires
 index-requires g c =
     let s = subst (λ o. MatchOption o (NoFare c.args.case.now.book.now c.market_over-ends.result.from c.market_over-ends.result.to) (StandsAt c.find.new.self.kept.items c.market_over-ends.result)) c.in-Some.is c.in_ok-at.ensures.found in
-    let lt = got_lt c.find.new.self.kept.items c.in-Some.at s.market s.stands in
+    let lt = got_within c.find.new.self.kept.items c.in-Some.at s.market s.stands in
     let e : vec_len c.find.new.self.kept ≡ length c.find.new.self.kept.items = omega arith in
     omega (arith, lt, e)
 

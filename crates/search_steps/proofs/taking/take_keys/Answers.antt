@@ -4,10 +4,11 @@ use Rattle.fare_component.specs.Keys.{asked}
 use Rattle.fare_law.specs.declared.market.OfferKey.{OfferKey}
 use Rattle.fare_law.specs.Lists.{IsIn}
 use Rattle.residual_keys.specs.Residuals.{State}
-use Rattle.residual_keys.proofs.PathByPath.{HoldsOn, holds_more, read_in}
+use Rattle.residual_keys.proofs.PathByPath.{HoldsOn, holds_more}
 use Rattle.residual_keys.proofs.StepTaken.{path_known}
 use Rattle.search_steps.specs.Settling.{AreServed}
 use Rattle.search_steps.proofs.ServedPaths.{all_keys}
+use Rattle.law_lemmas.proofs.Members.{read_in}
 use Rattle.search_steps.proofs.taking.take_keys.Goals as goal
 
 pub returns-then-from-len-clause-asked : goal.returns-then-from-len-clause-asked

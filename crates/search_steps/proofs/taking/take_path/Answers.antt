@@ -1,9 +1,9 @@
 use Rattle.std.proofs.Common.{false, true, inl, inr, sym, ◌∙◌, subst}
-use Rattle.cheap_moves.proofs.Looking.{on_ok}
 use Rattle.fare_component.specs.Keys.{asked}
 use Rattle.residual_keys.specs.Gathered.{IsPathOf}
 use Rattle.search_steps.specs.Settling.{IsFiledKey}
 use Rattle.search_steps.proofs.TakenKeys.{flown_same, key_filed}
+use Rattle.law_lemmas.proofs.Options.{on_ok}
 use Rattle.search_steps.proofs.taking.take_path.Goals as goal
 
 pub returns-then-is_empty-clause-asked : goal.returns-then-is_empty-clause-asked

@@ -1,6 +1,6 @@
 use Rattle.std.proofs.Common.{ap, ◌∙◌}
-use Rattle.cheap_moves.proofs.Looking.{if_ok}
 use Rattle.search_steps.specs.LeastMoves.{counted_in}
+use Rattle.law_lemmas.proofs.Options.{if_ok}
 use Rattle.search_steps.proofs.within.counted_within.Goals as goal
 
 pub returns-clause-counted : goal.returns-clause-counted

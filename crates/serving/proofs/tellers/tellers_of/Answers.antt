@@ -5,7 +5,8 @@ use Rattle.desk_teller.specs.declared.teller.DeskTeller.{DeskTeller}
 use Rattle.fare_law.specs.Lists.{Each}
 use Rattle.fare_versions.specs.Seen.{HasSeen}
 use Rattle.serve_desks.specs.Terms.{IsOf, terms_of}
-use Rattle.serving.proofs.TellerSteps.{allowed_of, each_and, of_watch}
+use Rattle.serving.proofs.TellerSteps.{allowed_of, of_watch}
+use Rattle.law_lemmas.proofs.EachOne.{each_more}
 use Rattle.serving.proofs.tellers.tellers_of.Goals as goal
 
 pub teller_of-requires : goal.teller_of-requires
@@ -24,7 +25,7 @@ loop-watch-preserved g c =
     let pushed = c.in_ok-push.ensures.items in
     let popped = All-pop (HasSeen clerk) c.loop-watch.left.items c.pop.new.self.items (Some c.in-Some.watch) c.in-Some.ensures.items so_far.0 in
     let one = of_watch clerk c.in-Some.watch asks teller popped.1 c.in_ok-teller.ensures in
-    let more = each_and (IsOf {T = DeskTeller g.row.G.Denot} (λ t. t.sight.house) (λ t. record { asks = t.asks; timetable = t.sight.book.timetable }) clerk.house (terms_of asks clerk.book)) tellers teller so_far.1 one in (
+    let more = each_more (IsOf {T = DeskTeller g.row.G.Denot} (λ t. t.sight.house) (λ t. record { asks = t.asks; timetable = t.sight.book.timetable }) clerk.house (terms_of asks clerk.book)) tellers teller so_far.1 one in (
       popped.0,
       subst (Each (IsOf {T = DeskTeller g.row.G.Denot} (λ t. t.sight.house) (λ t. record { asks = t.asks; timetable = t.sight.book.timetable }) clerk.house (terms_of asks clerk.book))) (sym pushed) more,
       omega (arith, so_far.2, ap length pushed, length_push tellers teller, c.in-Some.ensures.len),

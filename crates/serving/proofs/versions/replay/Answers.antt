@@ -5,7 +5,8 @@ use Rattle.fare_law.specs.Book.{Book}
 use Rattle.fare_law.specs.declared.filings.Filing.{Filing}
 use Rattle.serve_desks.specs.declared.log.Filed.TheVariants.{Accepted}
 use Rattle.serving.specs.Replaying.{HasTexts, history_after}
-use Rattle.serving.proofs.Replays.{Reached, all_reached, as_many, first_reached, is_judged, next_reached, reached_here}
+use Rattle.serving.proofs.Replays.{Reached, all_reached, first_reached, is_judged, next_reached, reached_here}
+use Rattle.serve_desks.proofs.Judges.{judged_length}
 use Rattle.serving.proofs.versions.replay.Goals as goal
 
 pub loop-at-init : goal.loop-at-init
@@ -27,7 +28,7 @@ next-requires-clause-judged c =
     let filings = history_after start.entries later c.args.filed.now in
     let at = c.loop-at.at in
     let less = c.loop-at-test.true in
-    let many = as_many start.timetable start.entries later c.args.filed.now filings c.requires.judged in
+    let many = judged_length start.timetable start.entries later c.args.filed.now filings c.requires.judged in
     let within : at < length c.args.filed.now = omega (arith, less, many, length-map c.args.later.now arc_value) in
     let filing = c.index-later-at.result in
     let how = slice_index_or c.args.filed.now at (Accepted 0) in
@@ -41,7 +42,7 @@ loop-at-preserved c =
     let filings = history_after start.entries later c.args.filed.now in
     let at = c.loop-at.at in
     let less = c.loop-at-test.true in
-    let many = as_many start.timetable start.entries later c.args.filed.now filings c.requires.judged in
+    let many = judged_length start.timetable start.entries later c.args.filed.now filings c.requires.judged in
     let within : at < length c.args.filed.now = omega (arith, less, many, length-map c.args.later.now arc_value) in
     let filing = c.index-later-at.result in
     let how = slice_index_or c.args.filed.now at (Accepted 0) in

@@ -3,7 +3,8 @@ use Rattle.fare_law.specs.Limits.{IsFlight}
 use Rattle.fare_law.specs.Lists.{Each}
 use Rattle.ticket_demands.specs.Cuts.{CutsMeet}
 use Rattle.ticket_demands.proofs.CutLemmas.{EndsAt, cut_none, start_wrong, demand_wrong, cut_on, arrives_in_time}
-use Rattle.ticket_demands.proofs.Gathering.{each_take, each_drop}
+use Rattle.ticket_demands.proofs.Gathering.{each_drop}
+use Rattle.law_lemmas.proofs.EachOne.{each_take}
 use Rattle.ticket_demands.proofs.journey.cuts_meet.Goals as goal
 
 pub returns-in_default : goal.returns-in_default

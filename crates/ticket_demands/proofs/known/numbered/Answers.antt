@@ -1,6 +1,8 @@
 use Rattle.std.proofs.Common.{◌≡◌, ◌∙◌, sym, Some, get_or, slice_get, arith}
 use Rattle.fare_law.specs.Limits.{IsFlight}
-use Rattle.ticket_demands.proofs.Gathering.{gather_more, gather_skip, each_more, each_got, length_more}
+use Rattle.ticket_demands.proofs.Gathering.{gather_more, gather_skip}
+use Rattle.law_lemmas.proofs.EachOne.{each_got, each_more}
+use Rattle.law_lemmas.proofs.Lists.{length_more}
 use Rattle.ticket_demands.proofs.known.numbered.Goals as goal
 
 pub loop-number-preserved-in_default : goal.loop-number-preserved-in_default

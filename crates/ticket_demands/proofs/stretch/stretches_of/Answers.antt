@@ -4,7 +4,9 @@ use Rattle.fare_law.specs.declared.tickets.Component.{Component}
 use Rattle.ticket_demands.specs.declared.stretch.Stretch.{Stretch}
 use Rattle.ticket_demands.specs.Known.{part_of}
 use Rattle.ticket_demands.specs.Stretches.{stretch_of}
-use Rattle.ticket_demands.proofs.Gathering.{gather_more, gather_skip, gather_all, each_more, length_more, map_gathered}
+use Rattle.ticket_demands.proofs.Gathering.{gather_more, gather_skip, gather_all}
+use Rattle.law_lemmas.proofs.EachOne.{each_more}
+use Rattle.law_lemmas.proofs.Lists.{length_more, map_gathered}
 use Rattle.ticket_demands.proofs.stretch.stretches_of.Goals as goal
 
 abbrev HasDay : Stretch → Type 0

@@ -1,5 +1,5 @@
-use Rattle.schedule_book.proofs.Sorting.{words_told}
-use Rattle.ticket_order.proofs.Words.{less_never, less_trans, less_total, less_cut, less_more, less_second, less_first, before_never, before_trans, before_total, before_more, before_second}
+use Rattle.ticket_order.proofs.Words.{less_cut, less_more, less_second, less_first, before_never, before_trans, before_total, before_more, before_second}
+use Rattle.law_lemmas.proofs.Words.{less_never, less_total, less_trans, words_told}
 use Rattle.ticket_order.proofs.laws.order_laws.Goals as goal
 
 pub returns : goal.returns

@@ -1,6 +1,8 @@
 use Rattle.std.proofs.Common.{◌≡◌, ◌∙◌, ◌+◌, sym, Some, get_or, length, slice_get, arith}
 use Rattle.fare_law.specs.Limits.{IsFlight}
-use Rattle.ticket_whole.proofs.Gathering.{gather_more, each_more, each_got, length_more}
+use Rattle.ticket_whole.proofs.Gathering.{gather_more}
+use Rattle.law_lemmas.proofs.EachOne.{each_got, each_more}
+use Rattle.law_lemmas.proofs.Lists.{length_more}
 use Rattle.ticket_whole.proofs.known.add_numbered.Goals as goal
 
 pub loop-number-preserved : goal.loop-number-preserved

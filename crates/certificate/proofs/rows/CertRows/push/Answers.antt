@@ -4,7 +4,8 @@ use Rattle.certificate.specs.declared.numbered.NumberedRow.{NumberedRow}
 use Rattle.certificate.specs.declared.parts.CertRow.{CertRow}
 use Rattle.certificate.specs.NumberedRows.{AreLive, key_of, row_of, rows_of}
 use Rattle.residual_table.specs.Keys.{IsLive, StandsFor, residual_at}
-use Rattle.certificate.proofs.StandingRows.{one_live, same_rows, still_live, stood_for}
+use Rattle.certificate.proofs.StandingRows.{one_live, same_rows, still_live}
+use Rattle.residual_table.proofs.KeyFacts.{residual_is}
 use Rattle.certificate.proofs.rows.CertRows.push.Goals as goal
 
 pub invariant_of-self : goal.invariant_of-self
@@ -27,7 +28,7 @@ returns c =
     let row : NumberedRow = c.new.result in
     let rows = c.self.inside.rows.items in
     let added : CertRow = record { residual = c.args.residual.now; bound = c.args.bound } in
-    let at = ap (residual_at new) c.new.ensures.key ∙ stood_for new c.in_ok-key.key c.args.residual.now c.in_ok-key.ensures.stands in
+    let at = ap (residual_at new) c.new.ensures.key ∙ residual_is new c.in_ok-key.key c.args.residual.now c.in_ok-key.ensures.stands in
     let bound = c.new.ensures.bound in
     let is : row_of new row ≡ added = λ j. record { residual = at j; bound = bound j } in
     let before = same_rows c.self.inside.parts new (c.keys_stay.ensures _ _ c.in_ok-key.ensures.grows) rows c.self.invariant ∙ c.self.view_is in

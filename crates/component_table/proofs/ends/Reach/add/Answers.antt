@@ -2,10 +2,11 @@ use Rattle.std.proofs.Common.{◌≡◌, [], ◌∷◌, ◌++◌, MatchOption, a
 use Rattle.component_table.specs.declared.ends.End.{End}
 use Rattle.component_table.specs.Markets.{StandsAt}
 use Rattle.component_table.specs.Reaches.{FiledAt, IsEnd}
-use Rattle.component_table.proofs.PathFacts.{last_got}
-use Rattle.component_table.proofs.ReachFacts.{each_last, ends_on, found_on, prefix_on}
+use Rattle.component_table.proofs.ReachFacts.{ends_on, found_on}
 use Rattle.fare_book.specs.Keeping.{NoFare}
 use Rattle.fare_law.specs.Lists.{Each}
+use Rattle.law_lemmas.proofs.EachOne.{each_more}
+use Rattle.law_lemmas.proofs.Lists.{got_last, prefix_trans}
 use Rattle.component_table.proofs.ends.Reach.add.Goals as goal
 
 pub returns-in_err-there-clause-reach : goal.returns-in_err-there-clause-reach
@@ -23,7 +24,7 @@ returns-in_err-back-clause-reach c =
     let old = c.args.self.now.markets.kept.items in
     let one = c.find.new.self.kept.items in
     let two = c.find-2.new.self.kept.items in
-    record { markets = c.in_err-back.ensures.kept; ends = ends_on b from old two c.args.self.now.ends.items (prefix_on old one two c.in_ok-there.ensures.grows c.in_err-back.ensures.grows) c.requires.ends }
+    record { markets = c.in_err-back.ensures.kept; ends = ends_on b from old two c.args.self.now.ends.items (prefix_trans old one two c.in_ok-there.ensures.grows c.in_err-back.ensures.grows) c.requires.ends }
 
 pub returns-in_err-insert-clause-reach : goal.returns-in_err-insert-clause-reach
 returns-in_err-insert-clause-reach c =
@@ -32,7 +33,7 @@ returns-in_err-insert-clause-reach c =
     let old = c.args.self.now.markets.kept.items in
     let one = c.find.new.self.kept.items in
     let two = c.find-2.new.self.kept.items in
-    record { markets = c.in_ok-back.ensures.kept; ends = ends_on b from old two c.args.self.now.ends.items (prefix_on old one two c.in_ok-there.ensures.grows c.in_ok-back.ensures.grows) c.requires.ends }
+    record { markets = c.in_ok-back.ensures.kept; ends = ends_on b from old two c.args.self.now.ends.items (prefix_trans old one two c.in_ok-there.ensures.grows c.in_ok-back.ensures.grows) c.requires.ends }
 
 pub returns-in_err-push-clause-reach : goal.returns-in_err-push-clause-reach
 returns-in_err-push-clause-reach c =
@@ -41,7 +42,7 @@ returns-in_err-push-clause-reach c =
     let old = c.args.self.now.markets.kept.items in
     let one = c.find.new.self.kept.items in
     let two = c.find-2.new.self.kept.items in
-    record { markets = c.in_ok-back.ensures.kept; ends = subst (Each (IsEnd b from two)) (sym c.in_err-push.ensures.items) (ends_on b from old two c.args.self.now.ends.items (prefix_on old one two c.in_ok-there.ensures.grows c.in_ok-back.ensures.grows) c.requires.ends) }
+    record { markets = c.in_ok-back.ensures.kept; ends = subst (Each (IsEnd b from two)) (sym c.in_err-push.ensures.items) (ends_on b from old two c.args.self.now.ends.items (prefix_trans old one two c.in_ok-there.ensures.grows c.in_ok-back.ensures.grows) c.requires.ends) }
 
 pub returns-clause-reach : goal.returns-clause-reach
 returns-clause-reach c =
@@ -58,7 +59,7 @@ returns-clause-reach c =
     } in
     record {
       markets = c.in_ok-back.ensures.kept;
-      ends = subst (Each (IsEnd b from two)) (sym c.in_ok-push.ensures.items) (each_last (IsEnd b from two) c.args.self.now.ends.items end (ends_on b from old two c.args.self.now.ends.items (prefix_on old one two c.in_ok-there.ensures.grows c.in_ok-back.ensures.grows) c.requires.ends) is);
+      ends = subst (Each (IsEnd b from two)) (sym c.in_ok-push.ensures.items) (each_more (IsEnd b from two) c.args.self.now.ends.items end (ends_on b from old two c.args.self.now.ends.items (prefix_trans old one two c.in_ok-there.ensures.grows c.in_ok-back.ensures.grows) c.requires.ends) is);
     }
 
 pub returns-clause-end : goal.returns-clause-end
@@ -73,7 +74,7 @@ returns-clause-end c =
     let n : c.len-at.result ≡ length ends = omega (arith, c.len-at.ensures) in
     record {
       one = end;
-      stands = ap (λ xs. slice_get xs c.len-at.result) c.in_ok-push.ensures.items ∙ ap (slice_get (ends ++ end ∷ [])) n ∙ last_got ends end;
+      stands = ap (λ xs. slice_get xs c.len-at.result) c.in_ok-push.ensures.items ∙ ap (slice_get (ends ++ end ∷ [])) n ∙ got_last ends end;
       is = record {
         key_is = refl;
         end = record {

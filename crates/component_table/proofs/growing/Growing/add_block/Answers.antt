@@ -2,7 +2,7 @@ use Rattle.std.proofs.Common.{◌≡◌, [], ◌∷◌, ◌++◌, ap, length, re
 use Rattle.component_table.specs.declared.growing.Block.{Block}
 use Rattle.component_table.specs.Blocks.{IsSlot}
 use Rattle.component_table.proofs.BlockFacts.{slots_block, slots_fewer}
-use Rattle.component_table.proofs.PathFacts.{last_got}
+use Rattle.law_lemmas.proofs.Lists.{got_last}
 use Rattle.component_table.proofs.growing.Growing.add_block.Goals as goal
 
 pub returns-clause-low : goal.returns-clause-low
@@ -21,4 +21,4 @@ returns-clause-block c =
     let blocks = c.args.self.now.blocks.items in
     let block : Block = record { class = c.args.class.now; there = c.len-begin.result; back = c.len-middle.result } in
     let n : c.len-at.result ≡ length blocks = omega (arith, c.len-at.ensures) in
-    record { one = block; stands = ap (λ xs. slice_get xs c.len-at.result) c.in_ok-push.ensures.items ∙ ap (slice_get (blocks ++ block ∷ [])) n ∙ last_got blocks block; class_is = refl }
+    record { one = block; stands = ap (λ xs. slice_get xs c.len-at.result) c.in_ok-push.ensures.items ∙ ap (slice_get (blocks ++ block ∷ [])) n ∙ got_last blocks block; class_is = refl }

@@ -1,9 +1,10 @@
 use Rattle.std.proofs.Common.{◌≡◌, ◌≤◌, [], ◌∷◌, ◌++◌, ap, length, slice_get, subst, sym, ◌∙◌, arith}
 use Rattle.std.specs.Arc.{arc_value}
 use Rattle.component_table.specs.declared.markets.Market.{Market}
-use Rattle.component_table.proofs.PathFacts.{last_got, own_sheet}
+use Rattle.component_table.proofs.PathFacts.{own_sheet}
 use Rattle.fare_law.specs.Sheets.{Sheet}
 use Rattle.residual_keys.proofs.Sheeted.{is_sheet}
+use Rattle.law_lemmas.proofs.Lists.{got_last}
 use Rattle.component_table.proofs.markets.Markets.add.Goals as goal
 
 pub groups_of-requires : goal.groups_of-requires
@@ -20,7 +21,7 @@ returns-clause-found c =
     let n : c.len-at.result ≡ length old = omega (arith, c.len-at.ensures) in
     record {
       market = m;
-      stands = ap (λ xs. slice_get xs c.len-at.result) c.in_ok-push.ensures.items ∙ ap (slice_get (old ++ m ∷ [])) n ∙ last_got old m;
+      stands = ap (λ xs. slice_get xs c.len-at.result) c.in_ok-push.ensures.items ∙ ap (slice_get (old ++ m ∷ [])) n ∙ got_last old m;
       from = ap (λ (s : Sheet). s.from) c.in_ok-sheet.ensures ∙ c.requires.sheet.filed_from;
       to = ap (λ (s : Sheet). s.to) c.in_ok-sheet.ensures ∙ c.requires.sheet.filed_to;
     }

@@ -3,19 +3,18 @@ use Rattle.component_table.specs.declared.networks.FareTails.{FareTails}
 use Rattle.component_table.specs.declared.networks.SliceTails.{SliceTails}
 use Rattle.component_table.specs.Networks.{AreFareTailsOf, AreTailsOver}
 use Rattle.component_table.specs.Tails.{AreTailsFrom}
-use Rattle.component_table.proofs.PathFacts.{got_is, got_lt, last_got}
-use Rattle.component_table.proofs.ReachFacts.{each_last}
-use Rattle.fare_groups.proofs.Grouped.{each_in}
 use Rattle.fare_law.specs.Lists.{Each}
 use Rattle.flight_paths.specs.declared.positions.Path.{Path}
 use Rattle.flight_paths.specs.Heads.{chosen}
-use Rattle.residual_keys.proofs.Sheeted.{got_in}
+use Rattle.law_lemmas.proofs.EachOne.{each_in, each_more}
+use Rattle.law_lemmas.proofs.Lists.{got_is, got_last, got_within}
+use Rattle.law_lemmas.proofs.Members.{got_in}
 use Rattle.component_table.proofs.networks.Network.find_fare_tails.Goals as goal
 
 pub index-all-requires : goal.index-all-requires
 index-all-requires c =
     let s = c.in_ok-among.ensures.tails in
-    let lt = got_lt c.find_tails.new.self.tails.items c.in_ok-among.among s.kept s.stands in
+    let lt = got_within c.find_tails.new.self.tails.items c.in_ok-among.among s.kept s.stands in
     let e : vec_len c.find_tails.new.self.tails ≡ length c.find_tails.new.self.tails.items = omega arith in
     omega (arith, lt, e)
 
@@ -42,7 +41,7 @@ returns-clause-network c =
       tails = n.tails;
       masks = n.masks;
       kinds = n.kinds;
-      fare_tails = subst (Each (AreFareTailsOf b q ts)) (sym c.in_ok-push.ensures.items) (each_last (AreFareTailsOf b q ts) c.find_tails.new.self.fare_tails.items t n.fare_tails own);
+      fare_tails = subst (Each (AreFareTailsOf b q ts)) (sym c.in_ok-push.ensures.items) (each_more (AreFareTailsOf b q ts) c.find_tails.new.self.fare_tails.items t n.fare_tails own);
     }
 
 pub returns-clause-tails : goal.returns-clause-tails
@@ -50,4 +49,4 @@ returns-clause-tails c =
     let old = c.find_tails.new.self.fare_tails.items in
     let t : FareTails = record { place = c.args.place; slice = c.args.slice; among = c.in_ok-among.among; numbers = c.in_ok-numbers.numbers } in
     let n : c.len-at.result ≡ length old = omega (arith, c.len-at.ensures) in
-    record { tails = t; stands = ap (λ xs. slice_get xs c.len-at.result) c.in_ok-push.ensures.items ∙ ap (slice_get (old ++ t ∷ [])) n ∙ last_got old t; place_is = refl; slice_is = refl }
+    record { tails = t; stands = ap (λ xs. slice_get xs c.len-at.result) c.in_ok-push.ensures.items ∙ ap (slice_get (old ++ t ∷ [])) n ∙ got_last old t; place_is = refl; slice_is = refl }

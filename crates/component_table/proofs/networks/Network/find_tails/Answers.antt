@@ -3,9 +3,9 @@ use Rattle.component_table.specs.declared.networks.SliceTails.{SliceTails}
 use Rattle.component_table.specs.Kinds.{AreKinds}
 use Rattle.component_table.specs.Networks.{AreFareTailsOf, AreTailsOver}
 use Rattle.component_table.proofs.NetworkFacts.{fare_tails_more}
-use Rattle.component_table.proofs.PathFacts.{last_got}
-use Rattle.component_table.proofs.ReachFacts.{each_last}
 use Rattle.fare_law.specs.Lists.{Each}
+use Rattle.law_lemmas.proofs.EachOne.{each_more}
+use Rattle.law_lemmas.proofs.Lists.{got_last}
 use Rattle.component_table.proofs.networks.Network.find_tails.Goals as goal
 
 pub returns-clause-network : goal.returns-clause-network
@@ -18,10 +18,10 @@ returns-clause-network c =
       markets = c.requires.markets;
       masks = c.in_ok-kinds.ensures.masks;
       kinds = subst (Each (λ (x : SliceTails). AreKinds b q x.paths x.kinds)) (sym c.in_ok-push.ensures.items)
-          (each_last (λ (x : SliceTails). AreKinds b q x.paths x.kinds) c.args.self.now.tails.items t c.requires.kinds kinds);
+          (each_more (λ (x : SliceTails). AreKinds b q x.paths x.kinds) c.args.self.now.tails.items t c.requires.kinds kinds);
       fare_tails = subst (λ ts. Each (AreFareTailsOf b q ts) c.args.self.now.fare_tails.items) (sym c.in_ok-push.ensures.items) (fare_tails_more b q c.args.self.now.tails.items t c.args.self.now.fare_tails.items c.requires.fare_tails);
       tails = subst (Each (λ (x : SliceTails). AreTailsOver b q.slices x.slice x.paths)) (sym c.in_ok-push.ensures.items)
-          (each_last (λ (x : SliceTails). AreTailsOver b q.slices x.slice x.paths) c.args.self.now.tails.items t c.requires.tails
+          (each_more (λ (x : SliceTails). AreTailsOver b q.slices x.slice x.paths) c.args.self.now.tails.items t c.requires.tails
           (λ x places flights. c.in_ok-paths.ensures x (record { places = places ∙ c.schedule_of.ensures.places; flights = flights ∙ c.schedule_of.ensures.flights })));
     }
 
@@ -30,4 +30,4 @@ returns-clause-tails c =
     let old = c.args.self.now.tails.items in
     let t : SliceTails = record { slice = c.args.slice; paths = c.in_ok-paths.paths; kinds = c.in_ok-kinds.kinds; ends = c.in_ok-ends.ends } in
     let n : c.len-at.result ≡ length old = omega (arith, c.len-at.ensures) in
-    record { kept = t; stands = ap (λ xs. slice_get xs c.len-at.result) c.in_ok-push.ensures.items ∙ ap (slice_get (old ++ t ∷ [])) n ∙ last_got old t; slice_is = refl }
+    record { kept = t; stands = ap (λ xs. slice_get xs c.len-at.result) c.in_ok-push.ensures.items ∙ ap (slice_get (old ++ t ∷ [])) n ∙ got_last old t; slice_is = refl }

@@ -1,6 +1,6 @@
 use Rattle.std.proofs.Common.{◌<◌, length, arith}
-use Rattle.component_table.proofs.PathFacts.{got_at}
 use Rattle.component_table.proofs.RowFacts.{met_set, row_at_set, rows_put}
+use Rattle.law_lemmas.proofs.Lists.{read_got}
 use Rattle.component_table.proofs.rows.Rows.put.Goals as goal
 
 pub returns-then-row-len-clause-rows : goal.returns-then-row-len-clause-rows
@@ -9,7 +9,7 @@ returns-then-row-len-clause-rows c = λ b q at classes table k known done has.
     let old = c.index_mut.result.now in
     let new = c.put_in.new.row in
     let lt : c.args.row < length rows = omega (arith, c.if-row-len.true, c.len.ensures) in
-    let stands = got_at rows c.args.row _ old lt c.index_mut.ensures.value in
+    let stands = read_got rows c.args.row _ old lt c.index_mut.ensures.value in
     let puts = c.put_in.ensures in
     record {
       each = rows_put rows c.args.row old new stands puts.carrier puts.first b q at classes table c.args.class c.args.mask k puts.masks known (done old stands) has.each;
@@ -21,4 +21,4 @@ returns-then-row-len-clause-stays c = λ carrier first n h.
     let rows = c.args.self.now.kept.items in
     let old = c.index_mut.result.now in
     let lt : c.args.row < length rows = omega (arith, c.if-row-len.true, c.len.ensures) in
-    row_at_set rows c.args.row old c.put_in.new.row (got_at rows c.args.row _ old lt c.index_mut.ensures.value) c.put_in.ensures.carrier c.put_in.ensures.first carrier first n h
+    row_at_set rows c.args.row old c.put_in.new.row (read_got rows c.args.row _ old lt c.index_mut.ensures.value) c.put_in.ensures.carrier c.put_in.ensures.first carrier first n h

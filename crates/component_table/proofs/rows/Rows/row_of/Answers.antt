@@ -1,7 +1,7 @@
 use Rattle.std.proofs.Common.{◌≡◌, ℕ, [], ◌∷◌, ◌++◌, Some, ap, length, slice_get, subst, sym, ◌∙◌, arith}
 use Rattle.component_table.specs.Rows.{AreRows, IsRowAt}
-use Rattle.component_table.proofs.PathFacts.{last_got}
 use Rattle.component_table.proofs.RowFacts.{rows_more}
+use Rattle.law_lemmas.proofs.Lists.{got_last}
 use Rattle.component_table.proofs.rows.Rows.row_of.Goals as goal
 
 pub returns-in-Some-clause-row : goal.returns-in-Some-clause-row
@@ -17,4 +17,4 @@ returns-clause-row c =
     let old = c.args.self.now.kept.items in
     let row = c.row_with.result in
     let n : c.len-at.result ≡ length old = omega (arith, c.len-at.ensures) in
-    record { row = row; stands = ap (λ xs. slice_get xs c.len-at.result) c.in_ok-push.ensures.items ∙ ap (slice_get (old ++ row ∷ [])) n ∙ last_got old row; carrier_is = c.row_with.ensures.carrier; first_is = c.row_with.ensures.first }
+    record { row = row; stands = ap (λ xs. slice_get xs c.len-at.result) c.in_ok-push.ensures.items ∙ ap (slice_get (old ++ row ∷ [])) n ∙ got_last old row; carrier_is = c.row_with.ensures.carrier; first_is = c.row_with.ensures.first }

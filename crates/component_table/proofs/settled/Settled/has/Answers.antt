@@ -1,8 +1,8 @@
 use Rattle.std.proofs.Common.{ap, get_or, subst, ◌∙◌}
 use Rattle.component_table.specs.declared.settled.SettledClass.{SettledClass}
 use Rattle.component_table.specs.Classes.{AreAmong}
-use Rattle.component_table.proofs.PathFacts.{got_is}
-use Rattle.residual_keys.proofs.Sheeted.{got_in}
+use Rattle.law_lemmas.proofs.Lists.{got_is}
+use Rattle.law_lemmas.proofs.Members.{got_in}
 use Rattle.component_table.proofs.settled.Settled.has.Goals as goal
 
 pub returns-in-Some-clause-has : goal.returns-in-Some-clause-has

@@ -1,9 +1,8 @@
 use Rattle.std.proofs.Common.{[], ◌∷◌, subst, inl, inr}
 use Rattle.component_table.specs.declared.settled.SettledClass.{SettledClass}
 use Rattle.component_table.proofs.Lower.{set_only}
-use Rattle.component_table.proofs.PathFacts.{in_one}
-use Rattle.fare_groups.proofs.Grouped.{in_either}
 use Rattle.fare_law.specs.Lists.{IsIn}
+use Rattle.law_lemmas.proofs.Members.{in_either, in_one}
 use Rattle.component_table.proofs.settled.Settled.put.Goals as goal
 
 pub returns-in-Some : goal.returns-in-Some

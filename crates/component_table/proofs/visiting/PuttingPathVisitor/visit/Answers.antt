@@ -1,6 +1,7 @@
 use Rattle.std.proofs.Common.{subst, sym}
 use Rattle.component_table.specs.Tables.{PutsIn}
-use Rattle.component_table.proofs.PathFacts.{added_for, on_ok, put_more}
+use Rattle.component_table.proofs.PathFacts.{added_for, put_more}
+use Rattle.law_lemmas.proofs.Options.{on_ok}
 use Rattle.component_table.proofs.visiting.PuttingPathVisitor.visit.Goals as goal
 
 pub returns : goal.returns

@@ -1,8 +1,9 @@
 use Rattle.std.proofs.Common.{subst, sym}
 use Rattle.component_table.specs.Kinds.{AreKinds}
 use Rattle.component_table.specs.Tables.{IsPathFrom, PathAdded, PutsIn}
-use Rattle.component_table.proofs.PathFacts.{added_for, on_ok, put_more}
+use Rattle.component_table.proofs.PathFacts.{added_for, put_more}
 use Rattle.component_table.proofs.RowFacts.{joint_is, joint_of}
+use Rattle.law_lemmas.proofs.Options.{on_ok}
 use Rattle.component_table.proofs.visiting.PuttingPathVisitor.visit_after.Goals as goal
 
 pub add_joint-requires-clause-joint : goal.add_joint-requires-clause-joint

@@ -12,8 +12,9 @@ use Rattle.search_steps.specs.LeastMoves.{BoundBy, Counts}
 use Rattle.pricing_graph.specs.Givers.{nodes_of, step_as}
 use Rattle.pricing_graph.specs.NodeSteps.{HasNodeStep}
 use Rattle.pricing_graph.proofs.Answered.{counts_in, least_steps, totals_small}
-use Rattle.pricing_graph.proofs.Keyed.{as_many_rows, state_at}
+use Rattle.pricing_graph.proofs.Keyed.{state_at}
 use Rattle.pricing_graph.proofs.SameNodes.{still_ready}
+use Rattle.graph_walk.proofs.RowFacts.{rows_length}
 use Rattle.pricing_graph.proofs.giving.NodeStepsSteps.first_steps.Goals as goal
 
 pub overflow_cast-node : goal.overflow_cast-node
@@ -21,12 +22,12 @@ overflow_cast-node g c =
     let es = c.args.self.now.graph.now.rows.entries in
     let within = c.requires.node in
     let small = c.args.self.now.graph.now.small in
-    omega (arith, within, small, as_many_rows (state c.args.self.now.steps.now) es)
+    omega (arith, within, small, rows_length (state c.args.self.now.steps.now) es)
 
 pub key-key-requires : goal.key-key-requires
 key-key-requires g c =
     let within = c.requires.node in
-    omega (arith, within, as_many_rows (state c.args.self.now.steps.now) c.args.self.now.graph.now.rows.entries)
+    omega (arith, within, rows_length (state c.args.self.now.steps.now) c.args.self.now.graph.now.rows.entries)
 
 pub steps_of-requires : goal.steps_of-requires
 steps_of-requires g c =

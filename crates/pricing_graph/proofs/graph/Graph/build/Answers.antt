@@ -8,7 +8,7 @@ use Rattle.pricing_graph.specs.Graphs.{IsGraph}
 use Rattle.pricing_graph.specs.Settled.{AreSettledFrom}
 use Rattle.pricing_graph.proofs.Reordered.{graph_of, within_budget}
 use Rattle.pricing_graph.proofs.SettledNodes.{all_settled}
-use Rattle.pricing_graph.proofs.Whole.{said_of}
+use Rattle.law_lemmas.proofs.LawFacts.{said_of}
 use Rattle.pricing_graph.proofs.graph.Graph.build.Goals as goal
 
 pub settle_nodes-requires-clause-live : goal.settle_nodes-requires-clause-live

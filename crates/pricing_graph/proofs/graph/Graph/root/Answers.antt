@@ -3,8 +3,8 @@ use Rattle.graph_walk.specs.Steps.{rows_of}
 use Rattle.residual_table.specs.contracts.key.ResidualKeyPartialEq.TheImpl as key
 use Rattle.search_steps.specs.Keys.{state}
 use Rattle.pricing_graph.specs.NodeSteps.{IsRootNode}
-use Rattle.pricing_graph.proofs.NodePlaces.{some_same}
 use Rattle.pricing_graph.proofs.RootNode.{root_there}
+use Rattle.law_lemmas.proofs.Options.{some_same}
 use Rattle.pricing_graph.proofs.graph.Graph.root.Goals as goal
 
 pub unreachable-requires : goal.unreachable-requires

@@ -7,22 +7,22 @@ use Rattle.graph_walk.specs.Steps.{rows_of}
 use Rattle.graph_walk.specs.Walks.{states}
 use Rattle.residual_keys.specs.Searches.{BestRuns}
 use Rattle.residual_keys.specs.Written.{InLimits}
-use Rattle.residual_keys.proofs.LeastOne.{weaken}
 use Rattle.search_steps.specs.Keys.{live, state}
 use Rattle.pricing_graph.specs.DrawnRuns.{HasMoves, IsReadAs, run_of_drawn}
 use Rattle.pricing_graph.specs.Graphs.{IsGraph}
 use Rattle.pricing_graph.specs.NodeSteps.{HasNodeStep}
 use Rattle.pricing_graph.proofs.Keyed.{rows_stay, still_live}
-use Rattle.pricing_graph.proofs.NodePlaces.{at_within}
 use Rattle.pricing_graph.proofs.RootNode.{graph_stays}
-use Rattle.pricing_graph.proofs.RunsRead.{as_many_nodes}
+use Rattle.graph_walk.proofs.RowFacts.{states_length}
+use Rattle.law_lemmas.proofs.EachOne.{each_weaker}
+use Rattle.law_lemmas.proofs.Lists.{got_within}
 use Rattle.pricing_graph.proofs.graph.Graph.runs.Goals as goal
 
 pub best_steps-requires-clause-root : goal.best_steps-requires-clause-root
 best_steps-requires-clause-root g c =
     let nodes = rows_of (state c.root.new.steps) c.args.self.now.rows.entries in
     let is = c.in_ok-root.ensures.node in
-    subst (λ n. c.in_ok-root.root < n) (as_many_nodes nodes) (at_within (states nodes) c.in_ok-root.root is.0 is.1)
+    subst (λ n. c.in_ok-root.root < n) (states_length nodes) (got_within (states nodes) c.in_ok-root.root is.0 is.1)
 
 pub best_steps-requires-clause-ready : goal.best_steps-requires-clause-ready
 best_steps-requires-clause-ready g c =
@@ -66,7 +66,7 @@ runs_of_words-requires g c =
     let graph : IsGraph b q nodes =
     graph_stays old.case.book.now b old.case.request.now q (rows_of (state old) es) nodes kept.case.book kept.case.request (rows_stay (live old) (live new) (state old) (state new) es kept.keeps c.requires.live) c.requires.graph in
     subst (λ ds. Each HasMoves ds) (sym c.as_slice.ensures)
-    (weaken (IsRun (HasNodeStep b q nodes) c.in_ok-root.root) HasMoves (λ d h. c.node_steps_hold.ensures.moves b q limits request nodes c.in_ok-root.root d graph kept.node h) c.in_ok-found.found c.in_ok-found.ensures.least.each)
+    (each_weaker (IsRun (HasNodeStep b q nodes) c.in_ok-root.root) HasMoves (λ d h. c.node_steps_hold.ensures.moves b q limits request nodes c.in_ok-root.root d graph kept.node h) c.in_ok-found.found c.in_ok-found.ensures.least.each)
 
 pub returns-clause-runs : goal.returns-clause-runs
 returns-clause-runs g c =

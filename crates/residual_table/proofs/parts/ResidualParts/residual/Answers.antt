@@ -2,11 +2,12 @@ use Rattle.std.proofs.Common.{◌≡◌, ◌∙◌, subst, sym}
 use Rattle.residual_keys.specs.Kept.{PartKept, open_units}
 use Rattle.residual_keys.specs.Residuals.{State}
 use Rattle.residual_table.specs.Keys.{StandsFor}
-use Rattle.residual_table.proofs.KeyFacts.{got_below, has_slots, one_got, units_are}
+use Rattle.residual_table.proofs.KeyFacts.{has_slots, one_got, units_are}
+use Rattle.law_lemmas.proofs.Lists.{got_within}
 use Rattle.residual_table.proofs.parts.ResidualParts.residual.Goals as goal
 
 pub position_at-at-requires : goal.position_at-at-requires
-position_at-at-requires c = got_below c.args.self.now.positions c.args.key.now.position c.requires.0.at c.requires.1.at
+position_at-at-requires c = got_within c.args.self.now.positions c.args.key.now.position c.requires.0.at c.requires.1.at
 
 pub unit_in-first-requires : goal.unit_in-first-requires
 unit_in-first-requires c = (has_slots c.args.self.now.units c.args.key.now.first c.args.key.now.second c.requires.0.units c.requires.1.units).0

@@ -2,7 +2,6 @@ use Rattle.std.proofs.Common.{◌≡◌, ◌↔◌, ◌∙◌, Some, map, sym, s
 use Rattle.fare_law.specs.Lists.{AllDifferent, Each, IsIn, KLeast}
 use Rattle.flight_paths.specs.contracts.positions.PositionPartialEq.TheImpl as position
 use Rattle.open_unit.specs.contracts.units.OpenUnitPartialEq.TheImpl as unit
-use Rattle.residual_keys.proofs.LeastOne.{weaken}
 use Rattle.residual_keys.specs.Kept.{IsResidual}
 use Rattle.residual_keys.specs.Residuals.{State}
 use Rattle.residual_keys.specs.Steps.{AreMoves}
@@ -14,6 +13,7 @@ use Rattle.search_steps.specs.Numbers.{Numbered}
 use Rattle.search_steps.proofs.Counting.{are_least, codes_differ}
 use Rattle.search_steps.proofs.KeyedBounds.{bound_at, counted_rest, if_ok_both, keyed_least}
 use Rattle.search_steps.proofs.Sooner.{code_of}
+use Rattle.law_lemmas.proofs.EachOne.{each_weaker}
 use Rattle.search_steps.proofs.numbered_case.NumberedCase.least_among.Goals as goal
 
 pub first_of-least-requires : goal.first_of-least-requires
@@ -24,7 +24,7 @@ keyed_moves-requires g c =
     let t = c.self.inside.lists.numbers in
     let bound = bound_at t c.keeps.ensures (key_at position.ghosts.eq unit.ghosts.eq t) (λ k x r. c.keys_found.ensures t k x c.keeps.ensures r) (g.B.Bounds.bound c.args.bounds.now) in
     let least = subst (λ ms. KLeast (λ m. IsIn m ms) IsSooner c.args.wanted c.first_of-least.result) c.in_ok-counted.ensures c.first_of-least.ensures.least in
-    subst (λ ms. Each (HasRest bound) ms) (sym c.as_slice.ensures) (weaken (λ m. IsIn m (counted_in bound c.args.found.now)) (HasRest bound) (counted_rest bound c.args.found.now) c.first_of-least.result least.each)
+    subst (λ ms. Each (HasRest bound) ms) (sym c.as_slice.ensures) (each_weaker (λ m. IsIn m (counted_in bound c.args.found.now)) (HasRest bound) (counted_rest bound c.args.found.now) c.first_of-least.result least.each)
 
 pub returns-clause-least : goal.returns-clause-least
 returns-clause-least g c =

@@ -2,7 +2,6 @@ use Rattle.std.proofs.Common.{◌≡◌, ◌↔◌, ◌∙◌, Some, map, refl, 
 use Rattle.fare_law.specs.Lists.{Each}
 use Rattle.flight_paths.specs.contracts.positions.PositionPartialEq.TheImpl as position
 use Rattle.open_unit.specs.contracts.units.OpenUnitPartialEq.TheImpl as unit
-use Rattle.residual_keys.proofs.LeastOne.{weaken}
 use Rattle.residual_keys.specs.Kept.{IsResidual}
 use Rattle.residual_keys.specs.Residuals.{State}
 use Rattle.residual_table.specs.declared.key.ResidualKey.{ResidualKey}
@@ -12,6 +11,7 @@ use Rattle.search_steps.specs.LeastMoves.{AreLeastMoves, BoundBy, Counts, HasBou
 use Rattle.search_steps.specs.Numbers.{Numbered}
 use Rattle.search_steps.proofs.KeyedBounds.{bound_at, if_ok_both, keyed_least, rest_had}
 use Rattle.search_steps.proofs.ListsByNumber.{grows_same, lists_stay}
+use Rattle.law_lemmas.proofs.EachOne.{each_weaker}
 use Rattle.search_steps.proofs.numbered_case.NumberedCase.least_moves.Goals as goal
 
 pub keyed_moves-requires : goal.keyed_moves-requires
@@ -20,7 +20,7 @@ keyed_moves-requires g c =
     let t = s.lists.numbers in
     let bound = bound_at t c.keeps.ensures (key_at position.ghosts.eq unit.ghosts.eq t) (λ k x r. c.keys_found.ensures t k x c.keeps.ensures r) (g.B.Bounds.bound c.args.bounds.now) in
     subst (λ ms. Each (HasRest bound) ms) (sym c.as_slice.ensures)
-    (weaken (Counts s.case.book.now s.case.request.now (HasBound bound) c.args.residual.now) (HasRest bound) (rest_had s.case.book.now s.case.request.now c.args.residual.now bound) c.in_ok-found.found c.in_ok-found.ensures.least.each)
+    (each_weaker (Counts s.case.book.now s.case.request.now (HasBound bound) c.args.residual.now) (HasRest bound) (rest_had s.case.book.now s.case.request.now c.args.residual.now bound) c.in_ok-found.found c.in_ok-found.ensures.least.each)
 
 pub invariant_of-self : goal.invariant_of-self
 invariant_of-self g c =

@@ -3,7 +3,8 @@ use Rattle.fare_law.specs.declared.rows.SeatRow.{SeatRow}
 use Rattle.fare_law.specs.Book.{row_key}
 use Rattle.seat_classes.specs.Held.{Changes, seats_at}
 use Rattle.seat_classes.proofs.GivenLemmas.{first_repeat, holds_more}
-use Rattle.seat_classes.proofs.HeldLemmas.{changes_from, found_is, none_told}
+use Rattle.seat_classes.proofs.HeldLemmas.{changes_from, found_is}
+use Rattle.law_lemmas.proofs.Options.{none_told}
 use Rattle.seat_classes.proofs.seats.Seats.build.Goals as goal
 
 no_row : SeatRow

@@ -1,0 +1,11 @@
+pub mod Tests
+pub mod Numbers
+pub mod Options
+pub mod Lists
+pub mod Members
+pub mod EachOne
+pub mod Pairs
+pub mod Ends
+pub mod Words
+pub mod Names
+pub mod LawFacts
