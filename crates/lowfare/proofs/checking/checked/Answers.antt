@@ -1,3 +1,6 @@
+use Rattle.std.proofs.Common.{sym, subst}
+use Rattle.std.proofs.lemmas.Result.{IfOk-weaker}
+use Rattle.lowfare.specs.Makes.{IsEnd}
 use Rattle.lowfare.proofs.CheckMakes.{no_made, refused_made, yes_made}
 use Rattle.lowfare.proofs.checking.checked.Goals as goal
 
@@ -16,3 +19,9 @@ returns-in-Yes-clause-makes c =
 pub returns-clause-makes : goal.returns-clause-makes
 returns-clause-makes c =
     no_made c.args.best c.args.at c.args.bytes c.no.result c.in-Ok.found c.in-Ok.ensures.case c.in_ok-check.field-0 c.in-No.rule c.in-No.place c.in_ok-check.ensures c.in-No.is c.no.ensures.status c.no.ensures.text
+
+pub tell_limits-requires : goal.tell_limits-requires
+tell_limits-requires c = c.spelled_requests_are_right.ensures.check c.args.best c.args.at c.args.bytes c.in-Ok.found c.requires.best c.in-Ok.ensures.case
+
+pub returns-clause-ends : goal.returns-clause-ends
+returns-clause-ends c = IfOk-weaker c.no.result _ (λ o. IsEnd o.status) (λ o e. subst IsEnd (sym e) tt) c.no.ensures.status
