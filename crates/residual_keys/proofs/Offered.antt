@@ -45,7 +45,7 @@ pub record IsAt (rows : List SheetRow) (o : Offer) (c : Chosen) : Type 0 where
 pub record Upto (b : Book) (q : Request) (r : State) (ns : List ℕ) (reverse : Bool) (rows : List SheetRow) (offers : List Offer) (c : Chosen) : Type 0 where
   pub filed : IsChosenFiled b q r ns reverse c
   pub offer : Offer
-  pub got_within : IsIn offer offers
+  pub within : IsIn offer offers
   pub at : IsAt rows offer c
 
 -- the fares of a sheet are filed as its market is
@@ -95,12 +95,12 @@ module _ (b : Book) (q : Request) (r : State) (ns : List ℕ) (reverse : Bool) (
           (sym u.at.carrier ∙ ap (λ z. z.carrier) e ∙ w.1) (sym u.at.basis ∙ ap (λ z. z.basis) e ∙ w.2)
 
       forth : (x : Chosen) → Upto b q r ns reverse rows (take i offers) x ⊎ IsChosenWith b q r ns reverse row x → Upto b q r ns reverse rows (take (i + 1) offers) x
-      forth x (inl u) = record { filed = u.filed; offer = u.offer; got_within = subst (IsIn u.offer) (sym front) (in_left u.offer (take i offers) (o ∷ []) u.within); at = u.at }
-      forth x (inr w) = record { filed = w.0; offer = o; got_within = subst (IsIn o) (sym front) (in_right o (take i offers) (o ∷ []) (inl refl)); at = record { row = row; stands = stands; carrier = w.1; basis = w.2 } }
+      forth x (inl u) = record { filed = u.filed; offer = u.offer; within = subst (IsIn u.offer) (sym front) (in_left u.offer (take i offers) (o ∷ []) u.within); at = u.at }
+      forth x (inr w) = record { filed = w.0; offer = o; within = subst (IsIn o) (sym front) (in_right o (take i offers) (o ∷ []) (inl refl)); at = record { row = row; stands = stands; carrier = w.1; basis = w.2 } }
 
       back : (x : Chosen) → Upto b q r ns reverse rows (take (i + 1) offers) x → Upto b q r ns reverse rows (take i offers) x ⊎ IsChosenWith b q r ns reverse row x
       back x u = elim (in_either u.offer (take i offers) (o ∷ []) (subst (IsIn u.offer) front u.within)) [
-        | inl l ↦ inl (record { filed = u.filed; offer = u.offer; got_within = l; at = u.at })
+        | inl l ↦ inl (record { filed = u.filed; offer = u.offer; within = l; at = u.at })
         | inr l ↦
             let row_is : u.at.row ≡ row = some_one (slice_get rows o.place) u.at.row row (subst (λ z. slice_get rows z.place ≡ Some u.at.row) (in_one u.offer o l) u.at.stands) stands in
             inr (u.filed, u.at.carrier ∙ ap (λ z. z.fare.key.carrier) row_is, u.at.basis ∙ ap (λ z. z.fare.key.basis) row_is)
@@ -129,7 +129,7 @@ module _ (b : Book) (q : Request) (r : State) (path : Path) (fs : List Flight) (
       record {
         filed = ((chosen, ns), way);
         offer = o;
-        got_within = (on.exact o).1 (record { row = row; stands = place.1; offered = offered; costs = refl });
+        within = (on.exact o).1 (record { row = row; stands = place.1; offered = offered; costs = refl });
         at = record { row = row; stands = place.1; carrier = h.carrier; basis = h.basis };
       }
 

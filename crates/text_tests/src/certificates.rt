@@ -4,11 +4,11 @@ ghost use Rattle.fare_law.specs.Limits.{IsRequest};
 
 use certificate::{CertAnswer, CertRows, Certificate};
 use certificate_text::{CertFault, read_cert};
-use fare_law::{ArrayVec, Basis, Carrier, List, Move, Place, Request, Role, Slice};
+use fare_law::{ArrayVec, Basis, Carrier, List, Mem, Move, Place, Request, Role, Slice};
 use flight_paths::Position;
 use open_unit::CarrierMark;
 use residual_keys::{Residual, TicketPart};
-use std::alloc::{AllocError, Global};
+use std::alloc::Global;
 use std::test::Fail;
 
 const WRITTEN: &str = "certificate 1
@@ -73,7 +73,7 @@ fn root() -> Option<Residual> {
     Residual::checked(at, None, None, part)
 }
 
-fn one_way(alloc: Global) -> Result<Certificate, AllocError>
+fn one_way(alloc: Global) -> Result<Certificate, Mem>
     ensures { IfOk result (λ certificate. IsRequest certificate.request) }
 {
     let mut moves = ArrayVec::new();
