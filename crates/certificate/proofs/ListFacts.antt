@@ -1,4 +1,4 @@
--- Lists whose elements are right after those before them, element by element and pair by pair.
+-- Lists whose elements are right after those before them, element by element and pair by pair. This file is given on to the crates above.
 use Rattle.std.proofs.Common.{◌≡◌, ℕ, suc, ◌+◌, ◌≤◌, ◌<◌, List, [], ◌∷◌, ◌++◌, length, map, sym, refl, ap, subst, inl, inr, arith}
 use Rattle.certificate.specs.InOrder.{AllRight, IfLast}
 use Rattle.fare_law.specs.Lists.{Each, EachPair, IsIn, Matched, OnLast}

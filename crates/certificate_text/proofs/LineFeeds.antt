@@ -1,4 +1,4 @@
--- No line of a certificate has a line feed.
+-- No line of a certificate has a line feed. This file is given on to the crates above.
 use Rattle.std.proofs.Common.{◌≡◌, ◌≢◌, ◌<◌, ◌^◌, ◌==◌, ℕ, true, not, List, [], ◌∷◌, ◌++◌, map, flat_map, Option, Some, None, refl, arith, inl, inr}
 use Rattle.std.specs.Fmt.{decimal}
 use Rattle.std.specs.List.{list_all}

@@ -1,4 +1,4 @@
--- What is read from lists, and what holds of the first and the last of some flights.
+-- What is read from lists, and what holds of the first and the last of some flights. This file is given on to the crates above.
 use Rattle.std.proofs.Common.{◌≡◌, Bool, true, false, List, refl, sym, subst}
 use Rattle.fare_law.specs.declared.flights.Flight.{Flight}
 use Rattle.fare_law.specs.Lists.{OnFirst, OnLast}

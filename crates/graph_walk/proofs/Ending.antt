@@ -1,4 +1,4 @@
--- What a walk from the root has found, that it is more than the budget, and how large prices get.
+-- What a walk from the root has found, that it is more than the budget, and how large prices get. This file is given on to the crates above.
 use Rattle.std.proofs.Common.{◌≡◌, ◌≢◌, ◌⊎◌, ◌∙◌, ℕ, suc, ◌+◌, ◌*◌, ◌≤◌, ◌<◌, get_or, List, [], ◌∷◌, ◌++◌, length, Option, Some, None, IfSome, refl, sym, subst, inl, inr, ⊎_elim, arith}
 use Rattle.fare_law.specs.Lists.{HasMany, AllDifferent, Each, IsIn}
 use Rattle.graph_walk.specs.Walks.{AreLeast, AreReached, Reached, Costs, IsShort, LeastBy, states}

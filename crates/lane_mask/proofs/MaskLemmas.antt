@@ -1,4 +1,4 @@
--- What the bits of a mask tell of the seats that were compared with a party, for `at_least`.
+-- What the bits of a mask tell of the seats that were compared with a party, for `at_least`. This file is given on to the crates above.
 use Rattle.std.proofs.Common.{◌≡◌, ◌↔◌, ℕ, ◌<◌, ◌≤◌, ◌^◌, ◌/◌, ◌%◌, List, Bool, true, false, cond, map, replicate, length, get_or, leb, refl, ap, sym, ◌∙◌, subst, arith, w8}
 use Rattle.std.specs.Int.{IsBitSet}
 use Rattle.std.specs.Simd.Lanes.{zip2, mask_l, top}

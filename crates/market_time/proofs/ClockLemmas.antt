@@ -1,4 +1,4 @@
--- The times and offsets that texts spell are those that they write: what the laws on them need.
+-- The times and offsets that texts spell are those that they write: what the laws on them need. This file is given on to the crates above.
 use Rattle.std.proofs.Common.{◌≡◌, ◌↔◌, ◌⊎◌, inl, inr, ℕ, ◌+◌, ◌*◌, ◌-◌, ◌/◌, ◌%◌, ◌<◌, ◌≤◌, ◌==◌, ◌&&◌, ◌||◌, nat_lt, nat_le, Bool, true, refl, sym, arith, ℤ, pos, neg_ℤ, List, [], ◌∷◌, slice_index, Some, length, if◌then◌else◌, ap, ◌∙◌}
 use Rattle.std.proofs.lemmas.Bool.Decides.{nat_tests}
 use Rattle.market_time.proofs.DigitLemmas.{let_through, is_number, at_most, digits_in_range, three_hold, four_hold}

@@ -1,4 +1,4 @@
--- The dates that texts spell are those that they write: what `day_text` and the laws on dates need.
+-- The dates that texts spell are those that they write: what `day_text` and the laws on dates need. This file is given on to the crates above.
 use Rattle.std.proofs.Common.{◌≡◌, ℕ, ◌+◌, ◌*◌, ◌-◌, ◌/◌, ◌%◌, ◌≤◌, ◌==◌, ◌&&◌, true, sym, arith, ℤ, pos, ◌≤ℤ◌, List, [], ◌∷◌, Some, length, ap, ◌∙◌}
 use Rattle.std.specs.Int.{IsInRange}
 use Rattle.std.proofs.lemmas.Bool.Decides.{nat_tests}

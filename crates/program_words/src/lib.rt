@@ -10,8 +10,6 @@ mod laws;
 mod lines;
 mod numbers;
 mod parsing;
-#[cfg(test)]
-mod tests;
 
 pub use commands::Command;
 pub use faults::WordsFault;

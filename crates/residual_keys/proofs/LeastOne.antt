@@ -1,4 +1,4 @@
--- In a strict order, total on what is ordered, the list of the k least is one.
+-- In a strict order, total on what is ordered, the list of the k least is one. This file is given on to the crates above.
 use Rattle.std.proofs.Common.{◌≡◌, ℕ, ◌-◌, ◌⊎◌, List, [], ◌∷◌, sym, ap₂, ◌∙◌, refl, subst, inl, inr, arith}
 use Rattle.fare_law.specs.Lists.{Each, EachPair, IsIn, KLeast}
 use Rattle.law_lemmas.proofs.EachOne.{each_member, each_weaker}

@@ -1,4 +1,4 @@
--- Legs of flights are one, and so is the key of legs and a market; a market without fares has no moves.
+-- Legs of flights are one, and so is the key of legs and a market; a market without fares has no moves. This file is given on to the crates above.
 use Rattle.std.proofs.Common.{◌≡◌, ◌⊎◌, ◌↔◌, ℕ, zero, suc, ◌<◌, Bool, List, [], ◌∷◌, IsBitSet, refl, sym, ap₂, subst, ◌∙◌, inl, arith}
 use Rattle.std.specs.Int.{bit_at}
 use Rattle.std.proofs.lemmas.Nat.Bits.{bit_at-lt, same_from_bits_below, shr_and_one}

@@ -1,4 +1,4 @@
--- The moves with the fare of one row are those of the component over it.
+-- The moves with the fare of one row are those of the component over it. This file is given on to the crates above.
 use Rattle.std.proofs.Common.{◌≡◌, ℕ, ◌+◌, ◌≤◌, ◌<◌, Bool, List, length, MatchBool, sym, ap, ap₂, subst, ◌∙◌}
 use Rattle.fare_law.specs.declared.flights.Flight.{Flight}
 use Rattle.fare_law.specs.declared.moves.Move.{Move}

@@ -1,4 +1,4 @@
--- The moves on a path: those filed forward and those in reverse, and no others.
+-- The moves on a path: those filed forward and those in reverse, and no others. This file is given on to the crates above.
 use Rattle.std.proofs.Common.{◌≡◌, ◌⊎◌, ℕ, Bool, true, false, List, [], slice_get, Option, Some, refl, ap, subst, ◌∙◌, inl, inr}
 use Rattle.fare_law.specs.declared.flights.Flight.{Flight}
 use Rattle.fare_law.specs.declared.moves.Role.{Role}

@@ -1,6 +1,6 @@
-//! Tests of the public calls on texts that no case of the program shows: streams and their faults, cases of other kinds, filings, rules,
-//! scripts and certificates, both ways. Each has memory at hand: a call that answers want of memory meets its contract, and these tests
-//! refuse it. Nothing stands on this crate.
+//! Tests of the public calls on texts that no case of the program shows: words of a command line, streams and their faults, cases of
+//! other kinds, filings, rules, scripts and certificates, both ways. Each has memory at hand: a call that answers want of memory meets
+//! its contract, and these tests refuse it. Nothing stands on this crate.
 #![tactic(auto)]
 
 #[cfg(test)]
@@ -19,3 +19,5 @@ mod runs;
 mod scripts;
 #[cfg(test)]
 mod streams;
+#[cfg(test)]
+mod words;

@@ -1,5 +1,5 @@
 //! Words are read, and taken or refused.
-use crate::*;
+use program_words::{Command, WordsFault, read_words};
 use std::test::Fail;
 
 #[test]
