@@ -14,8 +14,6 @@ mod filings;
 #[cfg(test)]
 mod rules;
 #[cfg(test)]
-mod runs;
-#[cfg(test)]
 mod scripts;
 #[cfg(test)]
 mod streams;

@@ -1,5 +1,6 @@
 //! Tests of what threads share: what a watch sees of a clerk's filings, what desks find while filings come, and that books,
-//! watches, receipts, clerks and stores of nodes may cross to other threads. Nothing stands on this crate.
+//! watches, receipts, clerks and stores of nodes may cross to other threads; and of the top calls over streams. Nothing stands on
+//! this crate.
 #![tactic(auto)]
 
 #[cfg(test)]
@@ -12,5 +13,7 @@ mod inventing;
 mod runs;
 #[cfg(test)]
 mod served;
+#[cfg(test)]
+mod streams;
 #[cfg(test)]
 mod versions;
