@@ -105,9 +105,14 @@ fn names_the_first_line_at_fault(rt: HostRuntime) -> Result<(), Fail> {
         ),
     ];
     for (name, texts, line) in cases {
-        let lines = numbered(rt.alloc(), texts)?;
-        let found = read_script(rt.alloc(), lines.as_slice(), 1, 1);
-        assert_eq!(rt; found, Err(ScriptFault::Script { line }), "{name}");
+        let found = fault(rt.alloc(), texts)?;
+        assert_eq!(rt; found, Some(ScriptFault::Script { line }), "{name}");
     }
     Ok(())
+}
+
+// The fault of a script of one filing and one request.
+fn fault(alloc: Global, texts: &[&str]) -> Result<Option<ScriptFault>, AllocError> {
+    let lines = numbered(alloc, texts)?;
+    Ok(read_script(alloc, lines.as_slice(), 1, 1).err())
 }
