@@ -30,3 +30,4 @@ pub mod Wanting
 pub mod Skipping
 pub mod Choosing
 pub mod Running
+pub mod Windows
