@@ -31,3 +31,4 @@ pub mod Skipping
 pub mod Choosing
 pub mod Running
 pub mod Windows
+pub mod Leading
