@@ -5,7 +5,7 @@ use Rattle.fare_law.specs.declared.names.Place.{Place}
 use Rattle.fare_law.specs.Days.{IsInstant}
 use Rattle.fare_law.specs.Limits.{IsFlight}
 use Rattle.flight_paths.specs.Plans.{plan_book}
-use Rattle.flight_paths.specs.Positions.{before_slice, position_before}
+use Rattle.flight_paths.specs.Positions.{position_before}
 use Rattle.flight_paths.proofs.Places.{crossed_is, no_flight, no_slice}
 use Rattle.flight_paths.proofs.Windows.{window_gone, window_known}
 use Rattle.law_lemmas.proofs.EachOne.{each_got}

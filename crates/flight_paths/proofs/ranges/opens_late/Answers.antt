@@ -1,4 +1,4 @@
-use Rattle.std.proofs.Common.{◌≡◌, rules, ℤ, ◌≤ℤ◌, w64, to_z, of_z, slice_get, Some, None, sym, ap, subst, ◌∙◌}
+use Rattle.std.proofs.Common.{◌≡◌, rules, ℤ, ◌≤ℤ◌, w64, to_z, of_z, slice_get, Some, sym, ap, subst, ◌∙◌}
 use mir.Val.{SFits}
 use Rattle.std.proofs.lemmas.Int.{to_z-of_z}
 use Rattle.flight_paths.proofs.Places.{get_none}
@@ -18,8 +18,8 @@ returns-in-Some c =
     let instant : to_z w64 (of_z w64 c.args.instant) ≡ c.args.instant = plain c.args.instant (search rules) in
     let dep : to_z w64 (of_z w64 first.dep) ≡ first.dep = plain first.dep (search rules) in
     λ t f h.
-        let same = some_same first f (sym is ∙ h) in
-        subst (λ g. c.args.instant ≤ℤ g.dep) same (subst (λ d. c.args.instant ≤ℤ d) dep (subst (λ i. i ≤ℤ to_z w64 (of_z w64 first.dep)) instant (int_le_is (to_z w64 (of_z w64 c.args.instant)) (to_z w64 (of_z w64 first.dep)) t)))
+    let same = some_same first f (sym is ∙ h) in
+    subst (λ g. c.args.instant ≤ℤ g.dep) same (subst (λ d. c.args.instant ≤ℤ d) dep (subst (λ i. i ≤ℤ to_z w64 (of_z w64 first.dep)) instant (int_le_is (to_z w64 (of_z w64 c.args.instant)) (to_z w64 (of_z w64 first.dep)) t)))
 
 pub returns-in-None : goal.returns-in-None
 returns-in-None c = λ t f h. absurd (some_none f (sym h ∙ get_none c.args.flights.now c.args.at.now.lo c.in-None.ensures.lookup.3))

@@ -1,13 +1,12 @@
-use Rattle.std.proofs.Common.{◌≡◌, rules, ℕ, ℤ, pos, ◌<◌, ◌+ℤ◌, ◌≤ℤ◌, w64, to_z, of_z, filter, length, slice_get, Some, None, sym, ap, subst, ◌∙◌, arith}
+use Rattle.std.proofs.Common.{◌≡◌, rules, ℤ, ◌<◌, ◌+ℤ◌, ◌≤ℤ◌, w64, to_z, of_z, filter, length, slice_get, Some, None, sym, ap, subst, ◌∙◌, arith}
 use mir.Val.{SFits}
 use Rattle.std.proofs.lemmas.Int.{ints, to_z-of_z}
 use Rattle.fare_law.specs.declared.flights.Flight.{Flight}
-use Rattle.fare_law.specs.Book.{connect}
 use Rattle.fare_law.specs.Days.{IsInstant}
 use Rattle.schedule_book.specs.Departures.{AreDepartures}
 use Rattle.flight_paths.specs.Plans.{plan_book}
 use Rattle.flight_paths.specs.Positions.{end_of_range, fits_before, position_before, start_of_range}
-use Rattle.flight_paths.specs.Ranges.{AreAround, departs_in, first_of, past_of}
+use Rattle.flight_paths.specs.Ranges.{departs_in, first_of, past_of}
 use Rattle.flight_paths.proofs.Bounds.{before, window_is}
 use Rattle.flight_paths.proofs.Fitting.{start_is, end_is}
 use Rattle.law_lemmas.proofs.Lists.{got_within}
@@ -29,7 +28,7 @@ returns-then-opens_late c =
     let is = opens_at c.args.arrival opens _ c.requires.arrival c.earliest-opens.ensures.value in
     let late : (f : Flight) → slice_get b.timetable.flights (position_before b w.slice s None).lo ≡ Some f → opens ≤ℤ f.dep =
     λ f h. subst (λ t. t ≤ℤ f.dep) (plain opens (search rules)) (c.opens_late.ensures c.if-opens_late.true f
-      (subst (λ fs. slice_get fs w.lo ≡ Some f) (sym c.flights-flights.ensures.flights) (ap (λ x. slice_get b.timetable.flights x.lo) c.requires.window ∙ h)))
+    (subst (λ fs. slice_get fs w.lo ≡ Some f) (sym c.flights-flights.ensures.flights) (ap (λ x. slice_get b.timetable.flights x.lo) c.requires.window ∙ h)))
     in
     c.requires.window ∙ window_late b s c.args.arrival opens c.flights-flights.ensures.ascending is w.slice late
 
