@@ -14,3 +14,4 @@ pub mod Halves
 pub mod KindFacts
 pub mod RowFacts
 pub mod NetworkFacts
+pub mod Wanted

@@ -7,7 +7,7 @@ use Rattle.component_table.specs.declared.networks.SliceTails.{SliceTails}
 use Rattle.component_table.specs.Kinds.{AreKinds}
 use Rattle.component_table.specs.Markets.{AreMarkets}
 use Rattle.component_table.specs.Masks.{AreMasks}
-use Rattle.component_table.specs.Tails.{AreTailsFrom}
+use Rattle.component_table.specs.Tails.{AreEnds, AreTailsFrom}
 use Rattle.fare_law.specs.declared.names.Place.{Place}
 use Rattle.fare_law.specs.declared.requests.Request.{Request}
 use Rattle.fare_law.specs.declared.requests.Slice.{Slice}
@@ -27,12 +27,13 @@ pub record AreFareTailsOf (b : Book) (q : Request) (tails : List SliceTails) (t 
   pub within : Each (λ n. n < length among.paths) t.numbers
   pub are : AreTailsFrom b q t.place t.slice (chosen among.paths t.numbers)
 
--- The markets are the book's, the masks are those of its flights, each list of tails is that of its slice, what is known of them holds of their flights, and each list of numbers is of those of them that its place needs.
+-- The markets are the book's, the masks are those of its flights, each list of tails is that of its slice, what is known of them holds of their flights, they end where it is said, and each list of numbers is of those of them that its place needs.
 pub record IsNetwork (b : Book) (q : Request) (n : Network) : Type 0 where
   pub markets : AreMarkets b n.markets.kept.items
   pub tails : Each (λ t. AreTailsOver b q.slices t.slice t.paths) n.tails.items
   pub masks : AreMasks b q n.masks
   pub kinds : Each (λ (t : SliceTails). AreKinds b q t.paths t.kinds) n.tails.items
+  pub ends : Each (λ (t : SliceTails). AreEnds b t.paths t.ends) n.tails.items
   pub fare_tails : Each (AreFareTailsOf b q n.tails.items) n.fare_tails.items
 
 -- the tails of this slice stand at this place

@@ -21,6 +21,7 @@ mod scenes;
 mod settled;
 mod skipping;
 mod tables;
+mod tail_ends;
 mod visiting;
 mod ways;
 

@@ -1,17 +1,18 @@
 //! The tails that end where a fare is filed from a place or to it.
-ghost use Rattle.std.specs.Prelude.{◌≡◌, ◌<◌, ℕ, false, true, length, IfOk, IfSome, OnOk, Some, unwrap_or};
+ghost use Rattle.std.specs.Prelude.{◌≡◌, ◌<◌, ℕ, false, true, length, slice_get, IfOk, IfSome, List as Items, OnOk, Some, unwrap_or};
 ghost use Rattle.component_table.specs.Networks.{AreTailsOver};
-ghost use Rattle.component_table.specs.Tails.{AreTailsFrom, HasNoFares, KnowsEnds};
+ghost use Rattle.component_table.specs.Tails.{AreEnds, AreNumbersTo, AreTailsFrom, AreWanted, HasNoFares, KnowsEnds};
 ghost use Rattle.fare_law.specs.declared.requests.Request.{Request as Asked};
 ghost use Rattle.fare_law.specs.Lists.{Each};
+ghost use Rattle.flight_paths.specs.declared.positions.Path.{Path as PathData};
 ghost use Rattle.flight_paths.specs.Heads.{chosen};
 ghost use Rattle.indexmap.specs.IndexMap.{get};
 
-use crate::gathering::schedule_of;
 use crate::recent::{Recent, spot_of};
+use crate::tail_ends::TailEnds;
 use fare_book::Book;
-use fare_law::{Flight, List, Mem, Place};
-use flight_paths::{Ends, Path, tails_to};
+use fare_law::{List, Mem, Place};
+use flight_paths::Ends;
 use indexmap::{IndexMap, IndexSet};
 use std::alloc::Global;
 
@@ -70,19 +71,18 @@ impl Ends for FareEnds {
     }
 }
 
-/// The numbers of the tails that end where a fare is filed from a place or to it. Each of some ends is asked for once.
+/// The numbers of the tails that end where a fare is filed from a place or to it.
 pub fn fare_tails(
     alloc: Global,
     book: &Book,
     from: Place,
-    tails: &[Path],
-    ends: &IndexSet<Place>,
+    ends: &TailEnds,
 ) -> Result<List<usize>, Mem>
-    ensures within { IfOk result (λ numbers. Each (λ n. n < length tails.now) numbers) }
-    ensures tails { IfOk result (λ numbers. (q : Asked) (slice : ℕ) → AreTailsOver book.now q.slices slice tails.now → AreTailsFrom book.now q from slice (chosen tails.now numbers)) }
+    ensures within { IfOk result (λ numbers. Each (λ n. n < length ends.now.of.items) numbers) }
+    ensures tails { IfOk result (λ numbers. (q : Asked) (slice : ℕ) (tails : Items PathData) → AreTailsOver book.now q.slices slice tails → AreEnds book.now tails ends.now → AreTailsFrom book.now q from slice (chosen tails numbers)) }
 {
-    let ends = fare_ends(alloc, book, from, ends)?;
-    let numbers = tails_to(alloc, schedule_of(book), tails, &ends)?;
+    let wanted = wanted_ends(alloc, book, from, ends.places.as_slice())?;
+    let numbers = numbers_to(alloc, wanted.as_slice(), ends.of.as_slice())?;
     Ok(fitted(numbers))
 }
 
@@ -93,6 +93,37 @@ fn fitted(numbers: List<usize>) -> List<usize>
     let mut numbers = numbers.into_vec();
     numbers.shrink_to_fit();
     List::from_vec(numbers)
+}
+
+/// For each of some ends whether a fare is filed from a place to it or back.
+fn wanted_ends(alloc: Global, book: &Book, from: Place, ends: &[Place]) -> Result<Vec<bool>, Mem>
+    ensures { IfOk result (λ wanted. AreWanted book.now from ends.now wanted.items) }
+{
+    let mut wanted = Vec::with_capacity(alloc, ends.len())?;
+    for end in ends {
+        wanted.push(has_fare(book, from, *end))?;
+    }
+    Ok(wanted)
+}
+
+/// The numbers of the tails whose ends, of these numbers, are wanted, in the order of the tails.
+fn numbers_to(alloc: Global, wanted: &[bool], ends: &[usize]) -> Result<List<usize>, Mem>
+    ensures { IfOk result (AreNumbersTo wanted.now ends.now) }
+{
+    let mut numbers = List::from_vec(Vec::with_capacity(alloc, ends.len())?);
+    for (number, end) in ends.iter().enumerate() {
+        if is_wanted(wanted, *end) {
+            numbers.push(number)?;
+        }
+    }
+    Ok(numbers)
+}
+
+/// Whether the end of this number is wanted.
+fn is_wanted(wanted: &[bool], end: usize) -> bool
+    ensures { result ≡ unwrap_or (slice_get wanted.now end) false }
+{
+    wanted.get(end).copied().unwrap_or(false)
 }
 
 /// Some ends, each with whether a fare is filed from a place to it or back.
@@ -114,26 +145,6 @@ fn fare_ends(
         }
     }
     Ok(known)
-}
-
-/// The places where tails end.
-pub fn ends_of(alloc: Global, book: &Book, tails: &[Path]) -> Result<IndexSet<Place>, Mem> {
-    let flights = schedule_of(book).flights();
-    let mut ends = IndexSet::new(alloc);
-    for tail in tails {
-        if let Some(place) = end_of(flights, tail) {
-            ends.insert(place)?;
-        }
-    }
-    Ok(ends)
-}
-
-/// Where a tail ends.
-fn end_of(flights: &[Flight], tail: &Path) -> Option<Place> {
-    match tail.flights.as_slice() {
-        [.., last] => flights.get(*last as usize).map(|flight| flight.to),
-        [] => None,
-    }
 }
 
 /// Whether some fare is filed from the one place to the other, or back.

@@ -10,11 +10,12 @@ use crate::gathering::schedule_of;
 use crate::kinds::{Kinds, kinds_of};
 use crate::markets::Markets;
 use crate::masks::Masks;
-use crate::narrowing::{ends_of, fare_tails};
+use crate::narrowing::fare_tails;
+use crate::tail_ends::{TailEnds, ends_of};
 use fare_book::Book;
 use fare_law::{List, Mem, Place, Request};
 use flight_paths::{Path, SomeTails, tails};
-use indexmap::{IndexMap, IndexSet};
+use indexmap::IndexMap;
 use std::alloc::Global;
 
 /// The tails of a slice.
@@ -25,7 +26,7 @@ pub struct SliceTails {
     /// What is known of them.
     pub kinds: Kinds,
     /// Where they end.
-    pub ends: IndexSet<Place>,
+    pub ends: TailEnds,
 }
 
 /// The tails of a slice that end where a fare is filed from a place or to it.
@@ -125,7 +126,7 @@ impl Network {
         }
         let among = self.find_tails(alloc, book, request, slice)?;
         let all = &self.tails[among];
-        let numbers = fare_tails(alloc, book, place, all.paths.as_slice(), &all.ends)?;
+        let numbers = fare_tails(alloc, book, place, &all.ends)?;
         let at = self.fare_tails.len();
         self.places.insert(TailsKey { place, slice }, at)?;
         self.fare_tails.push(FareTails {

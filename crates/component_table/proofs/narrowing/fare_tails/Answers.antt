@@ -1,14 +1,16 @@
-use Rattle.std.proofs.Common.{subst, sym, true, unwrap_or, ◌∙◌}
-use Rattle.component_table.proofs.FareEnds.{unwrapped}
-use Rattle.component_table.specs.Tails.{AreTailsFrom}
-use Rattle.fare_law.specs.contracts.names.PlacePartialEq.TheImpl as place
+use Rattle.std.proofs.Common.{subst, sym}
+use Rattle.component_table.specs.Tails.{AreNumbersTo, AreTailsFrom, AreWanted}
+use Rattle.component_table.proofs.Wanted.{tails_from}
 use Rattle.flight_paths.specs.Heads.{chosen}
-use Rattle.indexmap.specs.IndexMap.{get}
 use Rattle.component_table.proofs.narrowing.fare_tails.Goals as goal
 
 pub returns-clause-tails : goal.returns-clause-tails
-returns-clause-tails c = λ q slice tails. subst (λ ns. AreTailsFrom c.args.book.now q c.args.from slice (chosen c.args.tails.now ns)) (sym c.fitted.ensures) (record {
-  wanted = λ p. unwrap_or (get place.ghosts.eq c.in_ok-ends.ends.known p) true;
-  tails_to = λ x same. c.in_ok-numbers.ensures.tails x q.slices slice (record { places = same.places ∙ c.schedule_of.ensures.places; flights = same.flights ∙ c.schedule_of.ensures.flights }) (tails x same.places same.flights);
-  others = λ p e. c.in_ok-ends.ensures p (unwrapped (get place.ghosts.eq c.in_ok-ends.ends.known p) e);
-})
+returns-clause-tails c = λ q slice tails over are.
+    let b = c.args.book.now in
+    let from = c.args.from in
+    let ends = c.args.ends.now in
+    let wanted = c.in_ok-wanted.wanted.items in
+    let numbers = c.in_ok-numbers.numbers in
+    let told = subst (λ ps. AreWanted b from ps wanted) c.as_slice.ensures.keys c.in_ok-wanted.ensures in
+    let those = subst (λ es. AreNumbersTo wanted es numbers) c.as_slice-3.ensures.value (subst (λ ws. AreNumbersTo ws c.as_slice-3.result.now numbers) c.as_slice-2.ensures.value c.in_ok-numbers.ensures) in
+    subst (λ ns. AreTailsFrom b q from slice (chosen tails ns)) (sym c.fitted.ensures) (tails_from b q from slice tails ends.places.keys ends.of.items wanted numbers are told those over)

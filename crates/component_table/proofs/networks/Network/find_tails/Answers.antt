@@ -2,6 +2,7 @@ use Rattle.std.proofs.Common.{◌≡◌, [], ◌∷◌, ◌++◌, ap, length, re
 use Rattle.component_table.specs.declared.networks.SliceTails.{SliceTails}
 use Rattle.component_table.specs.Kinds.{AreKinds}
 use Rattle.component_table.specs.Networks.{AreFareTailsOf, AreTailsOver}
+use Rattle.component_table.specs.Tails.{AreEnds}
 use Rattle.component_table.proofs.NetworkFacts.{fare_tails_more}
 use Rattle.fare_law.specs.Lists.{Each}
 use Rattle.law_lemmas.proofs.EachOne.{each_more}
@@ -19,6 +20,8 @@ returns-clause-network c =
       masks = c.in_ok-kinds.ensures.masks;
       kinds = subst (Each (λ (x : SliceTails). AreKinds b q x.paths x.kinds)) (sym c.in_ok-push.ensures.items)
           (each_more (λ (x : SliceTails). AreKinds b q x.paths x.kinds) c.args.self.now.tails.items t c.requires.kinds kinds);
+      ends = subst (Each (λ (x : SliceTails). AreEnds b x.paths x.ends)) (sym c.in_ok-push.ensures.items)
+          (each_more (λ (x : SliceTails). AreEnds b x.paths x.ends) c.args.self.now.tails.items t c.requires.ends (subst (λ ps. AreEnds b ps c.in_ok-ends.ends) c.as_slice-3.ensures c.in_ok-ends.ensures));
       fare_tails = subst (λ ts. Each (AreFareTailsOf b q ts) c.args.self.now.fare_tails.items) (sym c.in_ok-push.ensures.items) (fare_tails_more b q c.args.self.now.tails.items t c.args.self.now.fare_tails.items c.requires.fare_tails);
       tails = subst (Each (λ (x : SliceTails). AreTailsOver b q.slices x.slice x.paths)) (sym c.in_ok-push.ensures.items)
           (each_more (λ (x : SliceTails). AreTailsOver b q.slices x.slice x.paths) c.args.self.now.tails.items t c.requires.tails
