@@ -18,7 +18,6 @@ use Rattle.fare_law.specs.declared.sheets.SheetRow.{SheetRow}
 use Rattle.fare_law.specs.Book.{Book, live_rule}
 use Rattle.fare_law.specs.Limits.{IsFlight}
 use Rattle.fare_law.specs.Lists.{Each, IsIn, OnFirst, OnLast}
-use Rattle.fare_law.specs.Parts.{share}
 use Rattle.fare_law.specs.RuleLimits.{IsRule}
 use Rattle.fare_law.specs.Sheets.{IsLiveRow}
 use Rattle.flight_paths.specs.declared.positions.Position.{Position}

@@ -1,5 +1,4 @@
 pub mod Lower
-pub mod FareEnds
 pub mod GroupFacts
 pub mod PathFacts
 pub mod FiledFacts

@@ -12,7 +12,6 @@ use Rattle.fare_law.specs.Parts.{Numbers}
 use Rattle.flight_paths.specs.declared.positions.Path.{Path}
 use Rattle.flight_paths.specs.declared.positions.Position.{Position}
 use Rattle.flight_paths.specs.Heads.{TailsTo}
-use Rattle.indexmap.specs.IndexMap.{IndexMap, get}
 
 -- the books have the same places and flights
 pub record SamePlan (b c : Book) : Type 0 where
@@ -39,10 +38,6 @@ pub record FareTailsStand (kept : List FareTails) (place : Place) (slice at : �
   pub stands : slice_get kept at ≡ Some tails
   pub place_is : tails.place ≡ place
   pub slice_is : tails.slice ≡ slice
-
--- where an end is known to have no fares, it has none
-abbrev pub KnowsEnds : {S : Type 0} → (Place → Place → Bool) → Book → Place → IndexMap Place Bool S → Type 0
-KnowsEnds eq b from known = (place : Place) → get eq known place ≡ Some false → HasNoFares b from place
 
 -- the flights end at the place of this number
 pub record EndsAt (places : List Place) (end : ℕ) (fs : List Flight) : Type 0 where

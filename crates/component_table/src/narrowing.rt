@@ -1,75 +1,16 @@
 //! The tails that end where a fare is filed from a place or to it.
-ghost use Rattle.std.specs.Prelude.{◌≡◌, ◌<◌, ℕ, false, true, length, slice_get, IfOk, IfSome, List as Items, OnOk, Some, unwrap_or};
+ghost use Rattle.std.specs.Prelude.{◌≡◌, ◌<◌, ℕ, false, length, slice_get, IfOk, List as Items, unwrap_or};
 ghost use Rattle.component_table.specs.Networks.{AreTailsOver};
-ghost use Rattle.component_table.specs.Tails.{AreEnds, AreNumbersTo, AreTailsFrom, AreWanted, HasNoFares, KnowsEnds};
+ghost use Rattle.component_table.specs.Tails.{AreEnds, AreNumbersTo, AreTailsFrom, AreWanted, HasNoFares};
 ghost use Rattle.fare_law.specs.declared.requests.Request.{Request as Asked};
 ghost use Rattle.fare_law.specs.Lists.{Each};
 ghost use Rattle.flight_paths.specs.declared.positions.Path.{Path as PathData};
 ghost use Rattle.flight_paths.specs.Heads.{chosen};
-ghost use Rattle.indexmap.specs.IndexMap.{get};
 
-use crate::recent::{Recent, spot_of};
 use crate::tail_ends::TailEnds;
 use fare_book::Book;
 use fare_law::{List, Mem, Place};
-use flight_paths::Ends;
-use indexmap::{IndexMap, IndexSet};
 use std::alloc::Global;
-
-/// Ends of paths, each with whether a fare is filed from a place to it or back.
-#[derive(Drop)]
-struct FareEnds {
-    known: IndexMap<Place, bool>,
-    /// Where an end may stand there.
-    recent: Recent,
-}
-
-impl FareEnds {
-    /// What is known of an end.
-    fn get(&self, place: Place) -> Option<bool>
-        ensures { result ≡ get ⟦<Place as PartialEq>⟧.eq self.now.known place }
-    {
-        match known_at(&self.known, self.recent.get(spot(place)), place) {
-            Some(wanted) => Some(wanted),
-            None => self.known.get(&place).copied(),
-        }
-    }
-
-    /// Makes an end known that wasn't.
-    fn add(&mut self, book: &Book, from: Place, place: Place) -> Result<(), Mem>
-        requires { KnowsEnds ⟦<Place as PartialEq>⟧.eq book.now from self.old.known }
-        ensures { OnOk result (KnowsEnds ⟦<Place as PartialEq>⟧.eq book.now from self.new.known) }
-    {
-        if self.get(place).is_some() {
-            return Ok(());
-        }
-        self.recent.put(spot(place), self.known.len());
-        self.known.insert(place, has_fare(book, from, place))?;
-        Ok(())
-    }
-}
-
-/// The spot of a place.
-fn spot(place: Place) -> usize {
-    let [a, b, c] = place.0;
-    spot_of(u64::from_le_bytes([a, b, c, 0, 0, 0, 0, 0]))
-}
-
-/// What is known of an end, if it stands at a place.
-fn known_at(known: &IndexMap<Place, bool>, found: Option<usize>, place: Place) -> Option<bool>
-    ensures { IfSome result (λ wanted. get ⟦<Place as PartialEq>⟧.eq known.now place ≡ Some wanted) }
-{
-    let (end, wanted) = known.get_index(found?)?;
-    if end.is(place) { Some(*wanted) } else { None }
-}
-
-impl Ends for FareEnds {
-    ghost wanted = { λ s place. unwrap_or (get ⟦<Place as PartialEq>⟧.eq s.known place) true };
-
-    fn wants(&self, place: Place) -> bool {
-        self.get(place).unwrap_or(true)
-    }
-}
 
 /// The numbers of the tails that end where a fare is filed from a place or to it.
 pub fn fare_tails(
@@ -124,27 +65,6 @@ fn is_wanted(wanted: &[bool], end: usize) -> bool
     ensures { result ≡ unwrap_or (slice_get wanted.now end) false }
 {
     wanted.get(end).copied().unwrap_or(false)
-}
-
-/// Some ends, each with whether a fare is filed from a place to it or back.
-fn fare_ends(
-    alloc: Global,
-    book: &Book,
-    from: Place,
-    ends: &IndexSet<Place>,
-) -> Result<FareEnds, Mem>
-    ensures { IfOk result (λ ends. KnowsEnds ⟦<Place as PartialEq>⟧.eq book.now from ends.known) }
-{
-    let mut known = FareEnds {
-        known: IndexMap::new(alloc),
-        recent: Recent::new(),
-    };
-    for at in 0..ends.len() {
-        if let Some(place) = ends.get_index(at) {
-            known.add(book, from, *place)?;
-        }
-    }
-    Ok(known)
 }
 
 /// Whether some fare is filed from the one place to the other, or back.
