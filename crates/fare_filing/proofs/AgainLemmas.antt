@@ -107,7 +107,7 @@ module _ (names : NamesReadAgain) where
         (rule_spelled rule w.members w.rule_is r).again,
       ) refl)
 
-  action_again : StandAside → (a : Action) (n : ℕ) (d : Data) → IsAction a → WritesAction a d → action_spelled n d ≡ Ok a
+  pub action_again : StandAside → (a : Action) (n : ℕ) (d : Data) → IsAction a → WritesAction a d → action_spelled n d ≡ Ok a
   action_again aside (PutFare fare) n d h e =
       subst (λ (x : Data). action_spelled n x ≡ Ok (PutFare fare)) (sym e) (rw (fare_again fare h) refl)
   action_again aside (DropFare key) n d h e =

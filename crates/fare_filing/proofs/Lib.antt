@@ -8,3 +8,4 @@ pub mod PieceLemmas
 pub mod FieldLemmas
 pub mod CompactLemmas
 pub mod ListLemmas
+pub mod ActionTexts

@@ -83,7 +83,7 @@ items_back [] (a ∷ actions) h = absurd h
 items_back (d ∷ ds) [] h = absurd h
 items_back (d ∷ ds) (a ∷ actions) h = rw ((h.0).back.again, items_back ds actions h.1) refl
 
-items_nest : (ds : List Data) (actions : List Action) → Matched Spells ds actions → json_items_depth (items_outline (items_of ds)) ≤ 2
+items_nest : (ds : List Data) (actions : List Action) → Matched Spells ds actions → json_items_depth (items_outline (items_of ds)) ≤ 5
 items_nest [] [] h = omega arith
 items_nest [] (a ∷ actions) h = absurd h
 items_nest (d ∷ ds) [] h = absurd h

@@ -16,9 +16,9 @@ use Rattle.rule_text.proofs.SpelledLemmas.{rule_spelled}
 use Rattle.fare_filing.specs.Text.{WritesAction, WritesActions, WritesFiling, WritesRule, sole}
 
 -- no float, and so many levels at most
-record IsPlain (levels : ℕ) (d : Data) : Type 0 where
-  no_float : has_float d ≡ false
-  nests : depth d ≤ levels
+pub record IsPlain (levels : ℕ) (d : Data) : Type 0 where
+  pub no_float : has_float d ≡ false
+  pub nests : depth d ≤ levels
 
 rule_plain : (carrier : Carrier) (n : ℕ) (rule : Rule) (d : Data) → IsRule rule → WritesRule carrier n rule d → IsPlain 4 d
 rule_plain carrier n rule d h w =
@@ -38,7 +38,7 @@ rule_plain carrier n rule d h w =
 wrapped : (levels : ℕ) (name : List ℕ) (d : Data) → IsPlain levels d → IsPlain (levels + 1) (sole name d)
 wrapped levels name d h = record { no_float = rw (h.no_float) refl; nests = let a = h.nests in omega arith }
 
-action_plain : (a : Action) (d : Data) → IsAction a → WritesAction a d → IsPlain 5 d
+pub action_plain : (a : Action) (d : Data) → IsAction a → WritesAction a d → IsPlain 5 d
 action_plain (PutFare fare) d h e = subst (λ (x : Data). IsPlain 5 x) (sym e) (record { no_float = refl; nests = omega arith })
 action_plain (DropFare key) d h e = subst (λ (x : Data). IsPlain 5 x) (sym e) (record { no_float = refl; nests = omega arith })
 action_plain (PutRule carrier n rule) d h w =

@@ -56,7 +56,7 @@ pub record SeatsAction (text : List ℕ) (key : SeatKey) (seats : List ℕ) (res
 pub record ReadsBack (d : Data) : Type 0 where
   pub numbers : HasNumbers (outline d)
   pub again : of_json (outline d) ≡ Some d
-  pub nests : json_depth (outline d) ≤ 2
+  pub nests : json_depth (outline d) ≤ 5
 
 -- the value spells the action, whatever its number, and is read back
 pub record Spells (d : Data) (action : Action) : Type 0 where

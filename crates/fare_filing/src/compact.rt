@@ -1,5 +1,6 @@
-//! Filings of compact text with members ascending, read straight: they put fares and seats, and
-//! nothing else. Any other text is `None`, and is for the tree of its JSON.
+//! Filings of compact text with members ascending, read action by action: what puts a fare or seats is
+//! read straight, and each other action by the tree of its own JSON. Any other text is `None`, and is for
+//! the tree of its whole JSON.
 ghost use Rattle.std.specs.Prelude.{◌≡◌, ◌++◌, ◌≤◌, length, codes, IfOk, IfSome, IsTrue, Ok};
 ghost use Rattle.fare_law.specs.FilingLimits.{IsAction, IsFiling};
 ghost use Rattle.fare_law.specs.Limits.{AreSeats, IsFare, IsSeatKey};
@@ -12,11 +13,12 @@ use crate::fields::{
 };
 use crate::pieces::after;
 use crate::room::room_for;
+use crate::written::written_action;
 use fare_law::{Action, Fare, FareKey, Filing, List, Mem, SeatKey};
 use name_text::{names_read_again, seat_day_of, seats_of};
 use std::alloc::Global;
 
-/// The filing of a compact text, if it puts fares and seats alone.
+/// The filing of a compact text.
 pub fn compact_filing(alloc: Global, bytes: &[u8]) -> Result<Option<Filing>, Mem>
     ensures filing { IfOk result (λ found. IfSome found (λ filing. filing_of bytes.now ≡ Ok filing)) }
     ensures limits { IfOk result (λ found. IfSome found IsFiling) }
@@ -43,7 +45,8 @@ fn compact_actions(alloc: Global, text: &[u8]) -> Result<Option<List<Action>>, M
     let mut actions = room_for(alloc, likely_count(text))?;
     let mut rest = text;
     for _ in 0..5000usize {
-        let Some((action, more)) = compact_action(rest) else {
+        let found = compact_action(alloc, rest)?;
+        let Some((action, more)) = found else {
             return Ok(None);
         };
         actions.push(action)?;
@@ -56,7 +59,7 @@ fn compact_actions(alloc: Global, text: &[u8]) -> Result<Option<List<Action>>, M
     Ok(None)
 }
 
-// No fewer actions than a text has: the shortest that puts a fare or seats has 78 bytes, and a comma follows.
+// About as many actions as a text has: the shortest that puts a fare or seats has 78 bytes, and a comma follows.
 fn likely_count(text: &[u8]) -> usize {
     (text.len() / 79).min(5000)
 }
@@ -69,14 +72,17 @@ fn is_end(text: &[u8]) -> bool
 }
 
 // The action that a text begins with, and what follows.
-fn compact_action<'a>(text: &'a [u8]) -> Option<(Action, &'a [u8])>
-    ensures action { IfSome result (λ p. Begins text.now p.0 p.1.now) }
-    ensures limits { IfSome result (λ p. IsAction p.0) }
+fn compact_action<'a>(alloc: Global, text: &'a [u8]) -> Result<Option<(Action, &'a [u8])>, Mem>
+    ensures action { IfOk result (λ found. IfSome found (λ p. Begins text.now p.0 p.1.now)) }
+    ensures limits { IfOk result (λ found. IfSome found (λ p. IsAction p.0)) }
 {
-    match put_fare(text) {
-        Some(read) => Some(read),
-        None => put_seats(text),
+    if let Some(read) = put_fare(text) {
+        return Ok(Some(read));
     }
+    if let Some(read) = put_seats(text) {
+        return Ok(Some(read));
+    }
+    written_action(alloc, text)
 }
 
 // An action that puts a fare, and what follows.

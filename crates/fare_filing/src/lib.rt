@@ -16,6 +16,7 @@ mod rules;
 mod seats;
 mod text;
 mod values;
+mod written;
 
 pub use fault::FilingFault;
 pub use reading::read_filing;
