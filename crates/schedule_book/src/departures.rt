@@ -51,7 +51,7 @@ fn origins_of(alloc: Global, flights: &[Flight]) -> Result<Vec<u64>, Mem>
     requires { length flights.now ≤ 200000 }
     ensures { IfOk result (λ keys. keys.items ≡ map packed (origins 0 flights.now)) }
 {
-    let mut keys = Vec::new(alloc);
+    let mut keys = Vec::with_capacity(alloc, flights.len())?;
     for i in 0..flights.len() {
         keys.push(packed(flights[i].from, i as u32))?;
     }
@@ -62,7 +62,7 @@ fn origins_of(alloc: Global, flights: &[Flight]) -> Result<Vec<u64>, Mem>
 fn numbers_of(alloc: Global, keys: &[u64]) -> Result<Vec<u32>, Mem>
     ensures { IfOk result (λ numbers. numbers.items ≡ map (λ key. key % 4294967296) keys.now) }
 {
-    let mut numbers = Vec::new(alloc);
+    let mut numbers = Vec::with_capacity(alloc, keys.len())?;
     for key in keys {
         numbers.push((*key % 4294967296) as u32)?;
     }

@@ -83,8 +83,9 @@ pub fn expand(alloc: Global, rows: &[FlightRow], places: &Places) -> Result<Vec<
     ensures right { OnOk result (RowsRight places.now rows.now) }
     ensures fault { IfErr result (RowCause places.now rows.now) }
 {
-    let mut flights = Vec::new(alloc);
-    let mut seen = HashSet::new(alloc);
+    let room = likely_count(rows);
+    let mut flights = Vec::with_capacity(alloc, room)?;
+    let mut seen = HashSet::with_capacity(alloc, room)?;
     for row in rows {
         if let Some(fault) = own_fault(row, places) {
             return Err(fault);
@@ -97,4 +98,16 @@ pub fn expand(alloc: Global, rows: &[FlightRow], places: &Places) -> Result<Vec<
         }
     }
     Ok(flights)
+}
+
+/// No fewer than the dated flights of rows without a fault, and few more, so that nothing is moved as they are added.
+fn likely_count(rows: &[FlightRow]) -> usize {
+    let mut count = 0usize;
+    for row in rows {
+        let weeks = row.last.abs_diff(row.first) as usize / 7 + 1;
+        count = count
+            .saturating_add(weeks * row.days.count_ones() as usize)
+            .min(MOST);
+    }
+    count
 }

@@ -10,7 +10,7 @@ abbrev no_row : FlightRow
 no_row = record { line = 0; carrier = record { 0 = [] }; number = 0; from = record { 0 = [] }; to = record { 0 = [] }; dep = 0; dep_offset = pos 0; arr = 0; arr_offset = pos 0; shift = pos 0; first = pos 0; last = pos 0; days = 0 }
 
 pub loop-row-init : goal.loop-row-init
-loop-row-init c = (expanded_empty c.args.places.now c.new-flights.result.items c.new-flights.ensures.items, seen_empty c.new-flights.result.items c.new-seen.result c.new-flights.ensures.items c.new-seen.ensures.empty)
+loop-row-init c = (expanded_empty c.args.places.now c.in_ok-flights.flights.items c.in_ok-flights.ensures.items, seen_empty c.in_ok-flights.flights.items c.in_ok-seen.seen c.in_ok-flights.ensures.items c.in_ok-seen.ensures.empty)
 
 pub returns-in-Some-clause-fault : goal.returns-in-Some-clause-fault
 returns-in-Some-clause-fault c = own_cause c.args.places.now c.args.rows.now c.loop-row.row-index no_row (get_or c.args.rows.now c.loop-row.row-index no_row) c.loop-row.flights.items c.loop-row-test.true refl c.loop-row.invariant.0 c.in-Some.fault c.in-Some.ensures.some
