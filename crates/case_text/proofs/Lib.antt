@@ -7,3 +7,4 @@ pub mod Growing
 pub mod HeaderOrder
 pub mod SectionCounts
 pub mod Feed
+pub mod Plain

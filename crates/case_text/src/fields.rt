@@ -21,11 +21,17 @@ pub(crate) fn line_fields(alloc: Global, line: &[u8]) -> Result<ByteRecord, Erro
 }
 
 /// Whether the line is ASCII without quotes and line ends.
+#[tactic(auto, using(crate::proofs::Plain::plain_steps))]
 pub(crate) fn is_plain(line: &[u8]) -> bool
     ensures plain { IsTrue result → IsPlainLine line.now }
     ensures test { result ≡ plain_line line.now }
 {
-    line.iter().all(|byte| is_plain_byte(*byte))
+    // Without a branch at each byte, so that many are tested at a time.
+    let mut plain = true;
+    for i in 0..line.len() {
+        plain = plain & is_plain_byte(line[i]);
+    }
+    plain
 }
 
 fn is_plain_byte(byte: u8) -> bool
