@@ -1,6 +1,7 @@
 pub mod Seating
 pub mod Counts
 pub mod Keys
+pub mod Hashing
 pub mod Keeping
 pub mod Rows
 pub mod Tables
