@@ -1,5 +1,5 @@
 -- The lists by role and unit give what the table's entries leave.
-use Rattle.std.proofs.Common.{◌≡◌, ℕ, ◌≤◌, Bool, List, [], ◌∷◌, ◌++◌, Option, Some, None, refl, sym, ap, subst, ◌∙◌, inl, inr}
+use Rattle.std.proofs.Common.{◌≡◌, ℕ, zero, suc, ◌≤◌, Bool, List, [], ◌∷◌, ◌++◌, set, slice_get, Option, Some, None, IfNone, IsSome, refl, sym, ap, subst, ◌∙◌, inl, inr}
 use Rattle.fare_law.specs.declared.moves.Role.{Role}
 use Rattle.fare_law.specs.declared.moves.Role.TheVariants.{Alone, Opens, GoesOn, Closes}
 use Rattle.fare_law.specs.declared.requests.Request.{Request}
@@ -18,12 +18,29 @@ use Rattle.outlines.proofs.TriedAll.{least_are_outcomes}
 use Rattle.residual_keys.specs.declared.residual.Next.{Next}
 use Rattle.residual_keys.specs.Residuals.{PartAllows, State, UnitStep, begins, ends_with, part_with, with_end}
 use Rattle.residual_keys.specs.Steps.{Leaves, left_at}
+use Rattle.flight_paths.specs.declared.positions.Position.{Position}
 use Rattle.law_lemmas.proofs.EachOne.{each_in}
 use Rattle.law_lemmas.proofs.Options.{some_same}
 
 ends_same : (c : Option CombineRule) (ends : ℕ) → with_end (ends_of c) ends ≡ ends_with c ends
 ends_same None ends = refl
 ends_same (Some c) ends = refl
+
+-- where a unit is open the journey isn't complete
+leads_on : (after : Option Position) (us : List OpenUnit) → IfNone after (us ≡ []) → (us ≡ [] → ⊥) → IsSome after
+leads_on None us done more = absurd (more done)
+leads_on (Some at) us done more = refl
+
+-- one is open after another was opened
+open_left : (us : List OpenUnit) (u : OpenUnit) (left : List OpenUnit) → left ≡ us ++ u ∷ [] → left ≡ [] → ⊥
+open_left [] u left is e = cc
+open_left (v ∷ us) u left is e = cc
+
+-- and where one of them went on
+open_still : (us : List OpenUnit) (slot : ℕ) (v u : OpenUnit) (left : List OpenUnit) → slice_get us slot ≡ Some v → left ≡ set us slot u → left ≡ [] → ⊥
+open_still [] slot v u left stands is e = cc
+open_still (w ∷ us) zero v u left stands is e = cc
+open_still (w ∷ us) (suc slot) v u left stands is e = cc
 
 module _ (q : Request) (r : State) (e : Entry) where
   part_same : (new : Bool) (u : Option OpenUnit) → part_by r.part new (mark_of e u) ≡ part_with r.part new (written r.at.place q.sale e)
@@ -64,7 +81,7 @@ module _ (q : Request) (r : State) (table : List Entry) (alone opens : List List
           Opens,
           0,
           record {
-            leaves = mark_to q r a.0 Opens 0 (Some (opened (written r.at.place q.sale a.0))) g.listed.mark (r.units ++ g.unit ∷ []) o.next a.2.1 (refl, a.2.0, g.room, ap (λ u. r.units ++ u ∷ []) unit) g.leaves;
+            leaves = mark_to q r a.0 Opens 0 (Some (opened (written r.at.place q.sale a.0))) g.listed.mark (r.units ++ g.unit ∷ []) o.next a.2.1 (refl, a.2.0.1, g.room, ap (λ u. r.units ++ u ∷ []) unit) g.leaves;
             price = g.price ∙ a.3;
           },
         ),
@@ -84,7 +101,7 @@ module _ (q : Request) (r : State) (table : List Entry) (alone opens : List List
               GoesOn,
               g.slot,
               record {
-                leaves = mark_to q r e GoesOn g.slot (Some u) g.listed.mark (units_by r.units g.slot g.listed.mark.unit) o.next is (g.unit, g.stands, may, ap (λ (m : Mark). units_by r.units g.slot m.unit) is) g.leaves;
+                leaves = mark_to q r e GoesOn g.slot (Some u) g.listed.mark (units_by r.units g.slot g.listed.mark.unit) o.next is (g.unit, g.stands, may.1, ap (λ (m : Mark). units_by r.units g.slot m.unit) is) g.leaves;
                 price = price;
               },
             ),
@@ -123,7 +140,7 @@ module _ (q : Request) (r : State) (table : List Entry) (alone opens : List List
   given t e i Opens slot h =
       let l = h.leaves in
       let u = opened (written r.at.place q.sale e) in
-      let x = lists.opens_is.covered e i (mark_of e (Some u)) (l.step.1, refl) in (
+      let x = lists.opens_is.covered e i (mark_of e (Some u)) ((leads_on e.outline.after l.units l.done (open_left r.units u l.units l.step.3), l.step.1), refl) in (
         record { next = t.next; price = x.0.price },
         inr (inl (record {
           listed = x.0;
@@ -140,7 +157,7 @@ module _ (q : Request) (r : State) (table : List Entry) (alone opens : List List
   given t e i GoesOn slot h =
       let l = h.leaves in
       let u = gone_on l.step.0 (written r.at.place q.sale e) in
-      let x = (lists.units_are slot l.step.0 l.step.1).covered e i (mark_of e (Some u)) (inl (l.step.2, refl)) in (
+      let x = (lists.units_are slot l.step.0 l.step.1).covered e i (mark_of e (Some u)) (inl ((leads_on e.outline.after l.units l.done (open_still r.units slot l.step.0 u l.units l.step.1 l.step.3), l.step.2), refl)) in (
         record { next = t.next; price = x.0.price },
         inr (inr (record {
           slot = slot;

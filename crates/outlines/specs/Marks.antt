@@ -1,5 +1,5 @@
 -- Lists of a position by role, and of a position and an open unit: what a component is to every residual there, with its least price.
-use Rattle.std.specs.Prelude.{◌≡◌, ◌⊎◌, ◌↔◌, ℕ, ℤ, ◌≤◌, ◌<◌, Bool, true, false, List, [], ◌∷◌, ◌++◌, length, set, remove, slice_get, Option, Some, None, IfNone}
+use Rattle.std.specs.Prelude.{◌≡◌, ◌⊎◌, ◌↔◌, ℕ, ℤ, ◌≤◌, ◌<◌, Bool, true, false, List, [], ◌∷◌, ◌++◌, length, set, remove, slice_get, Option, Some, None, IfNone, IsSome}
 use Rattle.fare_law.specs.declared.names.Place.{Place}
 use Rattle.fare_law.specs.declared.requests.Request.{Request}
 use Rattle.fare_law.specs.declared.rules.CombineRule.{CombineRule}
@@ -39,9 +39,13 @@ mark_of e unit = record { after = e.outline.after; unit = unit; carrier = e.outl
 abbrev pub IsAlone : Place → ℤ → Entry → Mark → Type 0
 IsAlone begin sale e m = MayAlone (written begin sale e) × (m ≡ mark_of e None)
 
--- the mark of one that opens a unit
+-- the mark of one that opens a unit, which the journey has to close
 abbrev pub IsOpening : Place → ℤ → Entry → Mark → Type 0
-IsOpening begin sale e m = MayOpen (written begin sale e) × (m ≡ mark_of e (Some (opened (written begin sale e))))
+IsOpening begin sale e m = (IsSome e.outline.after × MayOpen (written begin sale e)) × (m ≡ mark_of e (Some (opened (written begin sale e))))
+
+-- the mark of one that goes on in this unit, which the journey has to close
+abbrev pub GoesOnIn : OpenUnit → Piece → Entry → Mark → Type 0
+GoesOnIn u p e m = (IsSome e.outline.after × MayGoOn u p) × (m ≡ mark_of e (Some (gone_on u p)))
 
 -- the mark of one that closes this unit
 abbrev pub ClosesIn : OpenUnit → Piece → Entry → Mark → Type 0
@@ -49,14 +53,20 @@ ClosesIn u p e m = ((kind : UnitKind) × MayClose u p kind) × (m ≡ mark_of e 
 
 -- the mark of one that goes on in this unit or closes it
 abbrev pub IsOfUnit : Place → ℤ → OpenUnit → Entry → Mark → Type 0
-IsOfUnit begin sale u e m =
-    (MayGoOn u (written begin sale e) × (m ≡ mark_of e (Some (gone_on u (written begin sale e)))))
-    ⊎ ClosesIn u (written begin sale e) e m
+IsOfUnit begin sale u e m = GoesOnIn u (written begin sale e) e m ⊎ ClosesIn u (written begin sale e) e m
 
 -- Marks of a table's entries, each at least once, with the price of an entry that has it, and none of an entry that has it is below.
 pub record IsList (Is : Entry → Mark → Type 0) (table : List Entry) (list : List Listed) : Type 0 where
   pub attained : Each (λ x. (e : Entry) × IsIn e table × Is e x.mark × (x.price ≡ e.price)) list
   pub covered : (e : Entry) → IsIn e table → (m : Mark) → Is e m → (x : Listed) × IsIn x list × (x.mark ≡ m) × (x.price ≤ e.price)
+
+-- whatever entries a list was of, it is of one more
+abbrev pub ListsOneMore : (Entry → Mark → Type 0) → Entry → List Listed → List Listed → Type 0
+ListsOneMore Is e old new = (table : List Entry) → IsList Is table old → IsList Is (table ++ e ∷ []) new
+
+-- the list has the mark of an entry's component that closes a unit, at no higher price
+abbrev pub HasClosing : List Listed → Entry → Type 0
+HasClosing list e = (x : Listed) × IsIn x list × (x.mark ≡ mark_of e None) × (x.price ≤ e.price)
 
 -- a mark was added with a price, where there is one
 abbrev pub Marked : Option Mark → ℕ → List Listed → List Listed → Type 0

@@ -60,7 +60,7 @@ module _ (begin : Place) (sale : ℤ) (s : IsCalendarDay sale) (table : List Ent
       each_weaker (λ x. (e : Entry) × IsIn e table × IsAlone begin sale e x.mark × (x.price ≡ e.price)) (λ x. IfSome x.mark.unit UnitInRanges) (λ x a. subst (λ (m : Mark). IfSome m.unit UnitInRanges) (sym a.2.1) tt) list h.attained
 
   of_unit : (u : OpenUnit) → UnitInRanges u → (e : Entry) → IsIn e table → (m : Mark) → IsOfUnit begin sale u e m → IfSome m.unit UnitInRanges
-  of_unit u h e i m (inl a) = subst (λ (m : Mark). IfSome m.unit UnitInRanges) (sym a.1) (gone_on_within u (written begin sale e) h (piece_of_in e i) a.0)
+  of_unit u h e i m (inl a) = subst (λ (m : Mark). IfSome m.unit UnitInRanges) (sym a.1) (gone_on_within u (written begin sale e) h (piece_of_in e i) a.0.1)
   of_unit u h e i m (inr c) = subst (λ (m : Mark). IfSome m.unit UnitInRanges) (sym c.1) tt
 
   pub unit_kept : (u : OpenUnit) → UnitInRanges u → (list : List Listed) → IsList (IsOfUnit begin sale u) table list → UnitsKept list
