@@ -1,19 +1,36 @@
 -- Tables and lists that are kept, found and added.
 use Rattle.std.proofs.Common.{◌≡◌, ◌∙◌, ℕ, List, [], ◌∷◌, ◌++◌, length, slice_get, get_or, Some, sym, ap, subst}
+use Rattle.std.specs.List.Sorted.{IsPermutation}
 use Rattle.component_table.specs.Tables.{IsTable}
 use Rattle.fare_law.specs.declared.requests.Request.{Request}
 use Rattle.fare_law.specs.Book.{Book}
 use Rattle.fare_law.specs.Lists.{Each}
 use Rattle.flight_paths.specs.declared.positions.Position.{Position}
+use Rattle.outlines.specs.declared.outline.Entry.{Entry}
+use Rattle.outlines.specs.Outcomes.{EntryWithin, HasRule}
+use Rattle.outlines.specs.Outlines.{Outlined}
+use Rattle.residual_keys.proofs.SortedWords.{same_elements}
 use Rattle.residual_table.specs.Keys.{KeepsNumbers}
 use Rattle.search_steps.specs.declared.tables.PositionTable.{PositionTable}
 use Rattle.search_steps.specs.Tables.{HasTable, IsOwnTable, TableAt}
+use Rattle.search_steps.proofs.RowsInOrder.{still_each}
 use Rattle.law_lemmas.proofs.EachOne.{each_got, each_more}
 use Rattle.law_lemmas.proofs.Lists.{got_is, got_last, got_left}
 
 -- one more at the end
 pub keeps_pushed : {X : Type 0} (old new : List X) (x : X) → new ≡ old ++ x ∷ [] → KeepsNumbers old new
 keeps_pushed old new x is n y e = ap (λ xs. slice_get xs n) is ∙ got_left old (x ∷ []) n y e
+
+-- the table of a position in another order
+pub in_another_order : (b : Book) (q : Request) (at : Position) (old new : List Entry) → IsPermutation old new → IsTable b q at old → IsTable b q at new
+in_another_order b q at old new moves h = record {
+  tabled = record {
+    attained = still_each (λ e. Outlined b q at e.outline e.price) old new moves h.tabled.attained;
+    covered = λ o price has. let e = h.tabled.covered o price has in (e.0, (same_elements e.0 old new moves).0 e.1, e.2, e.3);
+  };
+  rules = still_each (HasRule b) old new moves h.rules;
+  within = still_each EntryWithin old new moves h.within;
+}
 
 -- one table more
 pub tables_more : (b : Book) (q : Request) (old new : List PositionTable) (t : PositionTable) → new ≡ old ++ t ∷ [] → Each (IsOwnTable b q) old → IsOwnTable b q t → Each (IsOwnTable b q) new

@@ -5,6 +5,7 @@
 mod adding;
 mod bounds;
 mod case;
+mod entry_order;
 mod guesses;
 mod keyed;
 mod keying;

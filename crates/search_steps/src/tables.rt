@@ -8,6 +8,7 @@ ghost use Rattle.residual_table.specs.Keys.{KeepsNumbers};
 ghost use Rattle.search_steps.specs.Tables.{AreTables, TableAt};
 
 use crate::Case;
+use crate::entry_order::in_order;
 use component_table::{Network, outlines_of, same_position};
 use fare_law::{List, Mem};
 use flight_paths::Position;
@@ -59,7 +60,10 @@ impl Tables {
         let entries = outlines_of(alloc, case.book, case.request, at, &mut self.network)?;
         let place = self.kept.len();
         self.places.insert(*at, place)?;
-        self.kept.push(PositionTable { at: *at, entries })?;
+        self.kept.push(PositionTable {
+            at: *at,
+            entries: in_order(entries),
+        })?;
         Ok(place)
     }
 }
