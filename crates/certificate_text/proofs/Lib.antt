@@ -1,4 +1,5 @@
 pub mod PushLemmas
+pub mod RowLemmas
 pub mod WordLemmas
 pub mod LineWords
 pub mod MoveLemmas

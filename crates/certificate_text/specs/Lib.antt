@@ -1,5 +1,6 @@
 pub mod Lines
 pub mod CertText
+pub mod RowTexts
 pub mod LineReading
 pub mod Unread
 pub mod Faults

@@ -10,6 +10,7 @@ mod lines;
 mod lists;
 mod reading;
 mod request;
+mod row_texts;
 mod spelled;
 mod unread;
 mod words;

@@ -5,10 +5,9 @@ ghost use Rattle.certificate_text.specs.Lines as Lines;
 ghost use Rattle.certificate_text.specs.Lines.{answer_line, move_words, number_line, row_line, spaced};
 ghost use Rattle.fare_law.specs.Codes.{role_code};
 
-use certificate::{CertAnswer, CertRow};
+use certificate::CertAnswer;
 use fare_law::{Mem, Move, Role};
 use itoa::Buffer;
-use residual_keys::ResidualWriter;
 use word_text::push_word;
 
 /// Adds a line of a name and a number.
@@ -32,30 +31,6 @@ pub fn push_answer(text: &mut Vec<u8>, answer: &CertAnswer) -> Result<(), Mem>
     push_moves(text, answer.moves.as_slice())?;
     text.push(b'\n')?;
     Ok(())
-}
-
-/// Adds a line of a row.
-pub fn push_row(
-    text: &mut Vec<u8>,
-    residuals: &mut ResidualWriter,
-    row: &CertRow,
-) -> Result<(), Mem>
-    ensures { OnOk result (text.new.items ≡ text.old.items ++ (row_line row.now ++ 10 ∷ [])) }
-{
-    text.extend_from_slice(b"row ")?;
-    residuals.push(text, &row.residual)?;
-    push_bound(text, row.bound)?;
-    text.push(b'\n')?;
-    Ok(())
-}
-
-fn push_bound(text: &mut Vec<u8>, bound: Option<u64>) -> Result<(), Mem>
-    ensures { OnOk result (text.new.items ≡ text.old.items ++ 32 ∷ Lines.bound_word bound) }
-{
-    match bound {
-        Some(bound) => push_number(text, bound),
-        None => push_word(text, b' ', b"-"),
-    }
 }
 
 fn push_moves(text: &mut Vec<u8>, moves: &[Move]) -> Result<(), Mem>

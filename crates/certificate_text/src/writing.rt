@@ -3,11 +3,11 @@ ghost use Rattle.std.specs.Prelude.{◌≡◌, ◌++◌, ◌∷◌, [], length, 
 ghost use Rattle.certificate_text.specs.CertText.{AddsCertText, CertText, answer_lines, head_lines, row_lines, text_of};
 ghost use Rattle.fare_law.specs.Limits.{IsRequest};
 
-use crate::lines::{push_answer, push_number_line, push_row};
-use certificate::{CertAnswer, CertRows, Certificate};
+use crate::lines::{push_answer, push_number_line};
+use crate::row_texts::{RowTexts, push_lines};
+use certificate::{CertAnswer, CertRows, Certificate, RowNumbers};
 use fare_law::{List, Mem};
 use request_text::request_text;
-use residual_keys::ResidualWriter;
 use std::alloc::Global;
 
 /// The text of the certificate, whose request is within its limits.
@@ -64,9 +64,7 @@ fn push_rows(alloc: Global, text: &mut Vec<u8>, rows: &CertRows) -> Result<(), M
     ensures { OnOk result (text.new.items ≡ text.old.items ++ text_of (row_lines rows.now)) }
 {
     push_number_line(text, b"rows", rows.len() as u64)?;
-    let mut residuals = ResidualWriter::new(alloc)?;
-    for place in 0..rows.len() {
-        push_row(text, &mut residuals, &rows.row(place))?;
-    }
-    Ok(())
+    let RowNumbers { parts, rows } = rows.by_number();
+    let texts = RowTexts::of(alloc, parts)?;
+    push_lines(text, &texts, rows)
 }

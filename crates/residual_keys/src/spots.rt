@@ -1,28 +1,7 @@
-//! The spots at which open units and their texts are kept. A spot is a guess: another unit or text may stand there, so who
-//! looks compares.
-use open_unit::{CarrierMark, OpenUnit, RuleMark};
+//! The spots at which texts of open units are kept. A spot is a guess: another text may stand there, so who looks compares.
 
 /// How many spots there are.
 pub const SPOTS: usize = 4096;
-
-/// The spot of an open unit.
-pub fn unit_spot(unit: &OpenUnit) -> usize {
-    let [a, b, c] = unit.origin.0;
-    let [d, e, f] = unit.end.0;
-    let [g, h] = match unit.carrier {
-        CarrierMark::One(carrier) => carrier.0,
-        _ => [0, 0],
-    };
-    let [i, j] = match unit.rule {
-        RuleMark::One(rule) => rule.to_le_bytes(),
-        RuleMark::Mixed => [u8::MAX, u8::MAX],
-    };
-    let names = u64::from_le_bytes([a, b, c, d, e, f, g, h]);
-    let numbers = u64::from_le_bytes([i, j, unit.count, unit.kinds, unit.partner, 0, 0, 0]);
-    let first = mixed(names, numbers);
-    let second = mixed(first, two_days(Some(unit.first_day), unit.least));
-    spot(mixed(second, two_days(unit.greatest, unit.by)))
-}
 
 /// The spot of a text.
 pub fn text_spot(text: &[u8]) -> usize {
@@ -35,15 +14,6 @@ pub fn text_spot(text: &[u8]) -> usize {
         .last_chunk::<8>()
         .map_or(0, |bytes| u64::from_le_bytes(*bytes));
     spot(mixed(all, end))
-}
-
-// One number of two days.
-fn two_days(one: Option<i32>, other: Option<i32>) -> u64 {
-    u64::from(day_number(one)) << 32 | u64::from(day_number(other))
-}
-
-fn day_number(day: Option<i32>) -> u32 {
-    day.map_or(u32::MAX, |day| day.unsigned_abs())
 }
 
 // One number of two.

@@ -1,7 +1,7 @@
 //! The text of a residual.
-ghost use Rattle.std.specs.Prelude.{◌≡◌, ◌++◌, IfOk, OnOk};
+ghost use Rattle.std.specs.Prelude.{◌≡◌, ◌++◌, ◌∷◌, IfOk, OnOk};
 ghost use Rattle.std.specs.List.{join_with_byte};
-ghost use Rattle.residual_keys.specs.Kept.{open_units};
+ghost use Rattle.residual_keys.specs.Kept.{PartKept, open_units};
 ghost use Rattle.residual_keys.specs.ResidualText as Text;
 
 use crate::words::{carriers_word, day_word, rules_word, via_word};
@@ -9,7 +9,7 @@ use crate::{Residual, TicketPart};
 use fare_law::{List, Mem};
 use flight_paths::Position;
 use itoa::Buffer;
-use open_unit::OpenUnit;
+use open_unit::{CarrierMark, OpenUnit};
 use std::alloc::Global;
 use word_text::push_joined;
 
@@ -29,7 +29,6 @@ pub fn push_residual(text: &mut Vec<u8>, residual: &Residual) -> Result<(), Mem>
     push_position(text, &residual.at)?;
     text.push(b' ')?;
     push_units(text, &residual.unit1, &residual.unit2)?;
-    text.push(b' ')?;
     push_part(text, &residual.part)
 }
 
@@ -95,14 +94,24 @@ pub fn push_unit(text: &mut Vec<u8>, unit: &OpenUnit) -> Result<(), Mem>
     push_joined(text, b':', &words)
 }
 
-fn push_part(text: &mut Vec<u8>, part: &TicketPart) -> Result<(), Mem>
-    ensures { OnOk result (text.new.items ≡ text.old.items ++ Text.part_text part.now) }
+/// Adds the text of the ticket part after a space. Its numbers are digits.
+pub fn push_part(text: &mut Vec<u8>, part: &TicketPart) -> Result<(), Mem>
+    requires { PartKept part.now }
+    ensures { OnOk result (text.new.items ≡ text.old.items ++ 32 ∷ Text.part_text part.now) }
 {
-    let (mut units, mut ends) = (Buffer::new(), Buffer::new());
-    let words: [&[u8]; 3] = [
-        units.format(part.units).as_bytes(),
-        ends.format(part.ends).as_bytes(),
-        carriers_word(&part.carrier),
-    ];
-    push_joined(text, b':', &words)
+    let numbers = [b' ', b'0' + part.units, b':', b'0' + part.ends, b':'];
+    text.extend_from_slice(&numbers)?;
+    push_carriers(text, &part.carrier)
+}
+
+// Adds the word of the carriers.
+fn push_carriers(text: &mut Vec<u8>, carriers: &CarrierMark) -> Result<(), Mem>
+    ensures { OnOk result (text.new.items ≡ text.old.items ++ Text.carriers_word carriers.now) }
+{
+    match carriers {
+        CarrierMark::NotYet => text.push(b'-')?,
+        CarrierMark::One(carrier) => text.extend_from_slice(&carrier.0)?,
+        CarrierMark::Mixed => text.push(b'*')?,
+    }
+    Ok(())
 }

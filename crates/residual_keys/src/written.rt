@@ -1,12 +1,11 @@
-//! Texts of positions and open units, each beside what it was written for.
+//! The text of a position, beside what it was written for.
 ghost use Rattle.std.specs.Prelude.{◌≡◌, ◌++◌, ◌∷◌, [], IfOk};
 ghost use Rattle.std.specs.List.{join_with_byte};
 ghost use Rattle.residual_keys.specs.ResidualText as Text;
 
-use crate::text::{push_position, push_unit};
+use crate::text::push_position;
 use fare_law::Mem;
 use flight_paths::Position;
-use open_unit::OpenUnit;
 use std::alloc::Global;
 
 /// A position, and its words with a space after each.
@@ -25,23 +24,5 @@ impl WrittenPosition {
         push_position(&mut text, at)?;
         text.push(b' ')?;
         Ok(WrittenPosition { at: *at, text })
-    }
-}
-
-/// An open unit and its text.
-#[derive(Drop)]
-pub struct WrittenUnit {
-    pub unit: OpenUnit,
-    pub text: Vec<u8>,
-    ghost is_text: { text.items ≡ Text.unit_text unit },
-}
-
-impl WrittenUnit {
-    pub fn of(alloc: Global, unit: &OpenUnit) -> Result<WrittenUnit, Mem>
-        ensures { IfOk result (λ written. written.unit ≡ unit.now) }
-    {
-        let mut text = Vec::with_capacity(alloc, 64)?;
-        push_unit(&mut text, unit)?;
-        Ok(WrittenUnit { unit: *unit, text })
     }
 }

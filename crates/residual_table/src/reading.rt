@@ -32,6 +32,20 @@ impl ResidualParts {
         self.positions.as_slice()[number as usize]
     }
 
+    /// The positions, by number.
+    pub fn all_positions(&self) -> &[Position]
+        ensures { result.now ≡ self.now.positions }
+    {
+        self.positions.as_slice()
+    }
+
+    /// The open units, by number.
+    pub fn all_units(&self) -> &[OpenUnit]
+        ensures { result.now ≡ self.now.units }
+    {
+        self.units.as_slice()
+    }
+
     /// The open unit of a slot.
     pub fn unit_in(&self, slot: u32) -> Option<OpenUnit>
         requires { HasSlot self.now.units slot }
