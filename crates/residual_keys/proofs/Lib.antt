@@ -39,3 +39,4 @@ pub mod CodesOfRuns
 pub mod Sizes
 pub mod OneDigit
 pub mod PositionAhead
+pub mod SlashAhead

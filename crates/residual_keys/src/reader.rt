@@ -1,11 +1,12 @@
 //! Residuals read one after another. In order, they mostly have the position of the one before and open units that
 //! came before, so these are kept with their texts.
-ghost use Rattle.std.specs.Prelude.{◌≡◌, ◌++◌, ◌∷◌, ℕ, List, [], MatchOption, Some};
+ghost use Rattle.std.specs.Prelude.{◌≡◌, ◌++◌, ◌∷◌, ℕ, List, [], IfSome, MatchOption, None, Some};
 ghost use Rattle.std.specs.List.{join_with_byte};
 ghost use Rattle.residual_keys.specs.ResidualReading as Reading;
 ghost use Rattle.residual_keys.specs.ResidualText as Text;
 ghost use Rattle.residual_keys.specs.ResidualText.{Spells};
 ghost use Rattle.residual_keys.specs.Residuals.{State};
+ghost use Rattle.word_text.specs.Words.{cut_at};
 
 use crate::Residual;
 use crate::kept::are_kept;
@@ -16,7 +17,7 @@ use fare_law::Mem;
 use flight_paths::Position;
 use open_unit::OpenUnit;
 use std::alloc::Global;
-use word_text::{cuts_tell, numbers_tell};
+use word_text::{cut, cuts_tell, numbers_tell};
 
 /// A position that its text spells, whatever follows.
 #[derive(Drop)]
@@ -25,12 +26,13 @@ struct ReadPosition {
     ghost spells: { (rest : List ℕ) → Reading.position_in (written.text.items ++ rest) ≡ Some (written.at, rest) },
 }
 
-/// An open unit and the text that spells it.
+/// An open unit and the text that spells it, in which no slash stands.
 #[derive(Drop)]
 struct ReadUnit {
     text: Vec<u8>,
     unit: OpenUnit,
     ghost spells: { Reading.unit_in text.items ≡ Some unit },
+    ghost whole: { cut_at 47 text.items ≡ None },
 }
 
 /// What residuals that were read consist of.
@@ -41,6 +43,8 @@ struct KeptParts {
     position: Option<ReadPosition>,
     /// At each spot the last open unit that had it.
     units: Vec<Option<ReadUnit>>,
+    /// The spot of the last one that was the first of two: the next one is mostly the same.
+    first: usize,
 }
 
 /// Reads residuals, and keeps what they consist of.
@@ -67,6 +71,7 @@ impl ResidualReader {
                 alloc,
                 position: None,
                 units,
+                first: 0,
             },
             parts,
             last,
@@ -105,6 +110,9 @@ impl KeptParts {
     fn keep_unit(&mut self, spot: usize, text: &[u8], unit: &OpenUnit)
         requires { Reading.unit_in text.now ≡ Some unit.now }
     {
+        if cut(text, b'/').is_some() {
+            return;
+        }
         let Ok(text) = Vec::from_slice(self.alloc, text) else {
             return;
         };
@@ -130,6 +138,20 @@ impl PartReader for KeptParts {
         Some(rest)
     }
 
+    fn first_of<'a>(&mut self, text: &'a [u8], first: &mut Option<OpenUnit>) -> Option<&'a [u8]> {
+        cuts_tell();
+        if let Some(Some(read)) = self.units.get(self.first) {
+            if let Some(other) = after_slash(text, read.text.as_slice()) {
+                *first = Some(read.unit);
+                return Some(other);
+            }
+        }
+        let (one, other) = cut(text, b'/')?;
+        self.first = text_spot(one);
+        self.unit_of(one, first);
+        Some(other)
+    }
+
     fn unit_of(&mut self, text: &[u8], unit: &mut Option<OpenUnit>) {
         let spot = text_spot(text);
         if let Some(Some(read)) = self.units.get(spot) {
@@ -143,4 +165,17 @@ impl PartReader for KeptParts {
             self.keep_unit(spot, text, found);
         }
     }
+}
+
+// What stands after a word and a slash, where the text begins with them.
+fn after_slash<'a>(text: &'a [u8], word: &[u8]) -> Option<&'a [u8]>
+    ensures { IfSome result (λ other. text.now ≡ word.now ++ 47 ∷ other.now) }
+{
+    let [slash, other @ ..] = text.strip_prefix(word)? else {
+        return None;
+    };
+    if *slash != b'/' {
+        return None;
+    }
+    Some(other)
 }

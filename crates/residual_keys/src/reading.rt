@@ -4,6 +4,7 @@ ghost use Rattle.residual_keys.specs.Kept.{AreKept};
 ghost use Rattle.residual_keys.specs.ResidualReading as Reading;
 ghost use Rattle.residual_keys.specs.ResidualText.{IsWritten, Spells, residual_text};
 ghost use Rattle.residual_keys.specs.Residuals.{State};
+ghost use Rattle.word_text.specs.Words.{cut_at};
 
 use crate::words::{byte_of, carriers_of, day_of, place_number_of, rules_of, set_day_of, via_of};
 use crate::{Residual, TicketPart};
@@ -77,6 +78,11 @@ pub trait PartReader {
         ensures position { MatchOption result (Reading.position_in text.now ≡ None)
             (λ rest. Reading.position_in text.now ≡ Some (at.new, rest.now)) };
 
+    /// The first of two open units, or none where its text spells none, and the text of the other one after a slash.
+    fn first_of<'a>(&mut self, text: &'a [u8], first: &mut Option<OpenUnit>) -> Option<&'a [u8]>
+        ensures first { MatchOption result (cut_at 47 text.now ≡ None)
+            (λ other. Reading.IsCut text.now first.new other.now) };
+
     /// An open unit, or none where the text spells none.
     fn unit_of(&mut self, text: &[u8], unit: &mut Option<OpenUnit>)
         ensures unit { unit.new ≡ Reading.unit_in text.now };
@@ -91,6 +97,12 @@ impl PartReader for Anew {
         let (found, rest) = position_of(text)?;
         *at = found;
         Some(rest)
+    }
+
+    fn first_of<'a>(&mut self, text: &'a [u8], first: &mut Option<OpenUnit>) -> Option<&'a [u8]> {
+        let (one, other) = cut(text, b'/')?;
+        *first = unit_of(one);
+        Some(other)
     }
 
     fn unit_of(&mut self, text: &[u8], unit: &mut Option<OpenUnit>) {
@@ -158,11 +170,10 @@ fn units_of<R: PartReader>(
         *first = None;
         return true;
     }
-    let Some((one, other)) = cut(text, b'/') else {
+    let Some(other) = reader.first_of(text, first) else {
         reader.unit_of(text, first);
         return first.is_some();
     };
-    reader.unit_of(one, first);
     reader.unit_of(other, second);
     first.is_some() && second.is_some()
 }
