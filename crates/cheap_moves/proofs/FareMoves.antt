@@ -18,7 +18,6 @@ use Rattle.fare_law.specs.declared.sheets.SheetRow.{SheetRow}
 use Rattle.fare_law.specs.Book.{Book}
 use Rattle.fare_law.specs.Limits.{IsFare}
 use Rattle.fare_law.specs.Lists.{AllDifferent, Each, EachPair, IsIn, Less}
-use Rattle.fare_law.specs.Parts.{share}
 use Rattle.fare_law.specs.Sheets.{IsLiveRow, RowBefore, Sheet}
 use Rattle.flight_paths.specs.declared.positions.Path.{Path}
 use Rattle.flight_paths.specs.declared.positions.Position.{Position}

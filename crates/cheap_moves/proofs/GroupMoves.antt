@@ -1,11 +1,10 @@
 -- The moves on a path with the fares of a group.
-use Rattle.std.proofs.Common.{◌≡◌, ◌⊎◌, ℕ, ℤ, ◌+◌, ◌≤◌, ◌<◌, Bool, List, length, take, get_or, slice_get, Option, Some, None, IsBitSet, Result, OnOk, refl, sym, ap, subst, ◌∙◌, arith}
+use Rattle.std.proofs.Common.{◌≡◌, ℕ, ℤ, ◌+◌, ◌≤◌, Bool, List, slice_get, Option, Some, None, IsBitSet, Result, OnOk, refl, sym, ap, subst, ◌∙◌, arith}
 use Rattle.cheap_moves.specs.declared.component.Component.{Component}
 use Rattle.cheap_moves.specs.declared.component.Flown.{Flown}
-use Rattle.cheap_moves.specs.Making.{HasRows, IsComponent, IsComponentMove, IsGroupMove, IsOver, IsPieceOver, IsReadOver, IsRowIn, Of}
+use Rattle.cheap_moves.specs.Making.{HasRows, IsComponent, IsComponentMove, IsGroupMove, IsOver, IsPieceOver, IsReadOver, IsRowIn}
 use Rattle.cheap_moves.specs.Within.{IsWithin}
-use Rattle.cheap_moves.proofs.FareMoves.{one_place, row_at}
-use Rattle.cheap_moves.proofs.Joining.{differs_before, of_more, taken_in}
+use Rattle.cheap_moves.proofs.FareMoves.{row_at}
 use Rattle.component_table.specs.declared.markets.Market.{Market}
 use Rattle.fare_groups.specs.declared.group.FareGroup.{FareGroup}
 use Rattle.fare_groups.specs.declared.group.GroupKey.{GroupKey}
@@ -14,12 +13,11 @@ use Rattle.fare_groups.specs.Grouping.{Cheapest, IsGroup}
 use Rattle.fare_groups.specs.Groups.{Permits, extra_of, group_of}
 use Rattle.fare_groups.proofs.ByGroup.{one_rule_all}
 use Rattle.fare_law.specs.declared.flights.Flight.{Flight}
-use Rattle.fare_law.specs.declared.moves.Move.{Move}
 use Rattle.fare_law.specs.declared.requests.Request.{Request}
 use Rattle.fare_law.specs.declared.sheets.SheetRow.{SheetRow}
 use Rattle.fare_law.specs.declared.tickets.Piece.{Piece}
 use Rattle.fare_law.specs.Book.{Book}
-use Rattle.fare_law.specs.Lists.{IsIn, Less, OnFirst, OnLast}
+use Rattle.fare_law.specs.Lists.{IsIn}
 use Rattle.fare_law.specs.RuleLimits.{IsRule}
 use Rattle.open_unit.specs.Ranges.{PieceInRanges}
 use Rattle.outlines.specs.Outlines.{Alike}
@@ -30,7 +28,7 @@ use Rattle.residual_keys.specs.Residuals.{State}
 use Rattle.residual_keys.proofs.Adding.{adds_like, adds_none}
 use Rattle.residual_keys.proofs.OneNext.{first_one, last_one}
 use Rattle.law_lemmas.proofs.EachOne.{each_in}
-use Rattle.law_lemmas.proofs.Members.{got_in, read_in}
+use Rattle.law_lemmas.proofs.Members.{got_in}
 use Rattle.law_lemmas.proofs.Options.{on_ok, some_one}
 
 -- what is read of fares of one group and one rule is alike
@@ -160,34 +158,6 @@ module _ (b : Book) (q : Request) (r : State) (bound : State → Option ℕ) (li
         let key : group_of h.row ≡ g.key = ap group_of (some_one (slice_get m.sheet.value.rows h.fare.place) h.row x.row h.stands x.stands) ∙ x.key_is in
         let rule = one_rule_all b m.sheet.value.from m.sheet.value.to m.sheet.value is.over.sheet_is h.row row (got_in m.sheet.value.rows h.fare.place h.row h.stands) of.within (key ∙ sym of.key) in
         none (subst (λ z. Permits z g.key.carrier flown.way.flights) rule h.permits))
-
-  -- group by group
-  pub groups_more : (never : (w : List ℕ) → Less w w → ⊥) (trans : (u v w : List ℕ) → Less u v → Less v w → Less u w) (total : (v w : List ℕ) → Less v w ⊎ ((v ≡ w) ⊎ Less w v))
-      → (i : ℕ) (d g : FareGroup) (a n c : List Chosen) → i < length m.groups → g ≡ get_or m.groups i d → IsIn g m.groups → ((h : FareGroup) → IsIn h (take i m.groups) → IsIn h m.groups)
-      → Adds (Of (IsGroupMove q r bound limit flown reverse m) (take i m.groups)) a n → Adds (IsGroupMove q r bound limit flown reverse m g) n c → Adds (Of (IsGroupMove q r bound limit flown reverse m) (take (i + 1) m.groups)) a c
-  groups_more never trans total i d g a n c lt e in_g in_h h one = of_more (IsGroupMove q r bound limit flown reverse m) m.groups i d g a n c lt e apart h one
-    where
-      key_of : (x : FareGroup) → IsIn x m.groups → (f : GroupedFare) → IsIn f x.fares → (row : SheetRow) → slice_get m.sheet.value.rows f.place ≡ Some row → group_of row ≡ x.key
-      key_of x j f l row stands =
-          let y = row_at b q r.at flown.way.path flown.way.flights flown.way.legs flown.classes reverse m.sheet.value m.groups is.over x j f l in
-          ap group_of (some_one (slice_get m.sheet.value.rows f.place) row y.row stands y.stands) ∙ y.key_is
-
-      apart : (x : FareGroup) → IsIn x (take i m.groups) → (u v : Chosen) → IsGroupMove q r bound limit flown reverse m x u → IsGroupMove q r bound limit flown reverse m g v → u.mv ≡ v.mv → ⊥
-      apart x j u v y z s =
-          let same = sym y.move ∙ s ∙ z.move in
-          let place = one_place never trans total m.sheet.value.rows y.fare.place z.fare.place y.row z.row is.over.sheet_is.ascending y.stands z.stands (ap (λ (w : Move). w.carrier) same) (ap (λ (w : Move). w.basis) same) in
-          let row : y.row ≡ z.row = some_one (slice_get m.sheet.value.rows z.fare.place) y.row z.row (subst (λ p. slice_get m.sheet.value.rows p ≡ Some y.row) place y.stands) z.stands in
-          differs_before (λ (w : FareGroup). w.key) m.groups i d g x is.over.groups_are.apart lt e j
-          (sym (key_of x (in_h x j) y.fare y.of y.row y.stands) ∙ ap group_of row ∙ key_of g in_g z.fare z.of z.row z.stands)
-
-  -- the same with the list that a loop goes over
-  pub groups_next : (never : (w : List ℕ) → Less w w → ⊥) (trans : (u v w : List ℕ) → Less u v → Less v w → Less u w) (total : (v w : List ℕ) → Less v w ⊎ ((v ≡ w) ⊎ Less w v))
-      → (items : List FareGroup) (i : ℕ) (d g : FareGroup) (a n c : List Chosen) → items ≡ m.groups → i < length items → g ≡ get_or items i d
-      → Adds (Of (IsGroupMove q r bound limit flown reverse m) (take i items)) a n → Adds (IsGroupMove q r bound limit flown reverse m g) n c → Adds (Of (IsGroupMove q r bound limit flown reverse m) (take (i + 1) items)) a c
-  groups_next never trans total items i d g a n c same lt e h one =
-      subst (λ xs. Adds (Of (IsGroupMove q r bound limit flown reverse m) (take (i + 1) xs)) a c) (sym same)
-      (groups_more never trans total i d g a n c (subst (λ xs. i < length xs) same lt) (e ∙ ap (λ xs. get_or xs i d) same) (subst (IsIn g) same (read_in items i d g lt e)) (λ x j. taken_in x i m.groups j)
-      (subst (λ xs. Adds (Of (IsGroupMove q r bound limit flown reverse m) (take i xs)) a n) same h) one)
 
 -- what the calls know of a component
 pub component_is : (b : Book) (q : Request) (r : State) (k : Component) (reverse : Bool) (row : SheetRow) → IsReadOver q.sale k.flown.now.way.flights row reverse k.facts → IsOver b q r k.flown.now reverse k.market.now → IsIn k.group.now k.market.now.groups → IsRowIn k.market.now.sheet.value.rows k.group.now row

@@ -1,10 +1,11 @@
--- The ends and the classes on which moves within a limit may be.
-use Rattle.std.proofs.Common.{◌≡◌, ℕ, suc, ◌+◌, ◌-◌, ◌≤◌, ◌<◌, Bool, true, false, List, [], ◌∷◌, length, take, get_or, slice_get, MatchOption, MatchBool, All, Option, Some, None, IfSome, refl, sym, ap, subst, ◌∙◌, inl, inr, arith}
+-- What the leads within a limit tell of the paths on which moves within it may be.
+use Rattle.std.proofs.Common.{◌≡◌, ℕ, suc, ◌+◌, ◌-◌, ◌≤◌, ◌<◌, Bool, true, false, List, [], ◌∷◌, ◌++◌, length, take, get_or, slice_get, MatchOption, MatchBool, All, Option, Some, None, IfSome, Result, Ok, Err, OnOk, refl, sym, ap, subst, ◌∙◌, inl, inr, arith}
 use Rattle.std.proofs.lemmas.List.Elements.{All-head}
 use Rattle.cheap_moves.specs.declared.hopes.Hopes.{Hopes}
 use Rattle.cheap_moves.specs.declared.hopes.PathClass.{PathClass}
+use Rattle.cheap_moves.specs.declared.hopes.PathStart.{PathStart}
 use Rattle.cheap_moves.specs.declared.leads.Lead.{Lead}
-use Rattle.cheap_moves.specs.Hopes.{AreHopes, HasHopes, HopeAdded, IsClass, class_of, marked}
+use Rattle.cheap_moves.specs.Hopes.{AreHopes, HasHopes, HopeAdded, IsClass, begins_with, class_of, marked, start_of}
 use Rattle.cheap_moves.specs.Leads.{AreLeads}
 use Rattle.cheap_moves.specs.Making.{IsWithinOn}
 use Rattle.cheap_moves.specs.Within.{CountsWithin, IsWithin}
@@ -14,13 +15,15 @@ use Rattle.fare_law.specs.declared.names.Carrier.{Carrier}
 use Rattle.fare_law.specs.declared.names.Place.{Place}
 use Rattle.fare_law.specs.declared.requests.Request.{Request}
 use Rattle.fare_law.specs.declared.rules.TransferRule.{TransferRule}
+use Rattle.fare_law.specs.declared.tickets.Piece.{Piece}
 use Rattle.fare_law.specs.Book.{Book}
-use Rattle.fare_law.specs.Lists.{OnFirst, OnLast}
+use Rattle.fare_law.specs.Lists.{IsIn, OnFirst, OnLast}
 use Rattle.fare_law.specs.Parts.{Numbers, transfers}
 use Rattle.flight_paths.specs.declared.positions.Path.{Path}
 use Rattle.flight_paths.specs.declared.positions.Position.{Position}
 use Rattle.flight_paths.specs.Heads.{EndWanted}
 use Rattle.flight_paths.specs.Positions.{Flies}
+use Rattle.outlines.specs.declared.outline.Outline.{Outline}
 use Rattle.outlines.specs.Outlines.{Outlines}
 use Rattle.residual_keys.specs.declared.residual.Chosen.{Chosen}
 use Rattle.residual_keys.specs.Gathered.{Adds, IsPathOf}
@@ -30,28 +33,58 @@ use Rattle.residual_keys.proofs.Adding.{adds_none}
 use Rattle.residual_keys.proofs.OneNext.{first_one, flies_one, last_one}
 use Rattle.residual_keys.proofs.Runs.{flies_numbers}
 use Rattle.law_lemmas.proofs.LawFacts.{numbers_one, on_first_as, on_last_as}
+use Rattle.law_lemmas.proofs.Members.{in_left, in_right}
 use Rattle.law_lemmas.proofs.Options.{some_one}
 use Rattle.law_lemmas.proofs.Tests.{true_false}
 
 -- ---- what is marked
 
-module _ (same_place : Place → Place → Bool) (same_class : PathClass → PathClass → Bool) (limit : Option ℕ) where
-  pub hopes_none : (h : Hopes) → HasHopes same_place same_class limit [] h
-  hopes_none h = record { of_ends = λ l i. absurd i; of_classes = λ l i. absurd i }
+module _ (same_start : PathStart → PathStart → Bool) (same_place : Place → Place → Bool) (same_class : PathClass → PathClass → Bool) (limit : Option ℕ) where
+  pub hopes_none : (h : Hopes) → HasHopes same_start same_place same_class limit [] h
+  hopes_none h = record { kept = λ l i. absurd i; of_starts = λ l i. absurd i; of_ends = λ l i. absurd i; of_classes = λ l i. absurd i }
 
   -- one lead more
-  pub hopes_more : (leads : List Lead) (i : ℕ) (d x : Lead) (old new : Hopes) → i < length leads → x ≡ get_or leads i d → HasHopes same_place same_class limit (take i leads) old → HopeAdded same_place same_class limit x old new
-      → HasHopes same_place same_class limit (take (i + 1) leads) new
+  pub hopes_more : (leads : List Lead) (i : ℕ) (d x : Lead) (old new : Hopes) → i < length leads → x ≡ get_or leads i d → HasHopes same_start same_place same_class limit (take i leads) old → HopeAdded same_start same_place same_class limit x old new
+      → HasHopes same_start same_place same_class limit (take (i + 1) leads) new
   hopes_more leads i d x old new lt is h added = record {
+    kept = λ l j w. elim (one_added leads i d x l lt is j) [
+      | inl k ↦ added.leads_stay l (h.kept l k w)
+      | inr k ↦ subst (λ (y : Lead). IsIn y new.leads) (sym k) (added.kept (at l k w))
+    ];
+    of_starts = λ l j w. elim (one_added leads i d x l lt is j) [
+      | inl k ↦ added.starts_stay (start_of l.outline) (h.of_starts l k w)
+      | inr k ↦ subst (λ (y : Lead). marked same_start new.starts (start_of y.outline) ≡ true) (sym k) (added.has_start (at l k w))
+    ];
     of_ends = λ l j w. elim (one_added leads i d x l lt is j) [
       | inl k ↦ added.ends_stay l.outline.end (h.of_ends l k w)
-      | inr k ↦ subst (λ (y : Lead). marked same_place new.ends y.outline.end ≡ true) (sym k) (added.has (subst (λ (y : Lead). IsWithin limit y.total) k w)).0
+      | inr k ↦ subst (λ (y : Lead). marked same_place new.ends y.outline.end ≡ true) (sym k) (added.has_end (at l k w))
     ];
     of_classes = λ l j w. elim (one_added leads i d x l lt is j) [
       | inl k ↦ added.classes_stay (class_of l.outline) (h.of_classes l k w)
-      | inr k ↦ subst (λ (y : Lead). marked same_class new.classes (class_of y.outline) ≡ true) (sym k) (added.has (subst (λ (y : Lead). IsWithin limit y.total) k w)).1
+      | inr k ↦ subst (λ (y : Lead). marked same_class new.classes (class_of y.outline) ≡ true) (sym k) (added.has_class (at l k w))
     ];
   }
+    where
+      at : (l : Lead) → l ≡ x → IsWithin limit l.total → IsWithin limit x.total
+      at l k w = subst (λ (y : Lead). IsWithin limit y.total) k w
+
+-- a lead that was kept and marked was added
+pub lead_added : (same_start : PathStart → PathStart → Bool) (same_place : Place → Place → Bool) (same_class : PathClass → PathClass → Bool) (limit : Option ℕ) (l : Lead) (old new : Hopes) (s : PathStart) (x : PathClass) {A E : Type 0} (result : Result A E)
+    → new.leads ≡ old.leads ++ l ∷ [] → s ≡ start_of l.outline → x ≡ class_of l.outline
+    → marked same_start new.starts s ≡ true → ((t : PathStart) → marked same_start old.starts t ≡ true → marked same_start new.starts t ≡ true)
+    → marked same_place new.ends l.outline.end ≡ true → ((p : Place) → marked same_place old.ends p ≡ true → marked same_place new.ends p ≡ true)
+    → OnOk result (marked same_class new.classes x ≡ true) → OnOk result ((y : PathClass) → marked same_class old.classes y ≡ true → marked same_class new.classes y ≡ true) → OnOk result (HopeAdded same_start same_place same_class limit l old new)
+lead_added same_start same_place same_class limit l old new s x (Err e) leads s_is x_is begun starts ended ends classed classes = tt
+lead_added same_start same_place same_class limit l old new s x (Ok a) leads s_is x_is begun starts ended ends classed classes = record {
+  leads_stay = λ k i. subst (IsIn k) (sym leads) (in_left k old.leads (l ∷ []) i);
+  starts_stay = starts;
+  ends_stay = ends;
+  classes_stay = classes;
+  kept = λ w. subst (IsIn l) (sym leads) (in_right l old.leads (l ∷ []) (inl refl));
+  has_start = λ w. subst (λ t. marked same_start new.starts t ≡ true) s_is begun;
+  has_end = λ w. ended;
+  has_class = λ w. subst (λ y. marked same_class new.classes y ≡ true) x_is classed;
+}
 
 -- ---- what moves have
 
@@ -72,7 +105,21 @@ module _ (carrier : Carrier) (fs : List Flight) where
   by_rule P Few s None k = k
   by_rule P Few s (Some c) k = by_online P s c.online k.1
 
-module _ (same_place : Place → Place → Bool) (same_class : PathClass → PathClass → Bool) (b : Book) (q : Request) (r : State) (bound : State → Option ℕ) (limit : Option ℕ) (leads : List Lead) (led : AreLeads b q r bound leads) (h : Hopes) (has : HasHopes same_place same_class limit leads h) where
+pub first_to : (P Q : Flight → Type 0) (fs : List Flight) → ((f : Flight) → P f → Q f) → OnFirst P fs → OnFirst Q fs
+first_to P Q [] to h = absurd h
+first_to P Q (f ∷ fs) to h = to f h
+
+-- the flights of a component begin as its outline says
+pub outline_begins : (o : Outline) (after : Option Position) (p : Piece) (fs : List Flight) → Outlines o after p → OnFirst (λ f. (p.begin ≡ f.from) × (p.first_day ≡ f.day)) fs
+    → (t : Option TransferRule) → MatchOption t (OnFirst (λ f. f.carrier ≡ p.fare.key.carrier) fs) (λ c. (transfers fs ≤ c.max) × MatchBool c.online (All (λ f. f.carrier ≡ p.fare.key.carrier) fs) (OnFirst (λ f. f.carrier ≡ p.fare.key.carrier) fs))
+    → OnFirst (λ f. (o.first ≡ f.day) × (o.carrier ≡ f.carrier)) fs
+outline_begins o after p fs is begins t rule = both fs begins (by_rule p.fare.key.carrier fs (λ f. (p.begin ≡ f.from) × (p.first_day ≡ f.day)) (λ c. transfers fs ≤ c.max) begins t rule)
+  where
+    both : (gs : List Flight) → OnFirst (λ f. (p.begin ≡ f.from) × (p.first_day ≡ f.day)) gs → OnFirst (λ f. f.carrier ≡ p.fare.key.carrier) gs → OnFirst (λ f. (o.first ≡ f.day) × (o.carrier ≡ f.carrier)) gs
+    both [] h k = absurd h
+    both (f ∷ gs) h k = (is.first ∙ h.1, is.carrier ∙ sym k)
+
+module _ (same_start : PathStart → PathStart → Bool) (same_place : Place → Place → Bool) (same_class : PathClass → PathClass → Bool) (b : Book) (q : Request) (r : State) (bound : State → Option ℕ) (limit : Option ℕ) (leads : List Lead) (led : AreLeads b q r bound leads) (h : Hopes) (has : HasHopes same_start same_place same_class limit leads h) where
   module _ (c : Chosen) (k : IsChosen b q r c) (n : CountsWithin bound limit c) where
     abbrev lead : Lead
     lead = (led c k n.rest n.rest_is).lead
@@ -92,34 +139,42 @@ module _ (same_place : Place → Place → Bool) (same_class : PathClass → Pat
         last_as (f ∷ []) z = subst (λ p. marked same_place h.ends p ≡ true) ((led c k n.rest n.rest_is).outlines.end ∙ z.0) (has.of_ends lead (led c k n.rest n.rest_is).within within)
         last_as (f ∷ g ∷ gs) z = last_as (g ∷ gs) z
 
+    o : Outlines lead.outline k.after k.piece
+    o = (led c k n.rest n.rest_is).outlines
+
+    led_hoped : (l : Lead) × IsIn l h.leads × Outlines l.outline k.after k.piece
+    led_hoped = (lead, has.kept lead (led c k n.rest n.rest_is).within within, o)
+
+    -- how the move's flights begin
+    begun : OnFirst (λ f. (lead.outline.first ≡ f.day) × (lead.outline.carrier ≡ f.carrier)) k.flights
+    begun = outline_begins lead.outline k.after k.piece k.flights o k.moves.stands.begins k.piece.rule.cat9 k.moves.lawful.transfers
+
+    start_hoped : OnFirst (λ f. marked same_start h.starts (begins_with f) ≡ true) k.flights
+    start_hoped = first_to (λ f. (lead.outline.first ≡ f.day) × (lead.outline.carrier ≡ f.carrier)) (λ f. marked same_start h.starts (begins_with f) ≡ true) k.flights
+        (λ f z. subst (λ y. marked same_start h.starts y ≡ true) (same f z.0 z.1) (has.of_starts lead (led c k n.rest n.rest_is).within within)) begun
+      where
+        same : (f : Flight) → lead.outline.first ≡ f.day → lead.outline.carrier ≡ f.carrier → start_of lead.outline ≡ begins_with f
+        same f d e = λ i. record { day = d i; carrier = e i }
+
     class_hoped : (x : PathClass) → IsClass x k.after k.flights → marked same_class h.classes x ≡ true
     class_hoped x is = subst (λ y. marked same_class h.classes y ≡ true) same (has.of_classes lead (led c k n.rest n.rest_is).within within)
       where
-        o : Outlines lead.outline k.after k.piece
-        o = (led c k n.rest n.rest_is).outlines
-
-        carried : OnFirst (λ f. f.carrier ≡ k.piece.fare.key.carrier) k.flights
-        carried = by_rule k.piece.fare.key.carrier k.flights (λ f. (k.piece.begin ≡ f.from) × (k.piece.first_day ≡ f.day)) (λ t. transfers k.flights ≤ t.max) k.moves.stands.begins k.piece.rule.cat9 k.moves.lawful.transfers
-
-        first : lead.outline.first ≡ x.first
-        first = first_one (λ f. (k.piece.begin ≡ f.from) × (k.piece.first_day ≡ f.day)) (λ f. (x.first ≡ f.day) × (x.carrier ≡ f.carrier)) (lead.outline.first ≡ x.first) (λ f u v. o.first ∙ u.1 ∙ sym v.0) k.flights k.moves.stands.begins is.begins
-
-        carrier : lead.outline.carrier ≡ x.carrier
-        carrier = first_one (λ f. f.carrier ≡ k.piece.fare.key.carrier) (λ f. (x.first ≡ f.day) × (x.carrier ≡ f.carrier)) (lead.outline.carrier ≡ x.carrier) (λ f u v. o.carrier ∙ sym u ∙ sym v.1) k.flights carried is.begins
+        began : (lead.outline.first ≡ x.first) × (lead.outline.carrier ≡ x.carrier)
+        began = first_one (λ f. (lead.outline.first ≡ f.day) × (lead.outline.carrier ≡ f.carrier)) (λ f. (x.first ≡ f.day) × (x.carrier ≡ f.carrier)) ((lead.outline.first ≡ x.first) × (lead.outline.carrier ≡ x.carrier)) (λ f u v. (u.0 ∙ sym v.0, u.1 ∙ sym v.1)) k.flights begun is.begins
 
         ended : (lead.outline.end ≡ x.end) × (lead.outline.last ≡ x.last)
         ended = last_one (λ f. (k.piece.end ≡ f.to) × (k.piece.last_day ≡ f.day)) (λ f. (x.end ≡ f.to) × (x.last ≡ f.day)) ((lead.outline.end ≡ x.end) × (lead.outline.last ≡ x.last)) (λ f u v. (o.end ∙ u.0 ∙ sym v.0, o.last ∙ u.1 ∙ sym v.1)) k.flights k.moves.stands.ends is.ends
 
         same : class_of lead.outline ≡ x
-        same = let after = o.after_is ∙ sym is.after_is in λ i. record { after = after i; end = ended.0 i; first = first i; last = ended.1 i; carrier = carrier i }
+        same = let after = o.after_is ∙ sym is.after_is in λ i. record { after = after i; end = ended.0 i; first = began.0 i; last = ended.1 i; carrier = began.1 i }
 
-  pub are_hopes : AreHopes same_place same_class b q r bound limit h
-  are_hopes = record { of_ends = end_hoped; of_classes = class_hoped }
+  pub are_hopes : AreHopes same_start same_place same_class b q r bound limit h
+  are_hopes = record { led = led_hoped; of_starts = start_hoped; of_ends = end_hoped; of_classes = class_hoped }
 
 -- a path whose class isn't marked has no move within the limit
-pub hopeless : (same_place : Place → Place → Bool) (same_class : PathClass → PathClass → Bool) (b : Book) (q : Request) (r : State) (bound : State → Option ℕ) (limit : Option ℕ) (h : Hopes) → AreHopes same_place same_class b q r bound limit h
+pub hopeless : (same_start : PathStart → PathStart → Bool) (same_place : Place → Place → Bool) (same_class : PathClass → PathClass → Bool) (b : Book) (q : Request) (r : State) (bound : State → Option ℕ) (limit : Option ℕ) (h : Hopes) → AreHopes same_start same_place same_class b q r bound limit h
     → (path : Path) (old : List Chosen) → ((fs : List Flight) × IsPathOf b q r path fs) → ((fs : List Flight) → Numbers b path.flights fs → (x : PathClass) × IsClass x path.after fs × (marked same_class h.classes x ≡ false)) → Adds (IsWithinOn b q r bound limit path) old old
-hopeless same_place same_class b q r bound limit h hopes path old (fs, is) not = adds_none (IsWithinOn b q r bound limit path) old none
+hopeless same_start same_place same_class b q r bound limit h hopes path old (fs, is) not = adds_none (IsWithinOn b q r bound limit path) old none
   where
     none : (c : Chosen) → IsWithinOn b q r bound limit path c → ⊥
     none c m = true_false (hopes.of_classes c k m.1 x.0 (subst (λ a. IsClass x.0 a k.flights) (sym after) x.1)) x.2

@@ -20,6 +20,19 @@ differs_before key (z ∷ xs) zero d x y h lt e j s = absurd j
 differs_before key (z ∷ xs) (suc i) d x y h lt e (inl a) s = apart_in key (key z) xs x h.0 (read_in xs i d x (omega arith) e) (ap key (sym a) ∙ s)
 differs_before key (z ∷ xs) (suc i) d x y h lt e (inr j) s = differs_before key xs i d x y h.1 (omega arith) e j s
 
+-- where all have different keys, those of one key are one
+pub one_of_key : {X Y : Type 0} (key : X → Y) (xs : List X) → AllDifferent (map key xs) → (x y : X) → IsIn x xs → IsIn y xs → key x ≡ key y → x ≡ y
+one_of_key key [] h x y i j e = absurd i
+one_of_key key (z ∷ xs) h x y (inl a) (inl b) e = a ∙ sym b
+one_of_key key (z ∷ xs) h x y (inl a) (inr j) e = absurd (apart_in key (key z) xs y h.0 j (ap key (sym a) ∙ e))
+one_of_key key (z ∷ xs) h x y (inr i) (inl b) e = absurd (apart_in key (key z) xs x h.0 i (ap key (sym b) ∙ sym e))
+one_of_key key (z ∷ xs) h x y (inr i) (inr j) e = one_of_key key xs h.1 x y i j e
+
+-- a list is what it is mapped to by what changes nothing
+pub same_map : {X : Type 0} (xs : List X) → xs ≡ map (λ x. x) xs
+same_map [] = refl
+same_map (x ∷ xs) = ap (λ ys. x ∷ ys) (same_map xs)
+
 -- one of the first is one
 pub taken_in : {X : Type 0} (x : X) (i : ℕ) (xs : List X) → IsIn x (take i xs) → IsIn x xs
 taken_in x zero xs j = absurd j
@@ -54,3 +67,7 @@ module _ {X : Type 0} (P : X → Chosen → Type 0) where
 -- one of the first and one more is one of the first, or that one
 pub one_added : {X : Type 0} (xs : List X) (i : ℕ) (d x y : X) → i < length xs → x ≡ get_or xs i d → IsIn y (take (i + 1) xs) → IsIn y (take i xs) ⊎ (y ≡ x)
 one_added xs i d x y lt e j = elim (in_either y (take i xs) (x ∷ []) (subst (IsIn y) (front_read xs i d x lt e) j)) [ inl k ↦ inl k | inr k ↦ inr (in_one y x k) ]
+
+-- what is none of the first and isn't one more is none of these
+pub not_added : {X : Type 0} (xs : List X) (i : ℕ) (d y : X) → i < length xs → (IsIn y (take i xs) → ⊥) → (y ≡ get_or xs i d → ⊥) → IsIn y (take (i + 1) xs) → ⊥
+not_added xs i d y lt none ne j = elim (one_added xs i d (get_or xs i d) y lt refl j) [ inl k ↦ none k | inr k ↦ ne k ]

@@ -4,7 +4,10 @@ pub mod Joining
 pub mod FareMoves
 pub mod RoleMoves
 pub mod GroupMoves
+pub mod ProspectMoves
 pub mod MarketMoves
 pub mod PathMoves
 pub mod LeadMoves
 pub mod Hoped
+pub mod Suiting
+pub mod Seeking

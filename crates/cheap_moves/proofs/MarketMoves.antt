@@ -2,9 +2,11 @@
 use Rattle.std.proofs.Common.{◌≡◌, ℕ, ◌+◌, ◌<◌, Bool, List, [], slice_get, Option, Some, IsBitSet, IfNone, refl, sym, ap, ap₂, subst, ◌∙◌, arith}
 use Rattle.cheap_moves.specs.declared.component.Flown.{Flown}
 use Rattle.cheap_moves.specs.Making.{IsGroupMove, IsOver, IsWithinFiled, Of}
+use Rattle.cheap_moves.specs.Prospects.{HasProspects, IsProspectMove, prospect_as}
 use Rattle.cheap_moves.proofs.FareMoves.{row_at}
 use Rattle.component_table.specs.declared.markets.Market.{Market}
 use Rattle.fare_book.specs.Keeping.{NoFare}
+use Rattle.fare_groups.specs.declared.group.FareGroup.{FareGroup}
 use Rattle.fare_groups.specs.declared.group.GroupedFare.{GroupedFare}
 use Rattle.fare_groups.specs.Grouping.{IsRowOf, StandsOnce, fare_at}
 use Rattle.fare_groups.specs.Groups.{HasClass, Permits, extra_of, group_of}
@@ -131,10 +133,11 @@ module _ (b : Book) (q : Request) (r : State) (bound : State → Option ℕ) (li
           (offered_lawful b q.party fs legs h.row h.piece is.over.legs_are.each is.over.legs_are.flights h.piece_is.fare h.piece_is.reads.rule (class_low h.row j) is.over.path_is.shape offered) c.price costs c.next leaves
 
   -- and each move is given
-  back : (c : Chosen) → IsWithinFiled b q r bound limit path.flights reverse c → Of (IsGroupMove q r bound limit flown reverse m) m.groups c
+  back : (c : Chosen) (h : IsWithinFiled b q r bound limit path.flights reverse c) → (g : FareGroup) × IsIn g m.groups × (g.key ≡ (prospect_as h.0.0.0.piece).key) × IsGroupMove q r bound limit flown reverse m g c
   back c (((chosen, ns), way), counts) = (
     once.group,
     once.within,
+    once.key,
     record {
       fare = fare_at place.0 row;
       of = once.stands;
@@ -213,8 +216,22 @@ module _ (b : Book) (q : Request) (r : State) (bound : State → Option ℕ) (li
       move : c.mv ≡ record { flights = path.flights; carrier = row.fare.key.carrier; basis = row.fare.key.basis; role = c.mv.role; slot = c.mv.slot }
       move = λ i. record { flights = ns i; carrier = carrier i; basis = basis i; role = c.mv.role; slot = c.mv.slot }
 
-  pub market_had : (old new : List Chosen) → Adds (Of (IsGroupMove q r bound limit flown reverse m) m.groups) old new → Adds (IsWithinFiled b q r bound limit path.flights reverse) old new
-  market_had old new h = adds_like (Of (IsGroupMove q r bound limit flown reverse m) m.groups) (IsWithinFiled b q r bound limit path.flights reverse) old new h (λ c. (forth c, back c))
+  -- by the groups with which moves on the path may be within the limit
+  module _ (has : HasProspects b q r bound limit path flown.prospects) where
+    given : (c : Chosen) → Of (IsProspectMove q r bound limit flown reverse m) flown.prospects c → IsWithinFiled b q r bound limit path.flights reverse c
+    given c (x, i, h) = forth c (h.group, h.within, h.is)
+
+    taken : (c : Chosen) → IsWithinFiled b q r bound limit path.flights reverse c → Of (IsProspectMove q r bound limit flown reverse m) flown.prospects c
+    taken c h =
+        let k = h.0.0.0 in
+        let g = back c h in (
+          prospect_as k.piece,
+          has.all c k h.1 h.0.0.1,
+          record { way = direction c.mv.role c.mv.slot r.units k.units k.piece k.moves.units ∙ h.0.1; group = g.0; within = g.1; key = g.2; is = g.3 },
+        )
+
+    pub market_had : (old new : List Chosen) → Adds (Of (IsProspectMove q r bound limit flown reverse m) flown.prospects) old new → Adds (IsWithinFiled b q r bound limit path.flights reverse) old new
+    market_had old new h = adds_like (Of (IsProspectMove q r bound limit flown reverse m) flown.prospects) (IsWithinFiled b q r bound limit path.flights reverse) old new h (λ c. (given c, taken c))
 
 -- where no fare is filed there is none
 pub no_market : (b : Book) (q : Request) (r : State) (bound : State → Option ℕ) (limit : Option ℕ) (path : Path) (fs : List Flight) (reverse : Bool) (from to : Place) (old : List Chosen)

@@ -1,9 +1,10 @@
 -- The moves of a residual, path by path.
-use Rattle.std.proofs.Common.{◌≡◌, ◌⊎◌, ℕ, ◌+◌, ◌≤◌, ◌<◌, Bool, true, false, List, [], ◌∷◌, length, map, take, get_or, slice_get, Option, Some, refl, sym, ap, subst, ◌∙◌, inl, inr, arith}
+use Rattle.std.proofs.Common.{◌≡◌, ◌⊎◌, ℕ, ◌+◌, ◌≤◌, ◌<◌, Bool, true, false, List, [], length, take, get_or, slice_get, Option, Some, refl, sym, ap, subst, ◌∙◌, inl, inr, arith}
 use Rattle.cheap_moves.specs.declared.component.Flown.{Flown}
 use Rattle.cheap_moves.specs.Making.{IsFlown, IsOver, IsWithinFiled, IsWithinOn, Of}
+use Rattle.cheap_moves.specs.Sought.{AreSought, StartWanted}
 use Rattle.cheap_moves.specs.Within.{CountsWithin, IsMoveWithin}
-use Rattle.cheap_moves.proofs.Joining.{differs_before, of_more}
+use Rattle.cheap_moves.proofs.Joining.{differs_before, of_more, same_map}
 use Rattle.component_table.specs.declared.markets.Market.{Market}
 use Rattle.component_table.specs.declared.markets.MarketKey.{MarketKey}
 use Rattle.component_table.specs.Markets.{AreMarkets, IsMarket, StandsAt}
@@ -17,7 +18,7 @@ use Rattle.fare_law.specs.declared.requests.Request.{Request}
 use Rattle.fare_law.specs.Book.{Book}
 use Rattle.fare_law.specs.Lists.{AllDifferent, IsIn}
 use Rattle.flight_paths.specs.declared.positions.Path.{Path}
-use Rattle.flight_paths.specs.Heads.{AreReached, EndWanted}
+use Rattle.flight_paths.specs.Heads.{EndWanted}
 use Rattle.flight_paths.specs.Positions.{Flies}
 use Rattle.open_unit.specs.declared.units.OpenUnit.{OpenUnit}
 use Rattle.residual_keys.specs.declared.residual.Chosen.{Chosen}
@@ -65,10 +66,6 @@ module _ (b : Book) (q : Request) (r : State) (bound : State → Option ℕ) (li
           of true e = inr ((i.0, e), i.1)
           of false e = inl ((i.0, e), i.1)
 
-same_map : {X : Type 0} (xs : List X) → xs ≡ map (λ x. x) xs
-same_map [] = refl
-same_map (x ∷ xs) = ap (λ ys. x ∷ ys) (same_map xs)
-
 -- a path with its numbers is one
 path_one : (b : Book) (q : Request) (r : State) (p p' : Path) (fs gs : List Flight) → IsPathOf b q r p fs → IsPathOf b q r p' gs → p.flights ≡ p'.flights → p ≡ p'
 path_one b q r p p' fs gs h k e =
@@ -77,7 +74,7 @@ path_one b q r p p' fs gs h k e =
     let after = flies_one b q.slices (Some r.at) p'.flights gs p.after p'.after (subst (λ xs. Flies b q.slices (Some r.at) p'.flights xs p.after) same flies) k.flies in
     λ i. record { flights = e i; after = after i }
 
-module _ (b : Book) (q : Request) (r : State) (bound : State → Option ℕ) (limit : Option ℕ) (wanted : Place → Bool) (paths : List Path) (are : AreReached b q.slices r.at wanted paths) where
+module _ (b : Book) (q : Request) (r : State) (bound : State → Option ℕ) (limit : Option ℕ) (begun : Flight → Bool) (wanted : Place → Bool) (paths : List Path) (are : AreSought b q.slices r.at begun wanted paths) where
   pub paths_more : (i : ℕ) (d p : Path) (a m c : List Chosen) → i < length paths → p ≡ get_or paths i d → ((y : Path) → IsIn y (take i paths) → IsIn y paths)
       → Adds (Of (IsWithinOn b q r bound limit) (take i paths)) a m → Adds (IsWithinOn b q r bound limit p) m c → Adds (Of (IsWithinOn b q r bound limit) (take (i + 1) paths)) a c
   paths_more i d p a m c lt e in_all h one = of_more (IsWithinOn b q r bound limit) paths i d p a m c lt e apart h one
@@ -89,14 +86,14 @@ module _ (b : Book) (q : Request) (r : State) (bound : State → Option ℕ) (li
           differs_before (λ (w : Path). w) paths i d p y (subst AllDifferent (same_map paths) are.once) lt e j
           (path_one b q r y p k.0 l.0 k.1 l.1 (sym x.0.1 ∙ ap (λ (w : Move). w.flights) s ∙ z.0.1))
 
-  -- all paths that were seen have all moves, where each move ends where it is wanted
-  pub all_paths : ((c : Chosen) (k : IsChosen b q r c) → CountsWithin bound limit c → EndWanted wanted k.flights) → (old new : List Chosen) → Adds (Of (IsWithinOn b q r bound limit) paths) old new → Adds (IsMoveWithin b q r bound limit) old new
-  all_paths ends old new h = adds_like (Of (IsWithinOn b q r bound limit) paths) (IsMoveWithin b q r bound limit) old new h (λ c. (λ u. (u.2.0.0, u.2.1), λ k. back c k))
+  -- all paths that were seen have all moves, where each move begins and ends as it is wanted
+  pub all_paths : ((c : Chosen) (k : IsChosen b q r c) → CountsWithin bound limit c → StartWanted begun k.flights) → ((c : Chosen) (k : IsChosen b q r c) → CountsWithin bound limit c → EndWanted wanted k.flights) → (old new : List Chosen) → Adds (Of (IsWithinOn b q r bound limit) paths) old new → Adds (IsMoveWithin b q r bound limit) old new
+  all_paths starts ends old new h = adds_like (Of (IsWithinOn b q r bound limit) paths) (IsMoveWithin b q r bound limit) old new h (λ c. (λ u. (u.2.0.0, u.2.1), λ k. back c k))
     where
       back : (c : Chosen) → IsMoveWithin b q r bound limit c → Of (IsWithinOn b q r bound limit) paths c
       back c k =
           let p : Path = record { flights = c.mv.flights; after = k.0.after } in
-          (p, are.all p k.0.flights k.0.moves.path (ends c k.0 k.1), ((k.0, refl), k.1))
+          (p, are.all p k.0.flights k.0.moves.path (starts c k.0 k.1) (ends c k.0 k.1), ((k.0, refl), k.1))
 
 -- a residual past the last slice has no move
 pub no_slice : (b : Book) (q : Request) (r : State) (bound : State → Option ℕ) (limit : Option ℕ) (old : List Chosen) → length q.slices ≤ r.at.slice → Adds (IsMoveWithin b q r bound limit) old old

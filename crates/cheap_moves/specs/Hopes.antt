@@ -1,7 +1,8 @@
--- The ends and the classes of paths on which a move may be within a limit.
+-- The leads within a limit, and the beginnings, ends and classes of the paths on which a move may be within it.
 use Rattle.std.specs.Prelude.{◌≡◌, ℕ, Bool, true, false, List, Option, unwrap_or}
 use Rattle.cheap_moves.specs.declared.hopes.Hopes.{Hopes}
 use Rattle.cheap_moves.specs.declared.hopes.PathClass.{PathClass}
+use Rattle.cheap_moves.specs.declared.hopes.PathStart.{PathStart}
 use Rattle.cheap_moves.specs.declared.leads.Lead.{Lead}
 use Rattle.cheap_moves.specs.Within.{CountsWithin, IsWithin}
 use Rattle.fare_law.specs.declared.flights.Flight.{Flight}
@@ -13,6 +14,7 @@ use Rattle.flight_paths.specs.declared.positions.Position.{Position}
 use Rattle.flight_paths.specs.Heads.{EndWanted}
 use Rattle.indexmap.specs.IndexMap.{IndexMap, get}
 use Rattle.outlines.specs.declared.outline.Outline.{Outline}
+use Rattle.outlines.specs.Outlines.{Outlines}
 use Rattle.residual_keys.specs.declared.residual.Chosen.{Chosen}
 use Rattle.residual_keys.specs.Residuals.{State}
 use Rattle.residual_keys.specs.Steps.{IsChosen}
@@ -31,18 +33,35 @@ pub record IsClass (x : PathClass) (after : Option Position) (fs : List Flight) 
 abbrev pub class_of : Outline → PathClass
 class_of o = record { after = o.after; end = o.end; first = o.first; last = o.last; carrier = o.carrier }
 
--- The ends and the classes of the leads within a limit are marked.
-pub record HasHopes (same_place : Place → Place → Bool) (same_class : PathClass → PathClass → Bool) (limit : Option ℕ) (leads : List Lead) (h : Hopes) : Type 0 where
+-- how the paths begin that an outline's components may have
+abbrev pub start_of : Outline → PathStart
+start_of o = record { day = o.first; carrier = o.carrier }
+
+-- how a path begins with a flight
+abbrev pub begins_with : Flight → PathStart
+begins_with f = record { day = f.day; carrier = f.carrier }
+
+-- The leads within a limit are kept, and their beginnings, ends and classes are marked.
+pub record HasHopes (same_start : PathStart → PathStart → Bool) (same_place : Place → Place → Bool) (same_class : PathClass → PathClass → Bool) (limit : Option ℕ) (leads : List Lead) (h : Hopes) : Type 0 where
+  pub kept : (l : Lead) → IsIn l leads → IsWithin limit l.total → IsIn l h.leads
+  pub of_starts : (l : Lead) → IsIn l leads → IsWithin limit l.total → marked same_start h.starts (start_of l.outline) ≡ true
   pub of_ends : (l : Lead) → IsIn l leads → IsWithin limit l.total → marked same_place h.ends l.outline.end ≡ true
   pub of_classes : (l : Lead) → IsIn l leads → IsWithin limit l.total → marked same_class h.classes (class_of l.outline) ≡ true
 
--- The end and the class of a lead were marked, where it is within the limit.
-pub record HopeAdded (same_place : Place → Place → Bool) (same_class : PathClass → PathClass → Bool) (limit : Option ℕ) (l : Lead) (old new : Hopes) : Type 0 where
+-- A lead was kept, and its beginning, end and class were marked, where it is within the limit.
+pub record HopeAdded (same_start : PathStart → PathStart → Bool) (same_place : Place → Place → Bool) (same_class : PathClass → PathClass → Bool) (limit : Option ℕ) (l : Lead) (old new : Hopes) : Type 0 where
+  pub leads_stay : (k : Lead) → IsIn k old.leads → IsIn k new.leads
+  pub starts_stay : (s : PathStart) → marked same_start old.starts s ≡ true → marked same_start new.starts s ≡ true
   pub ends_stay : (p : Place) → marked same_place old.ends p ≡ true → marked same_place new.ends p ≡ true
   pub classes_stay : (x : PathClass) → marked same_class old.classes x ≡ true → marked same_class new.classes x ≡ true
-  pub has : IsWithin limit l.total → (marked same_place new.ends l.outline.end ≡ true) × (marked same_class new.classes (class_of l.outline) ≡ true)
+  pub kept : IsWithin limit l.total → IsIn l new.leads
+  pub has_start : IsWithin limit l.total → marked same_start new.starts (start_of l.outline) ≡ true
+  pub has_end : IsWithin limit l.total → marked same_place new.ends l.outline.end ≡ true
+  pub has_class : IsWithin limit l.total → marked same_class new.classes (class_of l.outline) ≡ true
 
--- Each move within the limit has its end and its class among those that are marked.
-pub record AreHopes (same_place : Place → Place → Bool) (same_class : PathClass → PathClass → Bool) (b : Book) (q : Request) (r : State) (bound : State → Option ℕ) (limit : Option ℕ) (h : Hopes) : Type 0 where
+-- Each move within the limit has the outline of a lead that is kept, and its beginning, end and class are among those that are marked.
+pub record AreHopes (same_start : PathStart → PathStart → Bool) (same_place : Place → Place → Bool) (same_class : PathClass → PathClass → Bool) (b : Book) (q : Request) (r : State) (bound : State → Option ℕ) (limit : Option ℕ) (h : Hopes) : Type 0 where
+  pub led : (c : Chosen) (k : IsChosen b q r c) → CountsWithin bound limit c → (l : Lead) × IsIn l h.leads × Outlines l.outline k.after k.piece
+  pub of_starts : (c : Chosen) (k : IsChosen b q r c) → CountsWithin bound limit c → OnFirst (λ f. marked same_start h.starts (begins_with f) ≡ true) k.flights
   pub of_ends : (c : Chosen) (k : IsChosen b q r c) → CountsWithin bound limit c → EndWanted (marked same_place h.ends) k.flights
   pub of_classes : (c : Chosen) (k : IsChosen b q r c) → CountsWithin bound limit c → (x : PathClass) → IsClass x k.after k.flights → marked same_class h.classes x ≡ true

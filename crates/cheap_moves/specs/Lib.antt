@@ -3,3 +3,5 @@ pub mod Tails
 pub mod Making
 pub mod Leads
 pub mod Hopes
+pub mod Sought
+pub mod Prospects

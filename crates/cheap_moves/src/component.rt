@@ -1,15 +1,18 @@
 //! A component as it is made of a path and a group of fares.
+use crate::prospects::Prospect;
 use component_table::Market;
 use fare_groups::FareGroup;
-use fare_law::Role;
+use fare_law::{List, Role};
 use open_unit::Facts;
 use residual_keys::{Next, Way};
 
-/// A path with its flights and legs, and the classes that are open in every leg.
+/// A path with its flights and legs, the classes that are open in every leg, and the groups of fares with which a move
+/// on it may be within the limit.
 #[derive(Drop)]
 pub struct Flown {
     pub way: Way,
     pub classes: u32,
+    pub prospects: List<Prospect>,
 }
 
 /// The components of a group's fares on a path. They differ in the fare alone.

@@ -1,6 +1,7 @@
-//! The ends and the classes of the paths on which a move may be within a limit. Other paths are looked at no further.
+//! What the leads within a limit tell of the paths on which a move may be within it: how they begin, where they end, and
+//! their classes. Other paths are looked at no further.
 ghost use Rattle.std.specs.Prelude.{◌≡◌, ◌≢◌, [], false, List as Items, Option as Maybe, Some, true, slice_get, IfOk, IfSome, IsTrue, OnOk};
-ghost use Rattle.cheap_moves.specs.Hopes.{AreHopes, HasHopes, HopeAdded, IsClass, class_of, marked};
+ghost use Rattle.cheap_moves.specs.Hopes.{AreHopes, HasHopes, HopeAdded, IsClass, begins_with, class_of, marked, start_of};
 ghost use Rattle.cheap_moves.specs.Leads.{AreLeads};
 ghost use Rattle.fare_law.specs.declared.flights.Flight.{Flight as DatedFlight};
 ghost use Rattle.fare_law.specs.Lists.{OnFirst, OnLast};
@@ -12,7 +13,7 @@ use crate::bounds::ResidualBounds;
 use crate::fares::is_within;
 use crate::leads::Lead;
 use fare_book::Book;
-use fare_law::{Carrier, Flight, Mem, Place};
+use fare_law::{Carrier, Flight, List, Mem, Place};
 use flight_paths::{Ends, Path, Position};
 use indexmap::IndexMap;
 use outlines::Outline;
@@ -31,9 +32,18 @@ pub struct PathClass {
     pub carrier: Carrier,
 }
 
-/// The ends and the classes of paths that have an outline with a total within a limit.
+/// How a path begins: the day of its first flight, and its carrier.
+#[derive(Clone, Copy, PartialEq, Eq, Hash, Debug)]
+pub struct PathStart {
+    pub day: i32,
+    pub carrier: Carrier,
+}
+
+/// The leads within a limit, and how the paths begin that have their outlines, where they end, and their classes.
 #[derive(Drop)]
 pub struct Hopes {
+    pub leads: List<Lead>,
+    pub starts: IndexMap<PathStart, bool>,
     pub ends: IndexMap<Place, bool>,
     pub classes: IndexMap<PathClass, bool>,
 }
@@ -46,23 +56,25 @@ impl Ends for Hopes {
     }
 }
 
-/// The ends and the classes that moves within the limit have.
+/// The leads of moves within the limit, and the beginnings, ends and classes that these moves have.
 pub fn hopes_of<B: ResidualBounds>(
     alloc: Global,
     search: &MoveSearch<'_, B>,
     leads: &[Lead],
 ) -> Result<Hopes, Mem>
     requires { AreLeads search.now.book.now search.now.request.now search.now.residual.now (B.bound search.now.bounds.now) leads.now }
-    ensures { IfOk result (AreHopes ⟦<Place as PartialEq>⟧.eq ⟦<PathClass as PartialEq>⟧.eq search.now.book.now search.now.request.now search.now.residual.now (B.bound search.now.bounds.now) search.now.limit) }
+    ensures { IfOk result (AreHopes ⟦<PathStart as PartialEq>⟧.eq ⟦<Place as PartialEq>⟧.eq ⟦<PathClass as PartialEq>⟧.eq search.now.book.now search.now.request.now search.now.residual.now (B.bound search.now.bounds.now) search.now.limit) }
 {
     within(alloc, leads, search.limit)
 }
 
-/// The ends and the classes of the leads that are within the limit.
+/// The leads that are within the limit, with their beginnings, ends and classes.
 fn within(alloc: Global, leads: &[Lead], limit: Option<u128>) -> Result<Hopes, Mem>
-    ensures { IfOk result (HasHopes ⟦<Place as PartialEq>⟧.eq ⟦<PathClass as PartialEq>⟧.eq limit leads.now) }
+    ensures { IfOk result (HasHopes ⟦<PathStart as PartialEq>⟧.eq ⟦<Place as PartialEq>⟧.eq ⟦<PathClass as PartialEq>⟧.eq limit leads.now) }
 {
     let mut hopes = Hopes {
+        leads: List::new(alloc),
+        starts: IndexMap::new(alloc),
         ends: IndexMap::new(alloc),
         classes: IndexMap::new(alloc),
     };
@@ -72,13 +84,15 @@ fn within(alloc: Global, leads: &[Lead], limit: Option<u128>) -> Result<Hopes, M
     Ok(hopes)
 }
 
-/// Adds the end and the class of a lead, where it is within the limit.
+/// Adds a lead, its beginning, its end and its class, where it is within the limit.
 fn add_lead(hopes: &mut Hopes, lead: &Lead, limit: Option<u128>) -> Result<(), Mem>
-    ensures { OnOk result (HopeAdded ⟦<Place as PartialEq>⟧.eq ⟦<PathClass as PartialEq>⟧.eq limit lead.now hopes.old hopes.new) }
+    ensures { OnOk result (HopeAdded ⟦<PathStart as PartialEq>⟧.eq ⟦<Place as PartialEq>⟧.eq ⟦<PathClass as PartialEq>⟧.eq limit lead.now hopes.old hopes.new) }
 {
     if !is_within(limit, lead.total) {
         return Ok(());
     }
+    hopes.leads.push(*lead)?;
+    mark(&mut hopes.starts, start_of(&lead.outline))?;
     mark(&mut hopes.ends, lead.outline.end)?;
     mark(&mut hopes.classes, class_of(&lead.outline))
 }
@@ -92,6 +106,16 @@ fn mark<K: Hash + Eq + Copy + Drop>(marks: &mut IndexMap<K, bool>, key: K) -> Re
     Ok(())
 }
 
+/// How the paths begin that an outline's components may have.
+fn start_of(outline: &Outline) -> PathStart
+    ensures { result ≡ start_of outline.now }
+{
+    PathStart {
+        day: outline.first,
+        carrier: outline.carrier,
+    }
+}
+
 /// The class of the paths that an outline's components may have.
 fn class_of(outline: &Outline) -> PathClass
     ensures { result ≡ class_of outline.now }
@@ -103,6 +127,17 @@ fn class_of(outline: &Outline) -> PathClass
         last: outline.last,
         carrier: outline.carrier,
     }
+}
+
+/// Whether a path on which a move may be within the limit begins with a flight.
+pub fn may_begin(hopes: &Hopes, flight: &Flight) -> bool
+    ensures { result ≡ marked ⟦<PathStart as PartialEq>⟧.eq hopes.now.starts (begins_with flight.now) }
+{
+    let start = PathStart {
+        day: flight.day,
+        carrier: flight.carrier,
+    };
+    hopes.starts.get(&start).copied().unwrap_or(false)
 }
 
 /// Whether it is known that no move on a path is within the limit.

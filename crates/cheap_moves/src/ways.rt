@@ -2,6 +2,7 @@
 ghost use Rattle.std.specs.Prelude.{◌≢◌, [], OnOk};
 ghost use Rattle.cheap_moves.specs.Hopes.{AreHopes};
 ghost use Rattle.cheap_moves.specs.Making.{IsFlown, IsOver, IsWithinFiled, IsWithinOn};
+ghost use Rattle.cheap_moves.specs.Prospects.{HasProspects, IsProspectMove};
 ghost use Rattle.component_table.specs.Markets.{AreMarkets};
 ghost use Rattle.fare_law.specs.declared.flights.Flight.{Flight as DatedFlight};
 ghost use Rattle.std.specs.Prelude.{List as Items};
@@ -12,8 +13,9 @@ ghost use Rattle.residual_keys.specs.Steps.{MarketOver};
 use crate::MoveSearch;
 use crate::bounds::ResidualBounds;
 use crate::component::Flown;
-use crate::groups::add_group;
-use crate::hopes::{Hopes, PathClass, is_hopeless};
+use crate::groups::{add_group, place_of};
+use crate::hopes::{Hopes, PathClass, PathStart, is_hopeless};
+use crate::prospects::{Prospect, prospects_of};
 use component_table::{Market, MarketKey, Markets};
 use fare_groups::classes_of_all;
 use fare_law::{Flight, List, Mem, Place};
@@ -32,7 +34,7 @@ pub fn add_path<B: ResidualBounds>(
     path: &Path,
 ) -> Result<(), Mem>
     requires request { IsRequest search.now.request.now }
-    requires hopes { AreHopes ⟦<Place as PartialEq>⟧.eq ⟦<PathClass as PartialEq>⟧.eq search.now.book.now search.now.request.now search.now.residual.now (B.bound search.now.bounds.now) search.now.limit hopes.now }
+    requires hopes { AreHopes ⟦<PathStart as PartialEq>⟧.eq ⟦<Place as PartialEq>⟧.eq ⟦<PathClass as PartialEq>⟧.eq search.now.book.now search.now.request.now search.now.residual.now (B.bound search.now.bounds.now) search.now.limit hopes.now }
     requires markets { AreMarkets search.now.book.now markets.old.kept.items }
     requires path { (fs : Items DatedFlight) × IsPathOf search.now.book.now search.now.request.now search.now.residual.now path.now fs }
     ensures markets { AreMarkets search.now.book.now markets.new.kept.items }
@@ -43,7 +45,12 @@ pub fn add_path<B: ResidualBounds>(
     }
     let way = Way::of(search.book, search.request, path);
     let classes = classes_of_all(way.legs.as_slice());
-    let flown = Flown { way, classes };
+    let prospects = prospects_of(alloc, hopes.leads.as_slice(), way.flights.as_slice())?;
+    let flown = Flown {
+        way,
+        classes,
+        prospects,
+    };
     add_way(alloc, found, search, markets, &flown, false)?;
     if OpenUnits::of(search.residual).is_empty() {
         return Ok(());
@@ -64,6 +71,7 @@ fn add_way<B: ResidualBounds>(
     requires request { IsRequest search.now.request.now }
     requires markets { AreMarkets search.now.book.now markets.old.kept.items }
     requires flown { IsFlown search.now.book.now search.now.request.now search.now.residual.now flown.now }
+    requires prospects { HasProspects search.now.book.now search.now.request.now search.now.residual.now (B.bound search.now.bounds.now) search.now.limit flown.now.way.path flown.now.prospects }
     ensures markets { AreMarkets search.now.book.now markets.new.kept.items }
     ensures moves { OnOk result (Adds (IsWithinFiled search.now.book.now search.now.request.now search.now.residual.now (B.bound search.now.bounds.now) search.now.limit flown.now.way.path.flights reverse) found.old found.new) }
 {
@@ -105,11 +113,36 @@ fn add_market<B: ResidualBounds>(
 ) -> Result<(), Mem>
     requires request { IsRequest search.now.request.now }
     requires over { IsOver search.now.book.now search.now.request.now search.now.residual.now flown.now reverse market.now }
+    requires prospects { HasProspects search.now.book.now search.now.request.now search.now.residual.now (B.bound search.now.bounds.now) search.now.limit flown.now.way.path flown.now.prospects }
     ensures { OnOk result (Adds (IsWithinFiled search.now.book.now search.now.request.now search.now.residual.now (B.bound search.now.bounds.now) search.now.limit flown.now.way.path.flights reverse) found.old found.new) }
 {
     order_laws();
-    for group in market.groups.as_slice() {
-        add_group(found, search, flown, reverse, market, group)?;
+    for prospect in flown.prospects.as_slice() {
+        add_prospect(found, search, flown, reverse, market, prospect)?;
     }
     Ok(())
+}
+
+/// Adds the moves on a path that are within the limit, with the fares of a group of a market, if there is such a group and
+/// they are filed this way.
+fn add_prospect<B: ResidualBounds>(
+    found: &mut List<Chosen>,
+    search: &MoveSearch<'_, B>,
+    flown: &Flown,
+    reverse: bool,
+    market: &Market,
+    prospect: &Prospect,
+) -> Result<(), Mem>
+    requires request { IsRequest search.now.request.now }
+    requires over { IsOver search.now.book.now search.now.request.now search.now.residual.now flown.now reverse market.now }
+    ensures { OnOk result (Adds (IsProspectMove search.now.request.now search.now.residual.now (B.bound search.now.bounds.now) search.now.limit flown.now reverse market.now prospect.now) found.old found.new) }
+{
+    if prospect.reverse != reverse {
+        return Ok(());
+    }
+    let groups = market.groups.as_slice();
+    match place_of(groups, prospect.key) {
+        Some(at) => add_group(found, search, flown, reverse, market, &groups[at]),
+        None => Ok(()),
+    }
 }
