@@ -1,5 +1,5 @@
 //! The moves of a residual within a limit, in the order of their codes.
-ghost use Rattle.std.specs.Prelude.{[], ◌+◌, map, IfOk};
+ghost use Rattle.std.specs.Prelude.{[], ◌+◌, map, IfOk, OnOk};
 ghost use Rattle.std.specs.List.Sorted.{IsPermutation};
 ghost use Rattle.cheap_moves.specs.Tails.{AreTailsOver};
 ghost use Rattle.cheap_moves.specs.Leads.{AreLeads};
@@ -44,7 +44,7 @@ pub fn moves_within<B: ResidualBounds>(
     let found = gathered(alloc, search, leads, tails, markets)?;
     book_limits(search.book);
     let mut found = found.into_vec();
-    put_in_order(found.as_mut_slice());
+    put_in_order(alloc, found.as_mut_slice())?;
     Ok(List::from_vec(found))
 }
 
@@ -78,14 +78,15 @@ fn gathered<B: ResidualBounds>(
     Ok(found)
 }
 
-/// Puts moves that differ into the order of their codes.
-fn put_in_order(found: &mut [Chosen])
+/// Puts moves that differ into the order of their codes, which are made once.
+fn put_in_order(alloc: Global, found: &mut [Chosen]) -> Result<(), Mem>
     requires once { AllDifferent (map (λ c. c.mv) found.old) }
     requires coded { Each (λ c. Coded c.mv) found.old }
-    ensures order { EachPair (λ c d. Less (move_code c.mv) (move_code d.mv)) found.new }
+    ensures order { OnOk result (EachPair (λ c d. Less (move_code c.mv) (move_code d.mv)) found.new) }
     ensures same { IsPermutation found.old found.new }
 {
     codes_tell();
     order_laws();
-    found.sort_unstable_by_key(|chosen| move_code(&chosen.mv));
+    found.sort_by_cached_key(alloc, |chosen| move_code(&chosen.mv))?;
+    Ok(())
 }

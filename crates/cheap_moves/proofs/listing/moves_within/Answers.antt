@@ -18,11 +18,11 @@ returns-clause-moves g c =
     let new = c.put_in_order.new.found in
     let old_is : old ≡ added.more = c.as_mut_slice.ensures.value ∙ c.into_vec-found.ensures ∙ added.joined in
     let items = c.into_vec-found.result.items in
-    let long : length new ≡ length items = same_length old new c.put_in_order.ensures.same ∙ ap length c.as_mut_slice.ensures.value in
+    let long : length new ≡ length items = same_length old new c.in_ok-put_in_order.ensures.same ∙ ap length c.as_mut_slice.ensures.value in
     let result_is : c.from_vec.result ≡ new = c.from_vec.ensures ∙ written c.into_vec-found.result.len items new (omega (arith, c.into_vec-found.result.ok.0)) long in
     record {
-      ascending = subst (EachPair (λ x y. Less (move_code x.mv) (move_code y.mv))) (sym result_is) c.put_in_order.ensures.order;
-      are = λ x. let p = same_elements x old new c.put_in_order.ensures.same in (
+      ascending = subst (EachPair (λ x y. Less (move_code x.mv) (move_code y.mv))) (sym result_is) c.in_ok-put_in_order.ensures.order;
+      are = λ x. let p = same_elements x old new c.in_ok-put_in_order.ensures.same in (
         λ i. (added.are x).0 (subst (IsIn x) old_is (p.1 (subst (IsIn x) result_is i))),
         λ h. subst (IsIn x) (sym result_is) (p.0 (subst (IsIn x) (sym old_is) ((added.are x).1 h))),
       );
