@@ -72,6 +72,7 @@ impl<K: Eq + Copy, N: Spread<K>> Rows<K, N> {
     pub fn entries(&self) -> &[(K, Option<u64>)]
         ensures entries { result.now ≡ self.now.entries }
         ensures differ { IsDistinct K.eq (keys_of self.now.entries) }
+        ensures few { length self.now.entries < 2 ^ 32 }
     {
         self.entries.as_slice()
     }

@@ -1,6 +1,9 @@
 pub mod KeyFacts
 pub mod KeyFound
 pub mod Numbers
+pub mod PartOrder
+pub mod Parting
 pub mod PartsInOrder
 pub mod Placing
 pub mod RankOrder
+pub mod SortedRows

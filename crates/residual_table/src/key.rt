@@ -45,8 +45,9 @@ fn number_of(part: &TicketPart) -> u32
 /// What a key is sorted by: ranks in place of numbers, so that keys compare as their residuals do.
 #[derive(Clone, Copy, PartialEq, Eq, PartialOrd, Ord, Debug)]
 pub struct SortKey {
-    /// The ranks of its position, of the unit that was opened first and of the other one, as the digits of one number,
-    /// so that a comparison is one of numbers.
-    pub ranks: u128,
-    pub part: TicketPart,
+    /// The rank of its position.
+    pub position: u32,
+    /// The ranks of the unit that was opened first and of the other one, and the number of its ticket part, as the
+    /// digits of one number, so that a comparison is one of numbers.
+    pub rest: u128,
 }

@@ -9,12 +9,15 @@ mod key;
 mod laws;
 mod likely;
 mod numbering;
+mod part_number;
 mod parts;
 mod ranking;
 mod reading;
+mod sorting;
 
 pub use finding::keys_found;
 pub use key::{ResidualKey, SortKey};
 pub use parts::ResidualParts;
 pub use ranking::{Ranks, ranks_order};
 pub use reading::keys_stay;
+pub use sorting::sorted_rows;

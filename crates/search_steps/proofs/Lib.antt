@@ -17,5 +17,4 @@ pub mod OfferedFacts
 pub mod ServedPaths
 pub mod TakenKeys
 pub mod SortedKeys
-pub mod RankedRows
 pub mod KeyedBounds

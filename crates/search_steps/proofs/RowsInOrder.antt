@@ -41,6 +41,11 @@ module _ {K X : Type 0} (live : K → Type 0) (state : K → X) (Below : X → X
 pub still_each : {X : Type 0} (P : X → Type 0) (old new : List X) → IsPermutation old new → Each P old → Each P new
 still_each P old new p h = each_from P new (λ r i. each_member P r old h ((same_elements r old new p).1 i))
 
+-- of each element both hold
+pub each_both : {X : Type 0} (P Q : X → Type 0) (xs : List X) → Each P xs → Each Q xs → Each (λ x. P x × Q x) xs
+each_both P Q [] h k = tt
+each_both P Q (x ∷ xs) h k = ((h.0, k.0), each_both P Q xs h.1 k.1)
+
 -- rows as those of states
 module _ {K X : Type 0} (f : K → X) where
   in_states : (x : X) (es : List (K × Option ℕ)) → IsIn x (states (rows_of f es)) → (e : K × Option ℕ) × IsIn e es × (x ≡ f e.0)

@@ -9,5 +9,4 @@ pub mod Shortening
 pub mod Numbers
 pub mod Placed
 pub mod Settling
-pub mod RowOrder
 pub mod Spreading

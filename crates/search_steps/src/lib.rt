@@ -36,7 +36,6 @@ pub use laws::{least_prices_are_least, reached_states_are_reached, residuals_tel
 pub use least::LeastMove;
 pub use numbered::{PositionSteps, Step, StepLists, UnitSlot, UnitSteps};
 pub use numbered_case::NumberedCase;
-pub use row_order::RankedRow;
 pub use settling::has_keys_of;
 pub use spreading::{ByUnits, ResidualRows};
 pub use steps::SearchSteps;
