@@ -1,5 +1,5 @@
 -- Keys that are sorted by their ranks.
-use Rattle.std.proofs.Common.{◌≡◌, ◌↔◌, List, Option, map, ℕ, IsPermutation, subst, sym}
+use Rattle.std.proofs.Common.{◌≡◌, ◌↔◌, List, Option, ℕ, IsPermutation, subst, sym}
 use Rattle.std.specs.declared.cmp.Ordering.{Ordering}
 use Rattle.std.specs.declared.cmp.Ordering.TheVariants.{Less as Lower}
 use Rattle.std.specs.List.{IsDistinct}

@@ -2,10 +2,9 @@ use Rattle.std.proofs.Common.{◌≡◌, ◌⊎◌, ◌∙◌, ◌+◌, ◌++◌
 use Rattle.std.proofs.Math.Seq.{take-suc}
 use Rattle.std.proofs.lemmas.List.{take_all}
 use Rattle.fare_law.specs.Lists.{IsIn}
-use Rattle.indexmap.specs.IndexMap.{insert_entry}
 use Rattle.graph_walk.specs.Walks.{states, Costs, LeastBy, Reached}
 use Rattle.graph_walk.specs.Walks.Reached.{here}
-use Rattle.graph_walk.specs.Steps.{AreLive, Good, KeepsStates, TellsStates, lesser, outcome_of, outcomes_of, rows_of}
+use Rattle.graph_walk.specs.Steps.{AreLive, KeepsStates, TellsStates, lesser, outcome_of, outcomes_of, rows_of}
 use Rattle.graph_walk.proofs.RowFacts.{as_many_rows, found, keeps_on, keeps_self, live_rows, live_set, missing, one_more_row, outcomes_snoc, row_in, rows_length, same_rows, sets, Sets}
 use Rattle.graph_walk.proofs.Chains.{added_last}
 use Rattle.graph_walk.proofs.Going.{Going, begins, above, least_of_run, good_here, walked_here}

@@ -1,4 +1,4 @@
-use Rattle.std.proofs.Common.{IsPermutation, arith, length, subst, sym, ◌^◌, ◌≡◌, ◌≤◌}
+use Rattle.std.proofs.Common.{IsPermutation, subst, sym}
 use Rattle.fare_law.specs.Lists.{Each, EachPair}
 use Rattle.residual_keys.specs.ResidualOrder.{StateBefore}
 use Rattle.residual_table.specs.contracts.key.ResidualKeyPartialEq.TheImpl as key
