@@ -20,6 +20,7 @@ use Rattle.fare_law.specs.Limits.{IsFlight}
 use Rattle.fare_law.specs.Lists.{Each, IsIn, OnFirst, OnLast}
 use Rattle.fare_law.specs.RuleLimits.{IsRule}
 use Rattle.fare_law.specs.Sheets.{IsLiveRow}
+use Rattle.flight_paths.specs.declared.positions.Path.{Path}
 use Rattle.flight_paths.specs.declared.positions.Position.{Position}
 use Rattle.flight_paths.specs.Positions.{Flies, IsPath}
 use Rattle.outlines.specs.declared.outline.Entry.{Entry}
@@ -73,18 +74,7 @@ module _ (after : Option Position) (fs : List Flight) (classes : ℕ) (reverse :
 pub free_below : (mine charges price : ℕ) → price ≡ mine + charges → charges ≡ 0 → price ≤ mine
 free_below mine charges price e free = omega (arith, e, free)
 
-module _ (b : Book) (q : Request) (at : Position) (flown : Flown) (reverse : Bool) (m : Market) (g : FareGroup) (is : IsOver b q flown m) (i : IsIn g m.groups) where
-  over : IsPathOver b q at flown reverse m → OverMarket b q at flown.path.now flown.flights.now is.flown_is.legs.legs flown.classes reverse m.sheet.value m.groups
-  over p = record {
-    path_is = p.path;
-    legs_are = is.flown_is.legs.legs_are;
-    classes_are = is.flown_is.legs.classes_are;
-    market = p.market;
-    sheet_is = is.market_is.sheet;
-    groups_are = is.market_is.groups;
-    limited = is.limited;
-  }
-
+module _ (b : Book) (q : Request) (flown : Flown) (m : Market) (g : FareGroup) (is : IsOver b q flown m) (i : IsIn g m.groups) where
   live_of : (row : SheetRow) → IsIn row m.sheet.value.rows → IsLiveRow b m.sheet.value.from m.sheet.value.to row
   live_of row j = (is.market_is.sheet.live row).0 j
 
@@ -111,50 +101,62 @@ module _ (b : Book) (q : Request) (at : Position) (flown : Flown) (reverse : Boo
       let amount = (is.limited.fares x.row.fare.key x.row.fare (live_of x.row (got_in m.sheet.value.rows c.fare.place x.row x.stands)).fare).1.amount in
       subst (λ n. n ≤ 1000000000) (sym (sym c.costs ∙ ap (λ (f : GroupedFare). f.share) x.fare)) (low_share x.row.fare.kind x.row.fare.amount amount)
 
-  pub none_cheap : (old : List Entry) → Cheapest flown.classes g.fares None → GroupDone b q at flown reverse g old old
+module _ (b : Book) (q : Request) (at : Position) (path : Path) (flown : Flown) (reverse : Bool) (m : Market) (g : FareGroup) (is : IsOver b q flown m) (i : IsIn g m.groups) where
+  over : IsPathOver b q at path flown reverse m → OverMarket b q at path flown.flights.now is.flown_is.legs.legs flown.classes reverse m.sheet.value m.groups
+  over p = record {
+    path_is = p.is_of.path_is;
+    legs_are = is.flown_is.legs.legs_are;
+    classes_are = is.flown_is.legs.classes_are;
+    market = p.market;
+    sheet_is = is.market_is.sheet;
+    groups_are = is.market_is.groups;
+    limited = is.limited;
+  }
+
+  pub none_cheap : (old : List Entry) → Cheapest flown.classes g.fares None → GroupDone b q at path flown reverse g old old
   none_cheap old none = record {
     goes = goes_self b q at old;
     has = λ rule live permits least c. absurd (each_in (λ (f : GroupedFare). IsBitSet flown.classes f.class → ⊥) g.fares c.fare none c.within c.open_class);
   }
 
-  pub none_extra : (old : List Entry) (row : SheetRow) → IsRowOf m.sheet.value.rows g row → (Permits row.rule g.key.carrier flown.flights.now → ⊥) → GroupDone b q at flown reverse g old old
+  pub none_extra : (old : List Entry) (row : SheetRow) → IsRowOf m.sheet.value.rows g row → (Permits row.rule g.key.carrier flown.flights.now → ⊥) → GroupDone b q at path flown reverse g old old
   none_extra old row r none = record {
     goes = goes_self b q at old;
-    has = λ rule live permits least c. absurd (none (subst (λ x. Permits x g.key.carrier flown.flights.now) (some_one (live_rule b g.key.carrier g.key.number) rule row.rule live (rule_live row r)) permits));
+    has = λ rule live permits least c. absurd (none (subst (λ x. Permits x g.key.carrier flown.flights.now) (some_one (live_rule b g.key.carrier g.key.number) rule row.rule live (rule_live b q flown m g is i row r)) permits));
   }
 
   cheap_le : (mine least : ℕ) → Cheapest flown.classes g.fares (Some mine) → Cheapest flown.classes g.fares (Some least) → mine ≤ least
   cheap_le mine least cheap c = subst (λ n. mine ≤ n) c.costs (each_in (λ (f : GroupedFare). IsBitSet flown.classes f.class → mine ≤ f.share) g.fares c.fare cheap.below c.within c.open_class)
 
   -- where the outline stands at no more than the least share, nothing is to be put in
-  pub group_below : (table : List Entry) (mine : ℕ) (o : Outline) → Cheapest flown.classes g.fares (Some mine) → OutlineOver o flown.path.now.after flown.flights.now g.key reverse → HasBelow table o mine → GroupDone b q at flown reverse g table table
+  pub group_below : (table : List Entry) (mine : ℕ) (o : Outline) → Cheapest flown.classes g.fares (Some mine) → OutlineOver o path.after flown.flights.now g.key reverse → HasBelow table o mine → GroupDone b q at path flown reverse g table table
   group_below table mine o cheap oo low = record {
     goes = goes_self b q at table;
-    has = λ rule live permits least c. (low.entry, low.within, subst (λ (z : Outline). OutlineOver z flown.path.now.after flown.flights.now g.key reverse) (sym low.outline) oo, sums least (extra_of rule flown.flights.now) (cheap_le mine least cheap c));
+    has = λ rule live permits least c. (low.entry, low.within, subst (λ (z : Outline). OutlineOver z path.after flown.flights.now g.key reverse) (sym low.outline) oo, sums least (extra_of rule flown.flights.now) (cheap_le mine least cheap c));
   }
     where
       sums : (least extra : ℕ) → mine ≤ least → low.entry.price ≤ least + extra
       sums least extra h = let k = low.below in omega (arith, h, k)
 
-  group_has : (table : List Entry) (row : SheetRow) (mine charges : ℕ) (o : Outline) → IsRowOf m.sheet.value.rows g row → Cheapest flown.classes g.fares (Some mine) → charges ≡ extra_of row.rule flown.flights.now → OutlineOver o flown.path.now.after flown.flights.now g.key reverse → HasBelow table o (mine + charges)
-      → HasGroup b flown.path.now flown.flights.now flown.classes reverse g table
+  group_has : (table : List Entry) (row : SheetRow) (mine charges : ℕ) (o : Outline) → IsRowOf m.sheet.value.rows g row → Cheapest flown.classes g.fares (Some mine) → charges ≡ extra_of row.rule flown.flights.now → OutlineOver o path.after flown.flights.now g.key reverse → HasBelow table o (mine + charges)
+      → HasGroup b path flown.flights.now flown.classes reverse g table
   group_has table row mine charges o r cheap extra oo has rule live permits least c =
-      let same = some_one (live_rule b g.key.carrier g.key.number) row.rule rule (rule_live row r) live in
-      (has.entry, has.within, subst (λ (z : Outline). OutlineOver z flown.path.now.after flown.flights.now g.key reverse) (sym has.outline) oo, sums has.entry.price least charges (extra_of rule flown.flights.now) has.below (cheap_le mine least cheap c) (extra ∙ ap (λ z. extra_of z flown.flights.now) same))
+      let same = some_one (live_rule b g.key.carrier g.key.number) row.rule rule (rule_live b q flown m g is i row r) live in
+      (has.entry, has.within, subst (λ (z : Outline). OutlineOver z path.after flown.flights.now g.key reverse) (sym has.outline) oo, sums has.entry.price least charges (extra_of rule flown.flights.now) has.below (cheap_le mine least cheap c) (extra ∙ ap (λ z. extra_of z flown.flights.now) same))
     where
       sums : (p least y z : ℕ) → p ≤ mine + y → mine ≤ least → y ≡ z → p ≤ least + z
       sums p least y z h k e = omega (arith, h, k, e)
 
   -- nor where it stands at no more than the price
-  pub group_dear : (table : List Entry) (row : SheetRow) (mine charges price : ℕ) (o : Outline) → IsRowOf m.sheet.value.rows g row → Cheapest flown.classes g.fares (Some mine) → charges ≡ extra_of row.rule flown.flights.now → OutlineOver o flown.path.now.after flown.flights.now g.key reverse → price ≡ mine + charges → HasBelow table o price
-      → GroupDone b q at flown reverse g table table
+  pub group_dear : (table : List Entry) (row : SheetRow) (mine charges price : ℕ) (o : Outline) → IsRowOf m.sheet.value.rows g row → Cheapest flown.classes g.fares (Some mine) → charges ≡ extra_of row.rule flown.flights.now → OutlineOver o path.after flown.flights.now g.key reverse → price ≡ mine + charges → HasBelow table o price
+      → GroupDone b q at path flown reverse g table table
   group_dear table row mine charges price o r cheap extra oo is has = record {
     goes = goes_self b q at table;
     has = group_has table row mine charges o r cheap extra oo (subst (HasBelow table o) is has);
   }
 
-  pub group_had : IsPathOver b q at flown reverse m → (old new : List Entry) (row : SheetRow) (least charges : ℕ) (o : Outline) → IsRowOf m.sheet.value.rows g row → Cheapest flown.classes g.fares (Some least) → Permits row.rule g.key.carrier flown.flights.now → charges ≡ extra_of row.rule flown.flights.now
-      → OutlineOver o flown.path.now.after flown.flights.now g.key reverse → Lowered (record { outline = o; rule = row.rule; price = least + charges }) old new → GroupDone b q at flown reverse g old new
+  pub group_had : IsPathOver b q at path flown reverse m → (old new : List Entry) (row : SheetRow) (least charges : ℕ) (o : Outline) → IsRowOf m.sheet.value.rows g row → Cheapest flown.classes g.fares (Some least) → Permits row.rule g.key.carrier flown.flights.now → charges ≡ extra_of row.rule flown.flights.now
+      → OutlineOver o path.after flown.flights.now g.key reverse → Lowered (record { outline = o; rule = row.rule; price = least + charges }) old new → GroupDone b q at path flown reverse g old new
   group_had p old new row mine charges o r cheap permits extra oo l = record {
     goes = goes_lowered b q at x old new entry l;
     has = group_has new row mine charges o r cheap extra oo l.has;
@@ -165,7 +167,7 @@ module _ (b : Book) (q : Request) (at : Position) (flown : Flown) (reverse : Boo
 
       entry : IsEntry b q at x
       entry = record {
-        outlined = subst (λ n. Outlined b q at o (mine + n)) (sym extra) (groups_give b q at flown.path.now flown.flights.now is.flown_is.legs.legs flown.classes reverse m.sheet.value m.groups (over p) g i row.rule (rule_live row r) permits mine cheap o oo);
-        rule = ap (λ c. live_rule b c o.number) oo.carrier ∙ ap (live_rule b g.key.carrier) oo.number ∙ rule_live row r;
-        within = record { first = first_day o.first flown.flights.now is.flown_is.limits oo.first; last = last_day o flown.flights.now is.flown_is.limits oo.ends; rule = rule_within row r };
+        outlined = subst (λ n. Outlined b q at o (mine + n)) (sym extra) (groups_give b q at path flown.flights.now is.flown_is.legs.legs flown.classes reverse m.sheet.value m.groups (over p) g i row.rule (rule_live b q flown m g is i row r) permits mine cheap o oo);
+        rule = ap (λ c. live_rule b c o.number) oo.carrier ∙ ap (live_rule b g.key.carrier) oo.number ∙ rule_live b q flown m g is i row r;
+        within = record { first = first_day o.first flown.flights.now is.flown_is.limits oo.first; last = last_day o flown.flights.now is.flown_is.limits oo.ends; rule = rule_within b q flown m g is i row r };
       }

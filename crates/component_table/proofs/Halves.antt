@@ -7,7 +7,7 @@ use Rattle.component_table.specs.declared.rows.HeadKind.{HeadKind}
 use Rattle.component_table.specs.Classes.{IsOfClass}
 use Rattle.component_table.specs.Kinds.{IsKindOf, joined_class}
 use Rattle.component_table.specs.Rows.{IsHeadOf}
-use Rattle.component_table.specs.Tables.{HasLegs}
+use Rattle.component_table.specs.Tables.{AddsFlights, HasLegs}
 use Rattle.fare_groups.proofs.Bits.{both_set}
 use Rattle.fare_law.specs.declared.flights.Flight.{Flight}
 use Rattle.fare_law.specs.declared.requests.Request.{Request}
@@ -21,19 +21,29 @@ use Rattle.flight_paths.specs.declared.positions.Position.{Position}
 use Rattle.residual_keys.specs.AskedKeys.{IsLeg}
 
 -- the flights of the one's numbers and of the other's
-record Halves (b : Book) (ns ms : List ℕ) (fs : List Flight) : Type 0 where
-  front : List Flight
-  back : List Flight
-  parts : fs ≡ front ++ back
-  fronts : Numbers b ns front
-  backs : Numbers b ms back
+pub record Halves (b : Book) (ns ms : List ℕ) (fs : List Flight) : Type 0 where
+  pub front : List Flight
+  pub back : List Flight
+  pub parts : fs ≡ front ++ back
+  pub fronts : Numbers b ns front
+  pub backs : Numbers b ms back
 
-halves : (b : Book) (ns ms : List ℕ) (fs : List Flight) → Numbers b (ns ++ ms) fs → Halves b ns ms fs
+pub halves : (b : Book) (ns ms : List ℕ) (fs : List Flight) → Numbers b (ns ++ ms) fs → Halves b ns ms fs
 halves b [] ms fs h = record { front = []; back = fs; parts = refl; fronts = tt; backs = h }
 halves b (n ∷ ns) ms [] h = absurd h
 halves b (n ∷ ns) ms (f ∷ fs) h =
     let r = halves b ns ms fs h.1 in
     record { front = f ∷ r.front; back = r.back; parts = ap (λ gs. f ∷ gs) r.parts; fronts = (h.0, r.fronts); backs = r.backs }
+
+pub numbers_both : (b : Book) (ns ms : List ℕ) (fs gs : List Flight) → Numbers b ns fs → Numbers b ms gs → Numbers b (ns ++ ms) (fs ++ gs)
+numbers_both b [] ms [] gs h k = k
+numbers_both b [] ms (f ∷ fs) gs h k = absurd h
+numbers_both b (n ∷ ns) ms [] gs h k = absurd h
+numbers_both b (n ∷ ns) ms (f ∷ fs) gs h k = (h.0, numbers_both b ns ms fs gs h.1 k)
+
+-- the flights of some numbers and then of more, added to none
+pub gathered : (b : Book) (ns ms : List ℕ) (none one two : List Flight) → none ≡ [] → AddsFlights b ns none one → AddsFlights b ms one two → Numbers b (ns ++ ms) two
+gathered b ns ms none one two e h k = subst (Numbers b (ns ++ ms)) (sym (k.joined ∙ ap (λ l. l ++ k.more) (h.joined ∙ ap (λ l. l ++ h.more) e))) (numbers_both b ns ms h.more k.more h.are k.are)
 
 first_left : (P : Flight → Type 0) (fs gs : List Flight) → OnFirst P fs → OnFirst P (fs ++ gs)
 first_left P [] gs h = absurd h

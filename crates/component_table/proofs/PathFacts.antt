@@ -72,8 +72,8 @@ module _ (b : Book) (q : Request) (at : Position) (ns : List ℕ) (fs : List Fli
       go (n ∷ ms) (f ∷ gs) h e some true = on_last_to (λ z. z.to ≡ place) (λ z. (place ≡ z.to) × (at.place ≡ f.from)) (f ∷ gs) (λ z k. (sym k, sym h.2.departs)) e
       go (n ∷ ms) (f ∷ gs) h e some false = on_last_to (λ z. z.to ≡ place) (λ z. (at.place ≡ f.from) × (place ≡ z.to)) (f ∷ gs) (λ z k. (sym h.2.departs, sym k)) e
 
-module _ (b : Book) (q : Request) (at : Position) (flown : Flown) (reverse : Bool) where
-  pub none_done : (from to : Place) (old : List Entry) → MarketOver reverse flown.flights.now from to → NoFare b from to → WayDone b q at flown.path.now flown.flights.now reverse old old
+module _ (b : Book) (q : Request) (at : Position) (path : Path) (flown : Flown) (reverse : Bool) where
+  pub none_done : (from to : Place) (old : List Entry) → MarketOver reverse flown.flights.now from to → NoFare b from to → WayDone b q at path flown.flights.now reverse old old
   none_done from to old over none = record { goes = goes_self b q at old; done = record { from = from; to = to; market = over; done = inl none } }
 
   pub market_over : (key : MarketKey) (ms : List Market) (n : ℕ) (m : Market) → StandsAt ms key n → slice_get ms n ≡ Some m → MarketOver reverse flown.flights.now key.from key.to → MarketOver reverse flown.flights.now m.sheet.value.from m.sheet.value.to
@@ -84,7 +84,7 @@ module _ (b : Book) (q : Request) (at : Position) (flown : Flown) (reverse : Boo
       some_is : {X : Type 0} (x y : X) → Some x ≡ Some y → x ≡ y
       some_is x y e = cc
 
-  pub way_done : (m : Market) (old new : List Entry) (is : IsOver b q flown m) → IsPathOver b q at flown reverse m → MarketDone b q at flown reverse m old new → WayDone b q at flown.path.now flown.flights.now reverse old new
+  pub way_done : (m : Market) (old new : List Entry) (is : IsOver b q flown m) → IsPathOver b q at path flown reverse m → MarketDone b q at path flown reverse m old new → WayDone b q at path flown.flights.now reverse old new
   way_done m old new is p d = record {
     goes = d.goes;
     done = record {
@@ -97,7 +97,7 @@ module _ (b : Book) (q : Request) (at : Position) (flown : Flown) (reverse : Boo
         m.sheet.value,
         m.groups,
         record {
-          path_is = p.path;
+          path_is = p.is_of.path_is;
           legs_are = is.flown_is.legs.legs_are;
           classes_are = is.flown_is.legs.classes_are;
           market = p.market;
@@ -110,25 +110,17 @@ module _ (b : Book) (q : Request) (at : Position) (flown : Flown) (reverse : Boo
     };
   }
 
-  -- group by group
-  pub groups_none : (gs : List FareGroup) (old : List Entry) → GoesOn b q at old old × ((g : FareGroup) → IsIn g [] → HasGroup b flown.path.now flown.flights.now flown.classes reverse g old)
-  groups_none gs old = (goes_self b q at old, λ g i. absurd i)
-
-  pub groups_more : (gs : List FareGroup) (i : ℕ) (d g : FareGroup) (old mid new : List Entry) → i < length gs → g ≡ get_or gs i d → GoesOn b q at old mid → ((x : FareGroup) → IsIn x (take i gs) → HasGroup b flown.path.now flown.flights.now flown.classes reverse x mid) → GroupDone b q at flown reverse g mid new
-      → (x : FareGroup) → IsIn x (take (i + 1) gs) → HasGroup b flown.path.now flown.flights.now flown.classes reverse x new
-  groups_more gs i d g old mid new lt e goes has done = seen_more (λ x. HasGroup b flown.path.now flown.flights.now flown.classes reverse x new) gs i d g lt e (λ x j. has_group_on b flown.path.now flown.flights.now flown.classes reverse x mid new done.goes.covers (has x j)) done.has
-
 module _ (b : Book) (q : Request) (at : Position) where
   -- both ways
-  pub path_added : (flown : Flown) (old mid new : List Entry) → IsOfPath b q at flown → WayDone b q at flown.path.now flown.flights.now false old mid → WayDone b q at flown.path.now flown.flights.now true mid new → PathAdded b q at flown.path.now old new
-  path_added flown old mid new path there back = record {
+  pub path_added : (path : Path) (flown : Flown) (old mid new : List Entry) → IsOfPath b q at path flown → WayDone b q at path flown.flights.now false old mid → WayDone b q at path flown.flights.now true mid new → PathAdded b q at path old new
+  path_added path flown old mid new is_of there back = record {
     goes = goes_on b q at old mid new there.goes back.goes;
-    done = λ fs is reverse. subst (λ gs. PathDone b q at flown.path.now gs reverse new) (numbers_one b flown.path.now.flights flown.flights.now fs (path_numbers b q at flown.path.now.flights flown.flights.now flown.path.now.after path) (path_numbers b q at flown.path.now.flights fs flown.path.now.after is)) (both reverse);
+    done = λ fs is reverse. subst (λ gs. PathDone b q at path gs reverse new) (numbers_one b path.flights flown.flights.now fs (path_numbers b q at path.flights flown.flights.now path.after is_of.path_is) (path_numbers b q at path.flights fs path.after is)) (both reverse);
   }
     where
-      both : (reverse : Bool) → PathDone b q at flown.path.now flown.flights.now reverse new
+      both : (reverse : Bool) → PathDone b q at path flown.flights.now reverse new
       both true = back.done
-      both false = path_done_on b q at flown.path.now flown.flights.now false mid new back.goes.covers there.done
+      both false = path_done_on b q at path flown.flights.now false mid new back.goes.covers there.done
 
   -- a path to a place that no fare is filed to or from is done of itself
   apart_done : (path : Path) (fs : List Flight) (place : Place) (table : List Entry) → HasNoFares b at.place place → IsPath b q.slices at path.flights fs path.after → OnLast (λ f. f.to ≡ place) fs → (reverse : Bool) → PathDone b q at path fs reverse table
@@ -190,17 +182,6 @@ module _ (b : Book) (q : Request) (at : Position) (book : Book) (request : Reque
       subst (λ x. ((place : Place) → wanted place ≡ false → HasNoFares x position.place place) → Saw (PutsIn (record { book = b; request = q; at = at; entries = [] })) (PutsIn (record { book = b; request = q; at = at; entries = new })) (AreReached x request.slices position wanted) → IsTable x request position new) (sym book_is)
       (subst (λ (y : Request). ((place : Place) → wanted place ≡ false → HasNoFares b position.place place) → Saw (PutsIn (record { book = b; request = q; at = at; entries = [] })) (PutsIn (record { book = b; request = q; at = at; entries = new })) (AreReached b y.slices position wanted) → IsTable b y position new) (sym request_is)
       (subst (λ (z : Position). ((place : Place) → wanted place ≡ false → HasNoFares b z.place place) → Saw (PutsIn (record { book = b; request = q; at = at; entries = [] })) (PutsIn (record { book = b; request = q; at = at; entries = new })) (AreReached b q.slices z wanted) → IsTable b q z new) (sym at_is) (table_put b q at new wanted)))
-
--- these groups of a market were put in
-pub record GroupsIn (b : Book) (q : Request) (at : Position) (flown : Flown) (reverse : Bool) (gs : List FareGroup) (old new : List Entry) : Type 0 where
-  pub goes : GoesOn b q at old new
-  pub has : (g : FareGroup) → IsIn g gs → HasGroup b flown.path.now flown.flights.now flown.classes reverse g new
-
-pub groups_in_none : (b : Book) (q : Request) (at : Position) (flown : Flown) (reverse : Bool) (old : List Entry) → GroupsIn b q at flown reverse [] old old
-groups_in_none b q at flown reverse old = record { goes = goes_self b q at old; has = λ g i. absurd i }
-
-pub groups_in_more : (b : Book) (q : Request) (at : Position) (flown : Flown) (reverse : Bool) (gs : List FareGroup) (i : ℕ) (d g : FareGroup) (old mid new : List Entry) → i < length gs → g ≡ get_or gs i d → GroupsIn b q at flown reverse (take i gs) old mid → GroupDone b q at flown reverse g mid new → GroupsIn b q at flown reverse (take (i + 1) gs) old new
-groups_in_more b q at flown reverse gs i d g old mid new lt e h done = record { goes = goes_on b q at old mid new h.goes done.goes; has = groups_more b q at flown reverse gs i d g old mid new lt e h.goes h.has done }
 
 pub own_sheet : (b : Book) (from to : Place) (sheet : Sheet) → SheetOf b from to sheet → SheetOf b sheet.from sheet.to sheet
 own_sheet b from to sheet h = subst (λ p. SheetOf b p sheet.to sheet) (sym h.filed_from) (subst (λ p. SheetOf b from p sheet) (sym h.filed_to) h)

@@ -1,5 +1,5 @@
 -- Paths of a head and a tail that add nothing to a table, by what is known of the two.
-use Rattle.std.proofs.Common.{◌≡◌, ◌⊎◌, ℕ, ℤ, zero, suc, List, [], ◌∷◌, ◌++◌, set, slice_get, Option, Some, None, IfSome, Bool, true, false, bit_and, refl, sym, ap, subst, ◌∙◌, inl, inr, ◌<◌, ◌≤◌, arith}
+use Rattle.std.proofs.Common.{◌≡◌, ◌⊎◌, ℕ, ℤ, ◌+◌, zero, suc, List, [], ◌∷◌, ◌++◌, length, length-append, set, slice_get, Option, Some, None, IfSome, Bool, true, false, bit_and, refl, sym, ap, subst, ◌∙◌, inl, inr, ◌<◌, ◌≤◌, arith}
 use Rattle.component_table.specs.declared.classes.PathClass.{PathClass}
 use Rattle.component_table.specs.declared.ends.End.{End}
 use Rattle.component_table.specs.declared.ends.EndKey.{EndKey}
@@ -12,14 +12,16 @@ use Rattle.component_table.specs.declared.rows.MetHead.{MetHead}
 use Rattle.component_table.specs.declared.rows.Row.{Row}
 use Rattle.component_table.specs.declared.rows.Rows.{Rows}
 use Rattle.component_table.specs.declared.ways.Joint.{Joint}
-use Rattle.component_table.specs.Classes.{AreAmong, ClassDone, IsOfClass}
+use Rattle.component_table.specs.declared.ways.Landed.{Landed}
+use Rattle.component_table.specs.Classes.{AreAmong, ClassDone, IsOfClass, LandsBy}
 use Rattle.component_table.specs.Joints.{IsJoint, IsJointOf, Joins}
 use Rattle.component_table.specs.Kinds.{AreKindsOf, IsKindOf, joined_class}
 use Rattle.component_table.specs.Markets.{AreMarkets}
 use Rattle.component_table.specs.Masks.{PutsMask}
 use Rattle.component_table.specs.Reaches.{IsEnd, IsUnserved, filed_of}
 use Rattle.component_table.specs.Rows.{AreRows, HasRows, IsHeadOf, IsKnownTail, IsMet, IsRow, IsRowAt, TailAddsNothing}
-use Rattle.component_table.specs.Tables.{AddsNothing, Covers, HasLegs}
+use Rattle.component_table.specs.Tables.{AddsNothing, AreLimited, Covers, HasLegs}
+use Rattle.component_table.proofs.Collected.{numbers_long}
 use Rattle.component_table.proofs.Halves.{joint_class, joint_legs}
 use Rattle.component_table.proofs.Lower.{set_only}
 use Rattle.component_table.proofs.Served.{ReachesEnd, served_done, unserved_none}
@@ -166,35 +168,49 @@ pub rows_more : (b : Book) (q : Request) (at : Position) (classes : List TailCla
 rows_more b q at classes table rows row none h = each_more (IsRow b q at classes table) rows row h (λ n mask c got known. absurd (none n mask got))
 
 -- what is known of a path of the head at hand and a known tail
-module _ (b : Book) (q : Request) (at : Position) (table : List Entry) (r : Rows) (ks : Kinds) where
-  joint_head : (ns : List ℕ) (number : ℕ) (path : Path) (j : Joint) → HasRows b q at ks.classes.items table r → (x : Joins r ks ns number path j) → IsMet b q r.kept.items x.head
-  joint_head ns number path j has x = subst (λ o. IfSome o (IsMet b q r.kept.items)) x.hand has.head
+module _ (b : Book) (q : Request) (at : Position) (table : List Entry) (r : Rows) (ks : Kinds) (head : Path) (number : ℕ) (tail : Path) (j : Joint) (has : HasRows b q at ks.classes.items table r) (x : Joins r ks head number tail j) where
+  joint_head : IsMet b q r.kept.items x.head
+  joint_head = subst (λ o. IfSome o (IsMet b q r.kept.items)) x.hand has.head
 
-  pub joint_is : (tails : List Path) (head : Path) (number : ℕ) (path : Path) (j : Joint) (tail : Path) → HasRows b q at ks.classes.items table r → AreKindsOf b q tails ks.classes.items ks.of.items → slice_get tails number ≡ Some tail → path.flights ≡ head.flights ++ tail.flights → path.after ≡ tail.after
-      → Joins r ks head.flights number path j → IsJoint b q j
-  joint_is tails head number path j tail has are stands flights after x = record {
+  pub joint_is : (tails : List Path) → AreKindsOf b q tails ks.classes.items ks.of.items → slice_get tails number ≡ Some tail → length head.flights + length tail.flights ≤ 4 → IsJoint b q j
+  joint_is tails are stands few = record {
+    few = subst (λ (h : Path). length h.flights + length j.tail.now.flights ≤ 4) (sym x.head_is) (subst (λ (t : Path). length head.flights + length t.flights ≤ 4) (sym x.path_is) few);
+    after = ap (λ (t : Path). t.after) x.path_is ∙ sym kind.after ∙ sym (ap (λ (k : PathClass). k.after) class);
     classes = λ fs m. subst (HasLegs b q fs) (sym x.classes_are) (joint_legs b q head.flights x.head.kind ks.classes.items tail x.kind known kind fs (own fs m));
-    class = λ fs m. subst (λ (k : PathClass). IsOfClass k j.path.now.after fs) (sym class) (joint_class b q head.flights x.head.kind ks.classes.items tail x.kind known kind j.path.now.after (ap (λ (p : Path). p.after) x.path_is ∙ after) fs (own fs m));
+    class = λ fs m. subst (λ (k : PathClass). IsOfClass k k.after fs) (sym class) (joint_class b q head.flights x.head.kind ks.classes.items tail x.kind known kind kind.class.after kind.after fs (own fs m));
   }
     where
       kind : IsKindOf b q ks.classes.items tail x.kind
       kind = are number x.kind tail x.kind_stands stands
 
       known : IsHeadOf b q head.flights x.head.kind
-      known = subst (λ l. IsHeadOf b q l x.head.kind) x.numbers_are (joint_head head.flights number path j has x).known
+      known = subst (λ l. IsHeadOf b q l x.head.kind) x.numbers_are joint_head.known
 
-      own : (fs : List Flight) → Numbers b j.path.now.flights fs → Numbers b (head.flights ++ tail.flights) fs
-      own fs m = subst (λ l. Numbers b l fs) (ap (λ (p : Path). p.flights) x.path_is ∙ flights) m
+      own : (fs : List Flight) → Numbers b (j.head.now.flights ++ j.tail.now.flights) fs → Numbers b (head.flights ++ tail.flights) fs
+      own fs m = subst (λ (t : Path). Numbers b (head.flights ++ t.flights) fs) x.path_is (subst (λ (h : Path). Numbers b (h.flights ++ j.tail.now.flights) fs) x.head_is m)
 
       class : j.class ≡ joined_class x.head.kind.carrier x.head.kind.first kind.class
       class = x.class_is ∙ ap (λ (c : TailClass). joined_class x.head.kind.carrier x.head.kind.first c) (some_one (slice_get ks.classes.items x.kind.class) x.tail kind.class x.tail_stands kind.stands)
 
-  pub joint_of : (ns : List ℕ) (number : ℕ) (path : Path) (j : Joint) → HasRows b q at ks.classes.items table r → Joins r ks ns number path j → IsJointOf ks.classes.items r.kept.items j
-  joint_of ns number path j has x = record {
+  pub joint_of : IsJointOf ks.classes.items r.kept.items j
+  joint_of = record {
     tail = x.tail;
     stands = ap (slice_get ks.classes.items) x.tail_is ∙ x.tail_stands;
     row = λ one got.
-        let row = (joint_head ns number path j has x).row in
+        let row = joint_head.row in
         let same = some_one (slice_get r.kept.items x.head.kind.row) row.row one row.stands (ap (slice_get r.kept.items) (sym x.row_is) ∙ got) in
         x.class_is ∙ ap (λ d. joined_class x.head.kind.carrier d x.tail) (sym row.first_is) ∙ ap (λ e. joined_class e row.row.first x.tail) (sym row.carrier_is) ∙ ap (λ (y : Row). joined_class y.carrier y.first x.tail) same;
   }
+
+-- the flights of a head and a tail land where their class ends
+pub joint_lands : (b : Book) (q : Request) (at : Position) (ms : List Market) (j : Joint) (l : Landed) (fs : List Flight) → IsJoint b q j → Numbers b (j.head.now.flights ++ j.tail.now.flights) fs → AreLimited b → IsEnd b at.place ms l.end.now → l.end.now.key ≡ record { place = j.class.end; carrier = j.class.carrier }
+    → l.class ≡ j.class → l.classes ≡ j.classes → LandsBy b q at ms l fs
+joint_lands b q at ms j l fs is numbers limited end key class classes = record {
+  end = end;
+  few = subst (λ n. n ≤ 4) (sym (numbers_long b (j.head.now.flights ++ j.tail.now.flights) fs numbers ∙ length-append j.head.now.flights j.tail.now.flights)) is.few;
+  limits = limited (j.head.now.flights ++ j.tail.now.flights) fs numbers;
+  legs = subst (HasLegs b q fs) (sym classes) (is.classes fs numbers);
+  class = subst (λ (k : PathClass). IsOfClass k k.after fs) (sym class) (is.class fs numbers);
+  place_is = ap (λ (k : PathClass). k.end) class ∙ sym (ap (λ (x : EndKey). x.place) key);
+  carrier_is = ap (λ (k : PathClass). k.carrier) class ∙ sym (ap (λ (x : EndKey). x.carrier) key);
+}

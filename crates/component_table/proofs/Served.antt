@@ -148,19 +148,19 @@ module _ (b : Book) (q : Request) (at : Position) (path : Path) (ms : List Marke
   }
 
 -- the groups of a market from one place on and before another were put in
-pub record BetweenIn (b : Book) (q : Request) (at : Position) (flown : Flown) (reverse : Bool) (gs : List FareGroup) (from to : ℕ) (old new : List Entry) : Type 0 where
+pub record BetweenIn (b : Book) (q : Request) (at : Position) (path : Path) (flown : Flown) (reverse : Bool) (gs : List FareGroup) (from to : ℕ) (old new : List Entry) : Type 0 where
   pub goes : GoesOn b q at old new
-  pub has : (i : ℕ) (g : FareGroup) → slice_get gs i ≡ Some g → from ≤ i → i < to → HasGroup b flown.path.now flown.flights.now flown.classes reverse g new
+  pub has : (i : ℕ) (g : FareGroup) → slice_get gs i ≡ Some g → from ≤ i → i < to → HasGroup b path flown.flights.now flown.classes reverse g new
 
-module _ (b : Book) (q : Request) (at : Position) (flown : Flown) (reverse : Bool) (gs : List FareGroup) where
-  pub between_none : (from : ℕ) (old new : List Entry) → new ≡ old → BetweenIn b q at flown reverse gs from from old new
-  between_none from old new same = subst (λ es. BetweenIn b q at flown reverse gs from from old es) (sym same) (record { goes = goes_self b q at old; has = λ i g got low high. absurd (omega (arith, low, high)) })
+module _ (b : Book) (q : Request) (at : Position) (path : Path) (flown : Flown) (reverse : Bool) (gs : List FareGroup) where
+  pub between_none : (from : ℕ) (old new : List Entry) → new ≡ old → BetweenIn b q at path flown reverse gs from from old new
+  between_none from old new same = subst (λ es. BetweenIn b q at path flown reverse gs from from old es) (sym same) (record { goes = goes_self b q at old; has = λ i g got low high. absurd (omega (arith, low, high)) })
 
-  pub between_more : (from n : ℕ) (d x : FareGroup) (old mid new : List Entry) → n < length gs → x ≡ get_or gs n d → BetweenIn b q at flown reverse gs from n old mid → GroupDone b q at flown reverse x mid new → BetweenIn b q at flown reverse gs from (n + 1) old new
+  pub between_more : (from n : ℕ) (d x : FareGroup) (old mid new : List Entry) → n < length gs → x ≡ get_or gs n d → BetweenIn b q at path flown reverse gs from n old mid → GroupDone b q at path flown reverse x mid new → BetweenIn b q at path flown reverse gs from (n + 1) old new
   between_more from n d x old mid new lt e h done = record {
     goes = goes_on b q at old mid new h.goes done.goes;
     has = λ i g got low high. elim (here_or_before i n high) [
-      | inl k ↦ has_group_on b flown.path.now flown.flights.now flown.classes reverse g mid new done.goes.covers (h.has i g got low k)
-      | inr s ↦ subst (λ (y : FareGroup). HasGroup b flown.path.now flown.flights.now flown.classes reverse y new) (some_one (slice_get gs n) x g (read_got gs n d x lt e) (ap (slice_get gs) (sym s) ∙ got)) done.has
+      | inl k ↦ has_group_on b path flown.flights.now flown.classes reverse g mid new done.goes.covers (h.has i g got low k)
+      | inr s ↦ subst (λ (y : FareGroup). HasGroup b path flown.flights.now flown.classes reverse y new) (some_one (slice_get gs n) x g (read_got gs n d x lt e) (ap (slice_get gs) (sym s) ∙ got)) done.has
     ];
   }

@@ -1,15 +1,18 @@
 -- Classes of paths that are settled: when one is, and that it stays so as the table grows.
-use Rattle.std.proofs.Common.{◌≡◌, ◌⊎◌, ℕ, ℤ, ◌+◌, ◌<◌, ◌≤◌, Bool, true, false, List, [], ◌∷◌, length, get_or, slice_get, Option, Some, None, IsBitSet, bit_and, sym, ap, subst, ◌∙◌, inl, inr, arith}
+use Rattle.std.proofs.Common.{◌≡◌, ◌⊎◌, ℕ, ℤ, ◌+◌, ◌<◌, ◌≤◌, All, Bool, true, false, List, [], ◌∷◌, length, get_or, slice_get, Option, Some, None, IsBitSet, bit_and, refl, sym, ap, subst, ◌∙◌, inl, inr, arith}
+use Rattle.std.specs.Int.{IsInRange}
 use Rattle.component_table.specs.declared.classes.PathClass.{PathClass}
 use Rattle.component_table.specs.declared.ends.End.{End}
 use Rattle.component_table.specs.declared.filed.Filed.{Filed}
 use Rattle.component_table.specs.declared.markets.Market.{Market}
 use Rattle.component_table.specs.declared.settled.SettledClass.{SettledClass}
+use Rattle.component_table.specs.declared.ways.Flown.{Flown}
 use Rattle.component_table.specs.declared.ways.Landed.{Landed}
-use Rattle.component_table.specs.Classes.{AreAmong, AreSettled, BothSettled, ClassDone, GroupSettled, GroupsSettled, IsLanded, IsOfClass, WaySettled}
+use Rattle.component_table.specs.Classes.{AreAmong, AreSettled, BothSettled, ClassDone, GroupSettled, GroupsSettled, IsLanded, IsOfClass, LandsBy, WaySettled}
 use Rattle.component_table.specs.Markets.{AreMarkets}
 use Rattle.component_table.specs.Reaches.{filed_of}
-use Rattle.component_table.specs.Tables.{Covers, HasLegs, PathAdded}
+use Rattle.component_table.specs.Tables.{AreLimited, Covers, HasLegs, IsFlown, PathAdded}
+use Rattle.component_table.proofs.Collected.{numbers_long}
 use Rattle.component_table.proofs.Lower.{goes_self, path_done_on}
 use Rattle.component_table.proofs.PathFacts.{path_numbers}
 use Rattle.component_table.proofs.Served.{ReachesEnd, not_between, served_done}
@@ -21,6 +24,7 @@ use Rattle.fare_groups.proofs.Bits.{both_set}
 use Rattle.fare_law.specs.declared.flights.Flight.{Flight}
 use Rattle.fare_law.specs.declared.requests.Request.{Request}
 use Rattle.fare_law.specs.Book.{Book}
+use Rattle.fare_law.specs.Limits.{IsFlight}
 use Rattle.fare_law.specs.Lists.{IsIn, OnFirst, OnLast}
 use Rattle.fare_law.specs.Parts.{Numbers}
 use Rattle.flight_paths.specs.declared.positions.Path.{Path}
@@ -66,6 +70,37 @@ first_carrier : (c : PathClass) (e : End) (fs : List Flight) → c.carrier ≡ e
 first_carrier c e [] same k = absurd k
 first_carrier c e (f ∷ fs) same k = k.1 ∙ same
 
+class_some : (c : PathClass) (after : Option Position) (fs : List Flight) → IsOfClass c after fs → 1 ≤ length fs
+class_some c after [] is = absurd is.first
+class_some c after (f ∷ fs) is = omega arith
+
+-- what is known of flights that land, once their block is
+pub lands_flown : (b : Book) (q : Request) (at : Position) (ms : List Market) (l : Landed) (fs : List Flight) (flown : Flown) → LandsBy b q at ms l fs → flown.flights.now ≡ fs → flown.classes ≡ l.classes → IsFlown b q flown
+lands_flown b q at ms l fs flown is same classes = record {
+  count = subst (λ gs. IsInRange 1 4 (length gs)) (sym same) (class_some l.class l.class.after fs is.class, is.few);
+  limits = subst (λ gs. All IsFlight gs) (sym same) is.limits;
+  legs = subst (λ n. HasLegs b q flown.flights.now n) (sym classes) (subst (λ gs. HasLegs b q gs l.classes) (sym same) is.legs);
+}
+
+pub class_itself : (c : PathClass) (after : Option Position) (fs : List Flight) → IsOfClass c after fs → IsOfClass c c.after fs
+class_itself c after fs is = record { after_is = refl; first = is.first; last = is.last }
+
+-- the flights of a path's numbers land, if they are so
+pub landed_lands : (b : Book) (q : Request) (at : Position) (ms : List Market) (ns : List ℕ) (l : Landed) (fs : List Flight) → IsLanded b q at ms ns l → length ns ≤ 4 → AreLimited b → Numbers b ns fs → LandsBy b q at ms l fs
+landed_lands b q at ms ns l fs is few limited numbers = record {
+  end = is.end;
+  few = subst (λ n. n ≤ 4) (sym (numbers_long b ns fs numbers)) few;
+  limits = limited ns fs numbers;
+  legs = is.classes fs numbers;
+  class = is.class fs numbers;
+  place_is = is.place_is;
+  carrier_is = is.carrier_is;
+}
+
+-- a path leads where its class does
+pub class_leads : (c : PathClass) (after : Option Position) (fs : List Flight) → after ≡ c.after → IsOfClass c c.after fs → IsOfClass c after fs
+class_leads c after fs e is = record { after_is = e; first = is.first; last = is.last }
+
 pub reaches_end : (c : PathClass) (e : End) (after : Option Position) (fs : List Flight) → c.end ≡ e.key.place → c.carrier ≡ e.key.carrier → IsOfClass c after fs → ReachesEnd e fs
 reaches_end c e after fs place carrier is = record {
   ends = on_last_to (λ f. (f.to ≡ c.end) × (f.day ≡ c.last)) (λ f. f.to ≡ e.key.place) fs (λ f k. k.0 ∙ place) is.last;
@@ -76,12 +111,12 @@ more : (x y z : ℕ) → x ≤ y → x ≤ y + z
 more x y z h = omega (arith, h)
 
 -- where the groups of one path stand at their least shares, each path of its class is done
-pub class_done : (b : Book) (q : Request) (at : Position) (ms : List Market) (l : Landed) (fs : List Flight) (table : List Entry) → AreMarkets b ms → Limited b → IsLanded b q at ms l → Numbers b l.path.now.flights fs → BothSettled ms l fs table → ClassDone b q at (record { class = l.class; classes = l.classes }) table
-class_done b q at ms l fs table are limited is numbers both path gs path_is of classes legs among r =
+pub class_done : (b : Book) (q : Request) (at : Position) (ms : List Market) (l : Landed) (fs : List Flight) (table : List Entry) → AreMarkets b ms → Limited b → LandsBy b q at ms l fs → BothSettled ms l fs table → ClassDone b q at (record { class = l.class; classes = l.classes }) table
+class_done b q at ms l fs table are limited is both path gs path_is of classes legs among r =
     served_done b q at path ms l.end.now are limited is.end classes gs table path_is legs (reaches_end l.class l.end.now path.after gs is.place_is is.carrier_is of) r
     (λ f found m stands i g got low high rule live permits least cheap.
     let x = both r f found m stands i g got low high cheap.fare cheap.within (among cheap.fare.class cheap.open_class) in
-    (x.0, x.1, outline_like l.class l.path.now.after path.after fs gs g.key r x.0.outline (is.class fs numbers) of x.2, more x.0.price least (extra_of rule gs) (subst (λ n. x.0.price ≤ n) cheap.costs x.3)))
+    (x.0, x.1, outline_like l.class l.class.after path.after fs gs g.key r x.0.outline is.class of x.2, more x.0.price least (extra_of rule gs) (subst (λ n. x.0.price ≤ n) cheap.costs x.3)))
 
 -- a path of a settled class is put in by leaving the table as it is
 pub settled_added : (b : Book) (q : Request) (at : Position) (path : Path) (s : SettledClass) (classes : ℕ) (old : List Entry) → ClassDone b q at s old → ((fs : List Flight) → Numbers b path.flights fs → IsOfClass s.class path.after fs) → ((fs : List Flight) → Numbers b path.flights fs → HasLegs b q fs classes)
@@ -134,7 +169,7 @@ module _ (after : Option Position) (fs : List Flight) (classes : ℕ) (reverse :
   pub way_none : filed_of e reverse ≡ None → WaySettled ms e after fs classes reverse table
   way_none none f found = absurd (cc)
 
-pub both_ways : (ms : List Market) (l : Landed) (fs : List Flight) (table : List Entry) → WaySettled ms l.end.now l.path.now.after fs l.classes false table → WaySettled ms l.end.now l.path.now.after fs l.classes true table → BothSettled ms l fs table
+pub both_ways : (ms : List Market) (l : Landed) (fs : List Flight) (table : List Entry) → WaySettled ms l.end.now l.class.after fs l.classes false table → WaySettled ms l.end.now l.class.after fs l.classes true table → BothSettled ms l fs table
 both_ways ms l fs table there back true = back
 both_ways ms l fs table there back false = there
 

@@ -1,5 +1,5 @@
 -- Classes of paths, and when a class is settled.
-use Rattle.std.specs.Prelude.{◌≡◌, ℕ, ◌≤◌, ◌<◌, Bool, List, slice_get, Option, Some, IsBitSet}
+use Rattle.std.specs.Prelude.{◌≡◌, ℕ, ◌≤◌, ◌<◌, Bool, List, length, slice_get, All, Option, Some, IsBitSet}
 use Rattle.component_table.specs.declared.classes.PathClass.{PathClass}
 use Rattle.component_table.specs.declared.ends.End.{End}
 use Rattle.component_table.specs.declared.filed.Filed.{Filed}
@@ -13,6 +13,7 @@ use Rattle.fare_groups.specs.declared.group.GroupedFare.{GroupedFare}
 use Rattle.fare_law.specs.declared.flights.Flight.{Flight}
 use Rattle.fare_law.specs.declared.requests.Request.{Request}
 use Rattle.fare_law.specs.Book.{Book}
+use Rattle.fare_law.specs.Limits.{IsFlight}
 use Rattle.fare_law.specs.Lists.{Each, IsIn, OnFirst, OnLast}
 use Rattle.fare_law.specs.Parts.{Numbers}
 use Rattle.flight_paths.specs.declared.positions.Path.{Path}
@@ -57,14 +58,24 @@ GroupsSettled after fs classes reverse gs from to table = (i : ℕ) (g : FareGro
 abbrev pub WaySettled : List Market → End → Option Position → List Flight → ℕ → Bool → List Entry → Type 0
 WaySettled ms e after fs classes reverse table = (f : Filed) → filed_of e reverse ≡ Some f → (m : Market) → slice_get ms f.market ≡ Some m → GroupsSettled after fs classes reverse m.groups f.from f.to table
 
--- A path to an end of its first carrier's fares, with its class and the classes of seats that are open in every leg.
-pub record IsLanded (b : Book) (q : Request) (at : Position) (ms : List Market) (l : Landed) : Type 0 where
+-- The flights of these numbers reach the end of their first carrier's fares, are of the class, and these classes of seats are open in all of them.
+pub record IsLanded (b : Book) (q : Request) (at : Position) (ms : List Market) (numbers : List ℕ) (l : Landed) : Type 0 where
   pub end : IsEnd b at.place ms l.end.now
-  pub classes : (fs : List Flight) → Numbers b l.path.now.flights fs → HasLegs b q fs l.classes
-  pub class : (fs : List Flight) → Numbers b l.path.now.flights fs → IsOfClass l.class l.path.now.after fs
+  pub classes : (fs : List Flight) → Numbers b numbers fs → HasLegs b q fs l.classes
+  pub class : (fs : List Flight) → Numbers b numbers fs → IsOfClass l.class l.class.after fs
+  pub place_is : l.class.end ≡ l.end.now.key.place
+  pub carrier_is : l.class.carrier ≡ l.end.now.key.carrier
+
+-- These flights are so.
+pub record LandsBy (b : Book) (q : Request) (at : Position) (ms : List Market) (l : Landed) (fs : List Flight) : Type 0 where
+  pub end : IsEnd b at.place ms l.end.now
+  pub few : length fs ≤ 4
+  pub limits : All IsFlight fs
+  pub legs : HasLegs b q fs l.classes
+  pub class : IsOfClass l.class l.class.after fs
   pub place_is : l.class.end ≡ l.end.now.key.place
   pub carrier_is : l.class.carrier ≡ l.end.now.key.carrier
 
 -- The table has such a path's groups both ways.
 abbrev pub BothSettled : List Market → Landed → List Flight → List Entry → Type 0
-BothSettled ms l fs table = (reverse : Bool) → WaySettled ms l.end.now l.path.now.after fs l.classes reverse table
+BothSettled ms l fs table = (reverse : Bool) → WaySettled ms l.end.now l.class.after fs l.classes reverse table

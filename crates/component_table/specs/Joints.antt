@@ -1,5 +1,5 @@
 -- Paths of a head and a tail that are known.
-use Rattle.std.specs.Prelude.{◌≡◌, ℕ, List, Some, bit_and, slice_get}
+use Rattle.std.specs.Prelude.{◌≡◌, ℕ, ◌+◌, ◌≤◌, List, ◌++◌, length, Some, bit_and, slice_get}
 use Rattle.component_table.specs.declared.kinds.Kinds.{Kinds}
 use Rattle.component_table.specs.declared.kinds.TailClass.{TailClass}
 use Rattle.component_table.specs.declared.kinds.TailKind.{TailKind}
@@ -16,28 +16,31 @@ use Rattle.fare_law.specs.Book.{Book}
 use Rattle.fare_law.specs.Parts.{Numbers}
 use Rattle.flight_paths.specs.declared.positions.Path.{Path}
 
--- It is of the head at hand, which has these numbers, and the tail of this number, and of this path.
-pub record Joins (r : Rows) (ks : Kinds) (numbers : List ℕ) (number : ℕ) (path : Path) (j : Joint) : Type 0 where
+-- It is of this head, which is at hand, and of this tail, which has this number.
+pub record Joins (r : Rows) (ks : Kinds) (first : Path) (number : ℕ) (last : Path) (j : Joint) : Type 0 where
   pub head : MetHead
   pub hand : r.head ≡ Some head
-  pub numbers_are : head.flights ≡ numbers
+  pub numbers_are : head.flights ≡ first.flights
   pub kind : TailKind
   pub kind_stands : slice_get ks.of.items number ≡ Some kind
   pub tail : TailClass
   pub tail_stands : slice_get ks.classes.items kind.class ≡ Some tail
-  pub path_is : j.path.now ≡ path
+  pub head_is : j.head.now ≡ first
+  pub path_is : j.tail.now ≡ last
   pub class_is : j.class ≡ joined_class head.kind.carrier head.kind.first tail
   pub classes_are : j.classes ≡ bit_and head.kind.classes kind.classes
   pub row_is : j.row ≡ head.kind.row
-  pub tail_is : j.tail ≡ kind.class
+  pub tail_is : j.tail_class ≡ kind.class
 
--- The path is of the class, and the classes of seats are those that are open in all its flights.
+-- The head and the tail are four flights at most; as one path they are of the class, and the classes of seats are those that are open in all of them.
 pub record IsJoint (b : Book) (q : Request) (j : Joint) : Type 0 where
-  pub classes : (fs : List Flight) → Numbers b j.path.now.flights fs → HasLegs b q fs j.classes
-  pub class : (fs : List Flight) → Numbers b j.path.now.flights fs → IsOfClass j.class j.path.now.after fs
+  pub few : length j.head.now.flights + length j.tail.now.flights ≤ 4
+  pub after : j.tail.now.after ≡ j.class.after
+  pub classes : (fs : List Flight) → Numbers b (j.head.now.flights ++ j.tail.now.flights) fs → HasLegs b q fs j.classes
+  pub class : (fs : List Flight) → Numbers b (j.head.now.flights ++ j.tail.now.flights) fs → IsOfClass j.class j.class.after fs
 
 -- The row and the class of tails, by their numbers, are those of the path's class.
 pub record IsJointOf (tails : List TailClass) (rows : List Row) (j : Joint) : Type 0 where
   pub tail : TailClass
-  pub stands : slice_get tails j.tail ≡ Some tail
+  pub stands : slice_get tails j.tail_class ≡ Some tail
   pub row : (one : Row) → slice_get rows j.row ≡ Some one → j.class ≡ joined_class one.carrier one.first tail

@@ -1,9 +1,10 @@
 -- A table as it grows: what it has stands there at no more, and each group of a path's market is put in.
-use Rattle.std.specs.Prelude.{◌≡◌, ◌≢◌, ◌⊎◌, ◌↔◌, ℕ, ◌+◌, ◌≤◌, ◌<◌, Bool, List, [], length, slice_get, Option, Some, All, IsBitSet}
+use Rattle.std.specs.Prelude.{◌≡◌, ◌≢◌, ◌⊎◌, ◌↔◌, ℕ, ◌+◌, ◌≤◌, ◌<◌, Bool, List, [], ◌++◌, length, slice_get, Option, Some, All, IsBitSet}
 use Rattle.std.specs.Int.{IsInRange}
 use Rattle.component_table.specs.declared.markets.Market.{Market}
 use Rattle.component_table.specs.declared.ways.Flown.{Flown}
 use Rattle.component_table.specs.declared.ways.Serving.{Serving}
+use Rattle.component_table.specs.declared.ways.Wanted.{Wanted}
 use Rattle.component_table.specs.Markets.{IsMarket}
 use Rattle.component_table.specs.Reaches.{StandBetween}
 use Rattle.fare_book.specs.Keeping.{Limited}
@@ -89,6 +90,23 @@ pub record IsOver (b : Book) (q : Request) (flown : Flown) (m : Market) : Type 0
   pub market_is : IsMarket b m
   pub limited : Limited b
 
+-- The spot is the group's on the paths of the flights' class, this way, and the share is the least of its fares in the open classes.
+pub record IsWanted (flown : Flown) (reverse : Bool) (w : Wanted) : Type 0 where
+  pub block_is : w.spot.block ≡ flown.block
+  pub key_is : w.spot.key ≡ w.group.now.key
+  pub reverse_is : w.spot.reverse ≡ reverse
+  pub share_is : Cheapest flown.classes w.group.now.fares (Some w.share)
+
+-- To some flights were added those of these numbers.
+pub record AddsFlights (b : Book) (ns : List ℕ) (old new : List Flight) : Type 0 where
+  pub more : List Flight
+  pub joined : new ≡ old ++ more
+  pub are : Numbers b ns more
+
+-- flights of the book keep to the limits of flights
+abbrev pub AreLimited : Book → Type 0
+AreLimited b = (ns : List ℕ) (fs : List Flight) → Numbers b ns fs → All IsFlight fs
+
 -- this is the first of the flights of these numbers
 abbrev pub BeginsWith : Book → List ℕ → Flight → Type 0
 BeginsWith b ns flight = (fs : List Flight) → Numbers b ns fs → OnFirst (λ f. f ≡ flight) fs
@@ -103,13 +121,14 @@ pub record IsServed (fs : List Flight) (s : Serving) : Type 0 where
   pub first : OnFirst (λ f. f.carrier ≡ carrier) fs
   pub groups : StandBetween s.market.now.groups carrier s.filed
 
--- the flights are those of their path, which is one of the position
-abbrev pub IsOfPath : Book → Request → Position → Flown → Type 0
-IsOfPath b q at flown = IsPath b q.slices at flown.path.now.flights flown.flights.now flown.path.now.after
+-- The flights are those of the path, which is one of the position and leads where the paths of the class do.
+pub record IsOfPath (b : Book) (q : Request) (at : Position) (path : Path) (flown : Flown) : Type 0 where
+  pub path_is : IsPath b q.slices at path.flights flown.flights.now path.after
+  pub after_is : path.after ≡ flown.class.after
 
--- and fares of the market are filed over them this way
-pub record IsPathOver (b : Book) (q : Request) (at : Position) (flown : Flown) (reverse : Bool) (m : Market) : Type 0 where
-  pub path : IsOfPath b q at flown
+-- And fares of the market are filed over them this way.
+pub record IsPathOver (b : Book) (q : Request) (at : Position) (path : Path) (flown : Flown) (reverse : Bool) (m : Market) : Type 0 where
+  pub is_of : IsOfPath b q at path flown
   pub market : MarketOver reverse flown.flights.now m.sheet.value.from m.sheet.value.to
 
 -- a path of the position
@@ -127,14 +146,14 @@ pub record HasRow (rows : List SheetRow) (g : FareGroup) : Type 0 where
   pub are : (f : GroupedFare) → IsIn f g.fares → (row : SheetRow) × (slice_get rows f.place ≡ Some row) × (group_of row ≡ g.key)
 
 -- a group was put in
-pub record GroupDone (b : Book) (q : Request) (at : Position) (flown : Flown) (reverse : Bool) (g : FareGroup) (old new : List Entry) : Type 0 where
+pub record GroupDone (b : Book) (q : Request) (at : Position) (path : Path) (flown : Flown) (reverse : Bool) (g : FareGroup) (old new : List Entry) : Type 0 where
   pub goes : GoesOn b q at old new
-  pub has : HasGroup b flown.path.now flown.flights.now flown.classes reverse g new
+  pub has : HasGroup b path flown.flights.now flown.classes reverse g new
 
 -- the groups of a market were put in
-pub record MarketDone (b : Book) (q : Request) (at : Position) (flown : Flown) (reverse : Bool) (m : Market) (old new : List Entry) : Type 0 where
+pub record MarketDone (b : Book) (q : Request) (at : Position) (path : Path) (flown : Flown) (reverse : Bool) (m : Market) (old new : List Entry) : Type 0 where
   pub goes : GoesOn b q at old new
-  pub has : (g : FareGroup) → IsIn g m.groups → HasGroup b flown.path.now flown.flights.now flown.classes reverse g new
+  pub has : (g : FareGroup) → IsIn g m.groups → HasGroup b path flown.flights.now flown.classes reverse g new
 
 -- a path was put in with the fares that are filed this way
 pub record WayDone (b : Book) (q : Request) (at : Position) (path : Path) (fs : List Flight) (reverse : Bool) (old new : List Entry) : Type 0 where

@@ -3,34 +3,36 @@ ghost use Rattle.std.specs.Prelude.{◌≡◌, ◌≢◌, ◌⊎◌, ◌<◌, �
 ghost use Rattle.component_table.specs.declared.kinds.TailClass.{TailClass as OneClass};
 ghost use Rattle.component_table.specs.declared.settled.SettledClass.{SettledClass as OneSettled};
 ghost use Rattle.component_table.specs.Blocks.{HasBlock, IsLow, outline_of};
-ghost use Rattle.component_table.specs.Classes.{AreSettled, BothSettled, GroupSettled, GroupsSettled, IsLanded, IsOfClass, WaySettled};
+ghost use Rattle.component_table.specs.Classes.{AreSettled, BothSettled, GroupSettled, GroupsSettled, IsLanded, IsOfClass, LandsBy, WaySettled};
 ghost use Rattle.component_table.specs.Joints.{IsJoint, IsJointOf};
 ghost use Rattle.component_table.specs.Markets.{AreMarkets};
 ghost use Rattle.component_table.specs.Masks.{AreMasks};
 ghost use Rattle.component_table.specs.Reaches.{IsEnd, IsReach, IsUnserved, filed_of};
 ghost use Rattle.component_table.specs.Rows.{HasRows};
-ghost use Rattle.component_table.specs.Tables.{Covers, GroupDone, HasRow, IsFlown, IsOfPath, IsOver, IsPathFrom, IsPathOver, IsRowOf, IsServed, MarketDone, PathAdded, WayDone};
+ghost use Rattle.component_table.specs.Tables.{Covers, GroupDone, HasRow, IsFlown, IsOfPath, IsOver, IsPathFrom, IsPathOver, IsRowOf, IsServed, IsWanted, MarketDone, PathAdded, WayDone};
 ghost use Rattle.fare_book.specs.Keeping.{Limited};
 ghost use Rattle.fare_law.specs.declared.flights.Flight.{Flight as DatedFlight};
 ghost use Rattle.fare_law.specs.declared.requests.Request.{Request as Asked};
 ghost use Rattle.fare_law.specs.Book.{Book as Version};
 ghost use Rattle.fare_law.specs.Lists.{IsIn, OnFirst, OnLast};
-ghost use Rattle.fare_law.specs.Parts.{Numbers};
-ghost use Rattle.flight_paths.specs.declared.positions.Position.{Position as At};
+ghost use Rattle.flight_paths.specs.declared.positions.Path.{Path as PathData};
+ghost use Rattle.flight_paths.specs.Heads.{joined_path};
+ghost use Rattle.flight_paths.specs.Positions.{IsPath};
 ghost use Rattle.outlines.specs.declared.outline.Entry.{Entry as OneEntry};
 ghost use Rattle.outlines.specs.ByGroups.{OutlineOver};
 
 use crate::classes::PathClass;
 use crate::ends::{End, EndKey, Reach};
 use crate::filed::Filed;
-use crate::gathering::{first_flight, flights_of, last_flight};
+use crate::gathering::{add_flights, first_flight, last_flight};
 use crate::growing::{Growing, Spot};
 use crate::markets::Market;
 use crate::masks::Masks;
+use crate::recent::{mixed, spot_of};
 use crate::settled::Filling;
-use crate::ways::{Flown, Joint, Landed, Origin, Serving};
+use crate::ways::{Flown, Joint, Landed, Origin, Serving, Wanted};
 use fare_groups::{FareGroup, GroupKey, extra};
-use fare_law::{Flight, MarketSheet, Mem, SheetRow};
+use fare_law::{ArrayVec, Flight, MarketSheet, Mem, SheetRow};
 use flight_paths::{Path, Position};
 use outlines::Outline;
 use rule_route::limits_are_met;
@@ -77,12 +79,12 @@ pub fn add_path(
         return Ok(());
     }
     let landed = Landed {
-        path,
         end,
         class: class_of(&path.after, first, last),
         classes,
     };
-    add_landed(filling, origin, reach.markets.kept.as_slice(), &landed)
+    let markets = reach.markets.kept.as_slice();
+    add_landed(filling, origin, markets, numbers, &landed)
 }
 
 /// What the end of a path is asked for by.
@@ -133,27 +135,41 @@ fn has_none(filed: Option<Filed>) -> bool
     }
 }
 
-/// Puts in a path to an end of its first carrier's fares, if its class isn't settled.
+/// Puts in the path of some numbers to an end of its first carrier's fares, if its class isn't settled.
 fn add_landed(
     filling: &mut Filling,
     origin: &Origin,
     markets: &[Market],
+    numbers: &[u32],
     landed: &Landed,
 ) -> Result<(), Mem>
+    requires few { length numbers.now ≤ 4 }
     requires markets { AreMarkets origin.now.book.now markets.now }
-    requires landed { IsLanded origin.now.book.now origin.now.request.now origin.now.at.now markets.now landed.now }
+    requires landed { IsLanded origin.now.book.now origin.now.request.now origin.now.at.now markets.now numbers.now landed.now }
     requires limited { Limited origin.now.book.now }
     requires low { IsLow filling.old.table }
     requires settled { AreSettled origin.now.book.now origin.now.request.now origin.now.at.now filling.old.settled.kept.items filling.old.table.entries.items }
     ensures low { IsLow filling.new.table }
     ensures rows { (tails : Items OneClass) → HasRows origin.now.book.now origin.now.request.now origin.now.at.now tails filling.old.table.entries.items filling.old.rows → HasRows origin.now.book.now origin.now.request.now origin.now.at.now tails filling.new.table.entries.items filling.new.rows }
     ensures settled { AreSettled origin.now.book.now origin.now.request.now origin.now.at.now filling.new.settled.kept.items filling.new.table.entries.items }
-    ensures done { OnOk result (IsPathFrom origin.now.book.now origin.now.request.now origin.now.at.now landed.now.path.now → PathAdded origin.now.book.now origin.now.request.now origin.now.at.now landed.now.path.now filling.old.table.entries.items filling.new.table.entries.items) }
+    ensures done { OnOk result ((path : PathData) → path.flights ≡ numbers.now → path.after ≡ landed.now.class.after → IsPathFrom origin.now.book.now origin.now.request.now origin.now.at.now path → PathAdded origin.now.book.now origin.now.request.now origin.now.at.now path filling.old.table.entries.items filling.new.table.entries.items) }
 {
     if filling.settled.has(&landed.class, landed.classes) {
         return Ok(());
     }
-    if add_both(&mut filling.table, origin, markets, landed)? {
+    let mut flights = ArrayVec::new();
+    if !add_flights(origin.book, numbers, &mut flights) {
+        return Ok(());
+    }
+    let spot = landed.class.spot();
+    if add_both(
+        &mut filling.table,
+        origin,
+        markets,
+        landed,
+        flights.as_slice(),
+        spot,
+    )? {
         filling.settled.put(&landed.class, landed.classes)?;
     }
     Ok(())
@@ -175,21 +191,34 @@ pub fn add_joint(
     ensures low { IsLow filling.new.table }
     ensures rows { (tails : Items OneClass) → IsJointOf tails filling.old.rows.kept.items joint.now → HasRows origin.now.book.now origin.now.request.now origin.now.at.now tails filling.old.table.entries.items filling.old.rows → HasRows origin.now.book.now origin.now.request.now origin.now.at.now tails filling.new.table.entries.items filling.new.rows }
     ensures settled { AreSettled origin.now.book.now origin.now.request.now origin.now.at.now filling.new.settled.kept.items filling.new.table.entries.items }
-    ensures done { OnOk result (IsPathFrom origin.now.book.now origin.now.request.now origin.now.at.now joint.now.path.now → PathAdded origin.now.book.now origin.now.request.now origin.now.at.now joint.now.path.now filling.old.table.entries.items filling.new.table.entries.items) }
+    ensures done { OnOk result (IsPathFrom origin.now.book.now origin.now.request.now origin.now.at.now (joined_path joint.now.head.now joint.now.tail.now) → PathAdded origin.now.book.now origin.now.request.now origin.now.at.now (joined_path joint.now.head.now joint.now.tail.now) filling.old.table.entries.items filling.new.table.entries.items) }
 {
     origin.book.limits();
+    let mut flights = ArrayVec::new();
+    if !add_flights(origin.book, joint.head.flights.as_slice(), &mut flights) {
+        return Ok(());
+    }
+    if !add_flights(origin.book, joint.tail.flights.as_slice(), &mut flights) {
+        return Ok(());
+    }
     let at = reach.find(alloc, origin.book, origin.at.place, end_of(&joint.class))?;
     let landed = Landed {
-        path: joint.path,
         end: end_at(reach.ends.as_slice(), at),
         class: joint.class,
         classes: joint.classes,
     };
     let markets = reach.markets.kept.as_slice();
-    if add_both(&mut filling.table, origin, markets, &landed)? {
-        filling.rows.put(joint.row, joint.tail, joint.classes);
+    let table = &mut filling.table;
+    let spot = spot_in(joint.row, joint.tail_class);
+    if add_both(table, origin, markets, &landed, flights.as_slice(), spot)? {
+        filling.rows.put(joint.row, joint.tail_class, joint.classes);
     }
     Ok(())
+}
+
+/// The spot of the class of a row and a class of tails.
+fn spot_in(row: usize, tail_class: usize) -> usize {
+    spot_of(mixed(row as u64, tail_class as u64))
 }
 
 /// What the end of a class is asked for by.
@@ -202,30 +231,29 @@ pub fn end_of(class: &PathClass) -> EndKey
     }
 }
 
-/// Puts in such a path. Returns whether each of its groups then stands at its least share, so that no path of the
-/// class on which no other classes of seats are open can lower one.
+/// Puts in such a path by its flights. Returns whether each of its groups then stands at its least share, so that no path
+/// of the class on which no other classes of seats are open can lower one. The block of the class may stand at a spot.
 fn add_both(
     table: &mut Growing,
     origin: &Origin,
     markets: &[Market],
     landed: &Landed,
+    flights: &[Flight],
+    spot: usize,
 ) -> Result<bool, Mem>
     requires markets { AreMarkets origin.now.book.now markets.now }
-    requires landed { IsLanded origin.now.book.now origin.now.request.now origin.now.at.now markets.now landed.now }
+    requires landed { LandsBy origin.now.book.now origin.now.request.now origin.now.at.now markets.now landed.now flights.now }
     requires low { IsLow table.old }
     ensures low { IsLow table.new }
     ensures covers { Covers table.old.entries.items table.new.entries.items }
-    ensures settled { IfOk result (λ all. IsTrue all → (fs : Items DatedFlight) × Numbers origin.now.book.now landed.now.path.now.flights fs × BothSettled markets.now landed.now fs table.new.entries.items) }
-    ensures done { OnOk result (IsPathFrom origin.now.book.now origin.now.request.now origin.now.at.now landed.now.path.now → PathAdded origin.now.book.now origin.now.request.now origin.now.at.now landed.now.path.now table.old.entries.items table.new.entries.items) }
+    ensures settled { IfOk result (λ all. IsTrue all → BothSettled markets.now landed.now flights.now table.new.entries.items) }
+    ensures done { OnOk result ((path : PathData) → path.after ≡ landed.now.class.after → IsPath origin.now.book.now origin.now.request.now.slices origin.now.at.now path.flights flights.now path.after → PathAdded origin.now.book.now origin.now.request.now origin.now.at.now path table.old.entries.items table.new.entries.items) }
 {
-    let Some(flights) = flights_of(origin.book, landed.path.flights.as_slice()) else {
-        return Ok(false);
-    };
     let end = landed.end;
-    let block = table.block(&landed.class, count_of(end.there), count_of(end.back))?;
+    let class = &landed.class;
+    let block = table.block(spot, class, count_of(end.there), count_of(end.back))?;
     let flown = Flown {
-        path: landed.path,
-        flights: flights.as_slice(),
+        flights,
         class: landed.class,
         classes: landed.classes,
         block,
@@ -257,12 +285,12 @@ fn add_way(
     requires flown { IsFlown origin.now.book.now origin.now.request.now flown.now }
     requires low { IsLow table.old }
     requires block { HasBlock table.old.blocks.items flown.now.class flown.now.block }
-    requires class { IsOfClass flown.now.class flown.now.path.now.after flown.now.flights.now }
+    requires class { IsOfClass flown.now.class flown.now.class.after flown.now.flights.now }
     ensures low { IsLow table.new }
     ensures blocks { table.new.blocks.items ≡ table.old.blocks.items }
     ensures covers { Covers table.old.entries.items table.new.entries.items }
-    ensures settled { IfOk result (λ all. IsTrue all → WaySettled markets.now end.now flown.now.path.now.after flown.now.flights.now flown.now.classes reverse table.new.entries.items) }
-    ensures done { OnOk result (IsOfPath origin.now.book.now origin.now.request.now origin.now.at.now flown.now → OnFirst (λ f. f.carrier ≡ end.now.key.carrier) flown.now.flights.now → OnLast (λ f. f.to ≡ end.now.key.place) flown.now.flights.now → WayDone origin.now.book.now origin.now.request.now origin.now.at.now flown.now.path.now flown.now.flights.now reverse table.old.entries.items table.new.entries.items) }
+    ensures settled { IfOk result (λ all. IsTrue all → WaySettled markets.now end.now flown.now.class.after flown.now.flights.now flown.now.classes reverse table.new.entries.items) }
+    ensures done { OnOk result ((path : PathData) → IsOfPath origin.now.book.now origin.now.request.now origin.now.at.now path flown.now → OnFirst (λ f. f.carrier ≡ end.now.key.carrier) flown.now.flights.now → OnLast (λ f. f.to ≡ end.now.key.place) flown.now.flights.now → WayDone origin.now.book.now origin.now.request.now origin.now.at.now path flown.now.flights.now reverse table.old.entries.items table.new.entries.items) }
 {
     origin.book.limits();
     match filed_of(end, reverse) {
@@ -305,12 +333,12 @@ fn add_market(
     requires within { serving.now.filed.to ≤ length serving.now.market.now.groups }
     requires low { IsLow table.old }
     requires block { HasBlock table.old.blocks.items flown.now.class flown.now.block }
-    requires class { IsOfClass flown.now.class flown.now.path.now.after flown.now.flights.now }
+    requires class { IsOfClass flown.now.class flown.now.class.after flown.now.flights.now }
     ensures low { IsLow table.new }
     ensures blocks { table.new.blocks.items ≡ table.old.blocks.items }
     ensures covers { Covers table.old.entries.items table.new.entries.items }
-    ensures settled { IfOk result (λ all. IsTrue all → GroupsSettled flown.now.path.now.after flown.now.flights.now flown.now.classes serving.now.reverse serving.now.market.now.groups serving.now.filed.from serving.now.filed.to table.new.entries.items) }
-    ensures done { OnOk result (IsPathOver origin.now.book.now origin.now.request.now origin.now.at.now flown.now serving.now.reverse serving.now.market.now → IsServed flown.now.flights.now serving.now → MarketDone origin.now.book.now origin.now.request.now origin.now.at.now flown.now serving.now.reverse serving.now.market.now table.old.entries.items table.new.entries.items) }
+    ensures settled { IfOk result (λ all. IsTrue all → GroupsSettled flown.now.class.after flown.now.flights.now flown.now.classes serving.now.reverse serving.now.market.now.groups serving.now.filed.from serving.now.filed.to table.new.entries.items) }
+    ensures done { OnOk result ((path : PathData) → IsPathOver origin.now.book.now origin.now.request.now origin.now.at.now path flown.now serving.now.reverse serving.now.market.now → IsServed flown.now.flights.now serving.now → MarketDone origin.now.book.now origin.now.request.now origin.now.at.now path flown.now serving.now.reverse serving.now.market.now table.old.entries.items table.new.entries.items) }
 {
     let from = serving.filed.from;
     let to = serving.filed.to;
@@ -331,6 +359,7 @@ fn add_market(
 /// Puts in a group of a market, where its rule permits the flights and it has a fare in an open class. The rule need
 /// not be asked where the outline stands already at no more than the share, since it only adds charges. Returns whether
 /// it stands at no more than the share then.
+#[inline]
 fn add_group(
     table: &mut Growing,
     origin: &Origin,
@@ -343,16 +372,14 @@ fn add_group(
     requires group { IsIn group.now serving.now.market.now.groups }
     requires low { IsLow table.old }
     requires block { HasBlock table.old.blocks.items flown.now.class flown.now.block }
-    requires class { IsOfClass flown.now.class flown.now.path.now.after flown.now.flights.now }
+    requires class { IsOfClass flown.now.class flown.now.class.after flown.now.flights.now }
     ensures low { IsLow table.new }
     ensures blocks { table.new.blocks.items ≡ table.old.blocks.items }
     ensures covers { Covers table.old.entries.items table.new.entries.items }
-    ensures settled { IfOk result (λ all. IsTrue all → GroupSettled flown.now.path.now.after flown.now.flights.now flown.now.classes serving.now.reverse group.now table.new.entries.items) }
-    ensures done { OnOk result (IsPathOver origin.now.book.now origin.now.request.now origin.now.at.now flown.now serving.now.reverse serving.now.market.now → GroupDone origin.now.book.now origin.now.request.now origin.now.at.now flown.now serving.now.reverse group.now table.old.entries.items table.new.entries.items) }
+    ensures settled { IfOk result (λ all. IsTrue all → GroupSettled flown.now.class.after flown.now.flights.now flown.now.classes serving.now.reverse group.now table.new.entries.items) }
+    ensures done { OnOk result ((path : PathData) → IsPathOver origin.now.book.now origin.now.request.now origin.now.at.now path flown.now serving.now.reverse serving.now.market.now → GroupDone origin.now.book.now origin.now.request.now origin.now.at.now path flown.now serving.now.reverse group.now table.old.entries.items table.new.entries.items) }
 {
     origin.book.limits();
-    limits_are_met();
-    rules_stay_in_range();
     let Some(share) = group.cheapest(flown.classes) else {
         return Ok(true);
     };
@@ -365,17 +392,47 @@ fn add_group(
     if table.is_below(&spot, share) {
         return Ok(true);
     }
+    let wanted = Wanted { group, spot, share };
+    ask_rule(table, origin, flown, serving, &wanted)
+}
+
+/// Puts in a group that may cost less than before, where its rule permits the flights.
+// apart from the look at its slot, which most groups go no further than
+#[inline(never)]
+fn ask_rule(
+    table: &mut Growing,
+    origin: &Origin,
+    flown: &Flown,
+    serving: &Serving,
+    wanted: &Wanted,
+) -> Result<bool, Mem>
+    requires over { IsOver origin.now.book.now origin.now.request.now flown.now serving.now.market.now }
+    requires group { IsIn wanted.now.group.now serving.now.market.now.groups }
+    requires wanted { IsWanted flown.now serving.now.reverse wanted.now }
+    requires low { IsLow table.old }
+    requires block { HasBlock table.old.blocks.items flown.now.class flown.now.block }
+    requires class { IsOfClass flown.now.class flown.now.class.after flown.now.flights.now }
+    ensures low { IsLow table.new }
+    ensures blocks { table.new.blocks.items ≡ table.old.blocks.items }
+    ensures covers { Covers table.old.entries.items table.new.entries.items }
+    ensures settled { IfOk result (λ all. IsTrue all → GroupSettled flown.now.class.after flown.now.flights.now flown.now.classes serving.now.reverse wanted.now.group.now table.new.entries.items) }
+    ensures done { OnOk result ((path : PathData) → IsPathOver origin.now.book.now origin.now.request.now origin.now.at.now path flown.now serving.now.reverse serving.now.market.now → GroupDone origin.now.book.now origin.now.request.now origin.now.at.now path flown.now serving.now.reverse wanted.now.group.now table.old.entries.items table.new.entries.items) }
+{
+    origin.book.limits();
+    limits_are_met();
+    rules_stay_in_range();
+    let group = wanted.group;
     let sheet: &MarketSheet = &serving.market.sheet;
     let row = first_row(sheet, group);
     let Some(charges) = extra(&row.rule, group.key.carrier, flown.flights) else {
         return Ok(false);
     };
-    let price = sum(share, charges);
-    if table.is_below(&spot, price) {
+    let price = sum(wanted.share, charges);
+    if table.is_below(&wanted.spot, price) {
         return Ok(false);
     }
     let outline = outline_of(&flown.class, group.key, serving.reverse);
-    table.put(&spot, &outline, &row.rule, price)?;
+    table.put(&wanted.spot, &outline, &row.rule, price)?;
     Ok(is_free(charges))
 }
 

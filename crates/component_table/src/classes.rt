@@ -59,11 +59,6 @@ impl ClassKey {
             days: days_of(class.first, class.last),
         }
     }
-
-    /// The spot of the key.
-    pub fn spot(&self) -> usize {
-        spot_of(mixed(mixed(mixed(self.range, self.ends), self.places), self.days))
-    }
 }
 
 /// A class of tails, packed into numbers, by which places are looked up.

@@ -78,6 +78,7 @@ impl Reach {
     }
 
     /// Where an end stands, seen from a place.
+    #[inline]
     pub fn find(
         &mut self,
         alloc: Global,
@@ -89,10 +90,26 @@ impl Reach {
         ensures reach { IsReach book.now from self.new }
         ensures end { IfOk result (EndStands book.now from key self.new.markets.kept.items self.new.ends.items) }
     {
-        let spot = spot_of(key.letters());
-        if let Some(at) = known(self.ends.as_slice(), self.recent.get(spot), key) {
-            return Ok(at);
+        match self.recall(key) {
+            Some(at) => Ok(at),
+            None => self.find_other(alloc, book, from, key),
         }
+    }
+
+    /// The same where it wasn't asked for of late.
+    #[inline(never)]
+    fn find_other(
+        &mut self,
+        alloc: Global,
+        book: &Book,
+        from: Place,
+        key: EndKey,
+    ) -> Result<usize, Mem>
+        requires { IsReach book.now from self.old }
+        ensures reach { IsReach book.now from self.new }
+        ensures end { IfOk result (EndStands book.now from key self.new.markets.kept.items self.new.ends.items) }
+    {
+        let spot = spot_of(key.letters());
         let found = self.places.get(&key.letters()).copied();
         self.recent.put(spot, found.unwrap_or(self.ends.len()));
         if let Some(at) = known(self.ends.as_slice(), found, key) {

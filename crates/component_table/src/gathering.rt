@@ -1,8 +1,7 @@
 //! What is known of the flights of a path.
-ghost use Rattle.std.specs.Prelude.{◌≡◌, ◌≢◌, ◌≤◌, [], All, IfNone, IfSome, List as Items, length, option_copied, slice_get};
-ghost use Rattle.component_table.specs.Tables.{BeginsWith, EndsWith};
+ghost use Rattle.std.specs.Prelude.{◌≡◌, ◌≢◌, ◌≤◌, ◌+◌, [], IfNone, IfSome, IsTrue, List as Items, false, length, option_copied, slice_get};
+ghost use Rattle.component_table.specs.Tables.{AddsFlights, AreLimited, BeginsWith, EndsWith};
 ghost use Rattle.fare_law.specs.declared.flights.Flight.{Flight as DatedFlight};
-ghost use Rattle.fare_law.specs.Limits.{IsFlight};
 ghost use Rattle.fare_law.specs.Parts.{Numbers};
 ghost use Rattle.flight_paths.specs.Plans.{HasPlan};
 
@@ -54,19 +53,19 @@ pub fn last_flight<'a>(book: &'a Book, numbers: &[u32]) -> Option<&'a Flight>
     }
 }
 
-/// The flights of these numbers. None where a number is that of no flight.
-pub fn flights_of(book: &Book, numbers: &[u32]) -> Option<ArrayVec<Flight, 4>>
-    requires { length numbers.now ≤ 4 }
-    ensures some { IfSome result (λ fs. Numbers book.now numbers.now fs × All IsFlight fs) }
-    ensures none { IfNone result ((fs : Items DatedFlight) → Numbers book.now numbers.now fs → ⊥) }
+/// Adds the flights of these numbers. Whether each number is that of a flight: where one isn't, the rest is left out.
+pub fn add_flights(book: &Book, numbers: &[u32], flights: &mut ArrayVec<Flight, 4>) -> bool
+    requires { length flights.old + length numbers.now ≤ 4 }
+    ensures some { IsTrue result → AddsFlights book.now numbers.now flights.old flights.new }
+    ensures none { result ≡ false → (fs : Items DatedFlight) → Numbers book.now numbers.now fs → ⊥ }
+    ensures limits { AreLimited book.now }
 {
     let all = schedule_of(book).flights();
-    let mut flights = ArrayVec::new();
     for number in numbers {
         match flight_of(all, *number) {
             Some(flight) => flights.push(*flight),
-            None => return None,
+            None => return false,
         }
     }
-    Some(flights)
+    true
 }

@@ -79,18 +79,41 @@ impl Growing {
     }
 
     /// Where the block of a class stands: with slots for so many groups of the fares that are filed one way, and for so
-    /// many of those in reverse, if it is a new one.
-    pub fn block(&mut self, class: &PathClass, there: usize, back: usize) -> Result<usize, Mem>
+    /// many of those in reverse, if it is a new one. It is looked for at a spot first.
+    #[inline]
+    pub fn block(
+        &mut self,
+        spot: usize,
+        class: &PathClass,
+        there: usize,
+        back: usize,
+    ) -> Result<usize, Mem>
+        requires { IsLow self.old }
+        ensures low { IsLow self.new }
+        ensures same { self.new.entries.items ≡ self.old.entries.items }
+        ensures block { IfOk result (HasBlock self.new.blocks.items class.now) }
+    {
+        match known(self.blocks.as_slice(), self.recent.get(spot), class) {
+            Some(at) => Ok(at),
+            None => self.other_block(spot, class, there, back),
+        }
+    }
+
+    /// The same where it doesn't stand at the spot.
+    #[inline(never)]
+    fn other_block(
+        &mut self,
+        spot: usize,
+        class: &PathClass,
+        there: usize,
+        back: usize,
+    ) -> Result<usize, Mem>
         requires { IsLow self.old }
         ensures low { IsLow self.new }
         ensures same { self.new.entries.items ≡ self.old.entries.items }
         ensures block { IfOk result (HasBlock self.new.blocks.items class.now) }
     {
         let key = ClassKey::of(class);
-        let spot = key.spot();
-        if let Some(at) = known(self.blocks.as_slice(), self.recent.get(spot), class) {
-            return Ok(at);
-        }
         let found = self.places.get(&key).copied();
         self.recent.put(spot, found.unwrap_or(self.blocks.len()));
         if let Some(at) = known(self.blocks.as_slice(), found, class) {

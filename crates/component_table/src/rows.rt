@@ -176,11 +176,11 @@ impl Rows {
     pub fn joint<'a>(
         &self,
         kinds: &Kinds,
-        head: &Path,
+        head: &'a Path,
         number: usize,
-        path: &'a Path,
+        tail: &'a Path,
     ) -> Option<Joint<'a>>
-        ensures { IfSome result (Joins self.now kinds.now head.now.flights number path.now) }
+        ensures { IfSome result (Joins self.now kinds.now head.now number tail.now) }
     {
         let met = self.head.as_ref()?;
         if !same_numbers(met.flights.as_slice(), head.flights.as_slice()) {
@@ -189,11 +189,12 @@ impl Rows {
         let kind = kinds.of.as_slice().get(number)?;
         let class = kinds.classes.as_slice().get(kind.class)?;
         Some(Joint {
-            path,
+            head,
+            tail,
             class: met.kind.joined(class),
             classes: met.kind.classes & kind.classes,
             row: met.kind.row,
-            tail: kind.class,
+            tail_class: kind.class,
         })
     }
 

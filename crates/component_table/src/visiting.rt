@@ -17,7 +17,7 @@ use crate::settled::{Filling, Settled};
 use crate::skipping::{Met, skipped};
 use crate::ways::Origin;
 use fare_law::Mem;
-use flight_paths::{Path, PathVisitor};
+use flight_paths::{Path, PathVisitor, joined};
 use outlines::Entry;
 use std::alloc::Global;
 use std::marker::{Model, PhantomData};
@@ -70,8 +70,8 @@ impl<'a, S: Scene> PathVisitor for Putting<'a, S> {
         )
     }
 
-    fn visit_after(&mut self, head: &Path, number: usize, path: &Path) -> Result<(), Mem> {
-        match self.filling.rows.joint(self.kinds, head, number, path) {
+    fn visit_after(&mut self, head: &Path, number: usize, tail: &Path) -> Result<(), Mem> {
+        match self.filling.rows.joint(self.kinds, head, number, tail) {
             Some(joint) => add_joint(
                 self.alloc,
                 &mut self.filling,
@@ -79,7 +79,7 @@ impl<'a, S: Scene> PathVisitor for Putting<'a, S> {
                 &self.origin,
                 &joint,
             ),
-            None => self.visit(path),
+            None => self.visit(&joined(head, tail)),
         }
     }
 

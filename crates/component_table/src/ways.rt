@@ -3,8 +3,10 @@
 use crate::classes::PathClass;
 use crate::ends::End;
 use crate::filed::Filed;
+use crate::growing::Spot;
 use crate::markets::Market;
 use fare_book::Book;
+use fare_groups::FareGroup;
 use fare_law::{Flight, Request};
 use flight_paths::{Path, Position};
 
@@ -16,10 +18,10 @@ pub struct Origin<'a> {
     pub at: &'a Position,
 }
 
-/// A path to an end of its first carrier's fares, with its class and the classes of seats that are open in every leg.
+/// An end of the fares of a path's first carrier, to which the path leads, with the path's class and the classes of seats
+/// that are open in every leg.
 #[derive(Clone, Copy)]
 pub struct Landed<'a> {
-    pub path: &'a Path,
     pub end: &'a End,
     pub class: PathClass,
     pub classes: u32,
@@ -29,17 +31,17 @@ pub struct Landed<'a> {
 /// and the number of the class of tails by which it is known whether it is settled.
 #[derive(Clone, Copy)]
 pub struct Joint<'a> {
-    pub path: &'a Path,
+    pub head: &'a Path,
+    pub tail: &'a Path,
     pub class: PathClass,
     pub classes: u32,
     pub row: usize,
-    pub tail: usize,
+    pub tail_class: usize,
 }
 
-/// A path with its flights, and the classes that are open in every leg.
+/// The flights of a path, and the classes that are open in every leg.
 #[derive(Clone, Copy)]
 pub struct Flown<'a> {
-    pub path: &'a Path,
     pub flights: &'a [Flight],
     pub class: PathClass,
     pub classes: u32,
@@ -53,4 +55,13 @@ pub struct Serving<'a> {
     pub market: &'a Market,
     pub filed: Filed,
     pub reverse: bool,
+}
+
+/// A group that may cost less than its slot tells: its spot on the paths of a class, and the least share of its fares in
+/// the open classes.
+#[derive(Clone, Copy)]
+pub struct Wanted<'a> {
+    pub group: &'a FareGroup,
+    pub spot: Spot,
+    pub share: u64,
 }

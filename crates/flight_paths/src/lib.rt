@@ -21,4 +21,4 @@ pub use parts::{heads, tails};
 pub use paths::{component_paths, root_position, slice_paths};
 pub use positions::{Path, Position, SomeTails};
 pub use single::path_of;
-pub use visits::{PathVisitor, visit_paths};
+pub use visits::{PathVisitor, joined, visit_paths};

@@ -1,72 +1,20 @@
-use Rattle.std.proofs.Common.{ap, refl, subst, sym, ◌∙◌}
-use Rattle.component_table.specs.Tables.{HasRow, IsRowOf, Lowered}
+use Rattle.std.proofs.Common.{refl}
 use Rattle.component_table.specs.declared.growing.Spot.{Spot}
-use Rattle.component_table.specs.Blocks.{HasOutline, outline_of}
+use Rattle.component_table.specs.Blocks.{outline_of}
 use Rattle.component_table.proofs.BlockFacts.{block_outline, class_outline}
-use Rattle.component_table.proofs.GroupFacts.{free_below, group_below, group_dear, group_had, had_settled, has_row, low_classes, none_cheap, none_settled, rule_within, share_low}
-use Rattle.fare_groups.specs.Groups.{Permits, extra_of}
-use Rattle.fare_law.specs.RuleLimits.{IsRule}
-use Rattle.fare_law.specs.Parts.{stopover_charge, surcharges}
-use Rattle.fare_law.specs.Sheets.{Sheet}
-use Rattle.law_lemmas.proofs.LawFacts.{low_sum}
+use Rattle.component_table.proofs.GroupFacts.{group_below, had_settled, low_classes, none_cheap, none_settled}
+use Rattle.component_table.proofs.SettledFacts.{class_leads}
 use Rattle.law_lemmas.proofs.Numbers.{le_itself}
 use Rattle.component_table.proofs.adding.add_group.Goals as goal
 
 pub cheapest-requires : goal.cheapest-requires
-cheapest-requires c = low_classes c.args.origin.now.book.now c.args.origin.now.request.now c.args.origin.now.at.now c.args.flown.now c.args.serving.now.reverse c.args.serving.now.market.now c.args.group.now c.requires.over c.requires.group
+cheapest-requires c = low_classes c.args.origin.now.book.now c.args.origin.now.request.now c.args.flown.now c.args.serving.now.market.now c.args.group.now c.requires.over c.requires.group
 
 pub returns-in_default-clause-settled : goal.returns-in_default-clause-settled
-returns-in_default-clause-settled c = λ all. none_settled c.args.flown.now.path.now.after c.args.flown.now.flights.now c.args.flown.now.classes c.args.serving.now.reverse c.args.group.now c.args.table.now.entries.items c.in_default.ensures
+returns-in_default-clause-settled c = λ all. none_settled c.args.flown.now.class.after c.args.flown.now.flights.now c.args.flown.now.classes c.args.serving.now.reverse c.args.group.now c.args.table.now.entries.items c.in_default.ensures
 
 pub returns-in_default-clause-done : goal.returns-in_default-clause-done
-returns-in_default-clause-done c = λ p. none_cheap c.args.origin.now.book.now c.args.origin.now.request.now c.args.origin.now.at.now c.args.flown.now c.args.serving.now.reverse c.args.serving.now.market.now c.args.group.now c.requires.over c.requires.group c.args.table.now.entries.items c.in_default.ensures
-
-pub first_row-row-requires : goal.first_row-row-requires
-first_row-row-requires c =
-    subst (λ (s : Sheet). HasRow s.rows c.args.group.now) (sym c.deref-sheet.ensures) (has_row c.args.origin.now.book.now c.args.origin.now.request.now c.args.origin.now.at.now c.args.flown.now c.args.serving.now.reverse c.args.serving.now.market.now c.args.group.now c.requires.over c.requires.group)
-
-pub extra-requires-clause-rule : goal.extra-requires-clause-rule
-extra-requires-clause-rule c =
-    let row = c.first_row-row.result.now in
-    let of = subst (λ (s : Sheet). IsRowOf s.rows c.args.group.now row) c.deref-sheet.ensures c.first_row-row.ensures in
-    subst IsRule (sym c.deref.ensures) (rule_within c.args.origin.now.book.now c.args.origin.now.request.now c.args.origin.now.at.now c.args.flown.now c.args.serving.now.reverse c.args.serving.now.market.now c.args.group.now c.requires.over c.requires.group row of)
-
-pub sum-price-requires-clause-share : goal.sum-price-requires-clause-share
-sum-price-requires-clause-share c = share_low c.args.origin.now.book.now c.args.origin.now.request.now c.args.origin.now.at.now c.args.flown.now c.args.serving.now.reverse c.args.serving.now.market.now c.args.group.now c.requires.over c.requires.group c.in-Some.share c.in-Some.ensures
-
-pub sum-price-requires-clause-charges : goal.sum-price-requires-clause-charges
-sum-price-requires-clause-charges c =
-    let row = c.first_row-row.result.now in
-    let of = subst (λ (s : Sheet). IsRowOf s.rows c.args.group.now row) c.deref-sheet.ensures c.first_row-row.ensures in
-    let rule = subst IsRule (sym c.deref.ensures) (rule_within c.args.origin.now.book.now c.args.origin.now.request.now c.args.origin.now.at.now c.args.flown.now c.args.serving.now.reverse c.args.serving.now.market.now c.args.group.now c.requires.over c.requires.group row of) in
-    let r = c.deref.result.now in
-    let fs = c.args.flown.now.flights.now in
-    let few = c.requires.over.flown_is.count.1 in
-    low_sum (stopover_charge r fs) (surcharges r.cat12 fs) c.in-Some-extra.charges (c.limits_are_met.ensures.charged r fs rule few) (c.limits_are_met.ensures.surcharged r fs rule few) c.in-Some-extra.ensures.some.1
-
-pub put-requires-clause-outline : goal.put-requires-clause-outline
-put-requires-clause-outline c =
-    let blocks = c.args.table.now.blocks.items in
-    let spot : Spot = record { block = c.args.flown.now.block; key = c.args.group.now.key; reverse = c.args.serving.now.reverse; slot = c.args.slot } in
-    subst (HasOutline blocks spot) (sym c.outline_of-outline.ensures) (block_outline blocks c.args.flown.now.class spot c.requires.block)
-
-pub returns-clause-settled : goal.returns-clause-settled
-returns-clause-settled c = λ all.
-    let f = c.args.flown.now in
-    let l = c.in_ok-put.ensures.lowered in
-    let outline = class_outline f.class f.path.now.after f.flights.now c.args.group.now.key c.args.serving.now.reverse c.outline_of-outline.result c.requires.class c.outline_of-outline.ensures in
-    had_settled f.path.now.after f.flights.now f.classes c.args.serving.now.reverse c.args.group.now c.put.new.self.entries.items c.in-Some.share c.sum-price.result c.outline_of-outline.result c.in-Some.ensures outline l.has (free_below c.in-Some.share c.in-Some-extra.charges c.sum-price.result c.sum-price.ensures (c.is_free.ensures all))
-
-pub returns-clause-done : goal.returns-clause-done
-returns-clause-done c = λ p.
-    let f = c.args.flown.now in
-    let row = c.first_row-row.result.now in
-    let of = subst (λ (s : Sheet). IsRowOf s.rows c.args.group.now row) c.deref-sheet.ensures c.first_row-row.ensures in
-    let permits = subst (λ r. Permits r c.args.group.now.key.carrier f.flights.now) c.deref.ensures c.in-Some-extra.ensures.some.0 in
-    let extra = c.in-Some-extra.ensures.some.1 ∙ ap (λ r. extra_of r f.flights.now) c.deref.ensures in
-    let outline = class_outline f.class f.path.now.after f.flights.now c.args.group.now.key c.args.serving.now.reverse c.outline_of-outline.result c.requires.class c.outline_of-outline.ensures in
-    group_had c.args.origin.now.book.now c.args.origin.now.request.now c.args.origin.now.at.now f c.args.serving.now.reverse c.args.serving.now.market.now c.args.group.now c.requires.over c.requires.group p
-    c.args.table.now.entries.items c.put.new.self.entries.items row c.in-Some.share c.in-Some-extra.charges c.outline_of-outline.result of c.in-Some.ensures permits extra outline (subst (λ n. Lowered (record { outline = c.outline_of-outline.result; rule = row.rule; price = n }) c.args.table.now.entries.items c.put.new.self.entries.items) c.sum-price.ensures c.in_ok-put.ensures.lowered)
+returns-in_default-clause-done c = λ path p. none_cheap c.args.origin.now.book.now c.args.origin.now.request.now c.args.origin.now.at.now path c.args.flown.now c.args.serving.now.reverse c.args.serving.now.market.now c.args.group.now c.requires.over c.requires.group c.args.table.now.entries.items c.in_default.ensures
 
 pub returns-then-is_below-clause-settled : goal.returns-then-is_below-clause-settled
 returns-then-is_below-clause-settled c = λ all.
@@ -77,32 +25,20 @@ returns-then-is_below-clause-settled c = λ all.
     let share = c.in-Some.share in
     let o = outline_of f.class key r in
     let spot : Spot = record { block = f.block; key = key; reverse = r; slot = c.args.slot } in
-    had_settled f.path.now.after f.flights.now f.classes r c.args.group.now t.entries.items share share o c.in-Some.ensures (class_outline f.class f.path.now.after f.flights.now key r o c.requires.class refl)
+    had_settled f.class.after f.flights.now f.classes r c.args.group.now t.entries.items share share o c.in-Some.ensures (class_outline f.class f.class.after f.flights.now key r o c.requires.class refl)
     (c.is_below.ensures c.if-is_below.true c.requires.low o (block_outline t.blocks.items f.class spot c.requires.block)) (le_itself share)
 
 pub returns-then-is_below-clause-done : goal.returns-then-is_below-clause-done
-returns-then-is_below-clause-done c = λ p.
+returns-then-is_below-clause-done c = λ path p.
     let f = c.args.flown.now in
     let key = c.args.group.now.key in
     let r = c.args.serving.now.reverse in
     let t = c.args.table.now in
     let o = outline_of f.class key r in
     let spot : Spot = record { block = f.block; key = key; reverse = r; slot = c.args.slot } in
-    group_below c.args.origin.now.book.now c.args.origin.now.request.now c.args.origin.now.at.now f r c.args.serving.now.market.now c.args.group.now c.requires.over c.requires.group
-    t.entries.items c.in-Some.share o c.in-Some.ensures (class_outline f.class f.path.now.after f.flights.now key r o c.requires.class refl)
+    group_below c.args.origin.now.book.now c.args.origin.now.request.now c.args.origin.now.at.now path f r c.args.serving.now.market.now c.args.group.now c.requires.over c.requires.group
+    t.entries.items c.in-Some.share o c.in-Some.ensures (class_outline f.class path.after f.flights.now key r o (class_leads f.class path.after f.flights.now p.is_of.after_is c.requires.class) refl)
     (c.is_below.ensures c.if-is_below.true c.requires.low o (block_outline t.blocks.items f.class spot c.requires.block))
 
-pub returns-then-is_below-2-clause-done : goal.returns-then-is_below-2-clause-done
-returns-then-is_below-2-clause-done c = λ p.
-    let f = c.args.flown.now in
-    let key = c.args.group.now.key in
-    let r = c.args.serving.now.reverse in
-    let t = c.args.table.now in
-    let o = outline_of f.class key r in
-    let spot : Spot = record { block = f.block; key = key; reverse = r; slot = c.args.slot } in
-    let row = c.first_row-row.result.now in
-    let of = subst (λ (s : Sheet). IsRowOf s.rows c.args.group.now row) c.deref-sheet.ensures c.first_row-row.ensures in
-    let extra = c.in-Some-extra.ensures.some.1 ∙ ap (λ x. extra_of x f.flights.now) c.deref.ensures in
-    group_dear c.args.origin.now.book.now c.args.origin.now.request.now c.args.origin.now.at.now f r c.args.serving.now.market.now c.args.group.now c.requires.over c.requires.group
-    t.entries.items row c.in-Some.share c.in-Some-extra.charges c.sum-price.result o of c.in-Some.ensures extra (class_outline f.class f.path.now.after f.flights.now key r o c.requires.class refl) c.sum-price.ensures
-    (c.is_below-2.ensures c.if-is_below-2.true c.requires.low o (block_outline t.blocks.items f.class spot c.requires.block))
+pub ask_rule-requires-clause-wanted : goal.ask_rule-requires-clause-wanted
+ask_rule-requires-clause-wanted c = record { block_is = refl; key_is = refl; reverse_is = refl; share_is = c.in-Some.ensures }

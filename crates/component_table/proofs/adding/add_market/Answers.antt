@@ -8,14 +8,14 @@ use Rattle.law_lemmas.proofs.Members.{read_in}
 use Rattle.component_table.proofs.adding.add_market.Goals as goal
 
 pub returns-then-to-from-clause-done : goal.returns-then-to-from-clause-done
-returns-then-to-from-clause-done c = λ p s.
+returns-then-to-from-clause-done c = λ path p s.
     let b = c.args.origin.now.book.now in
     let flown = c.args.flown.now in
     let serving = c.args.serving.now in
     let old = c.args.table.now.entries.items in
     record {
       goes = goes_self b c.args.origin.now.request.now c.args.origin.now.at.now old;
-      has = groups_apart b flown.path.now flown.flights.now flown.classes serving.reverse old serving.market.now.groups s.carrier serving.filed c.requires.over.flown_is.count.0 s.first s.groups c.if-to-from.true;
+      has = groups_apart b path flown.flights.now flown.classes serving.reverse old serving.market.now.groups s.carrier serving.filed c.requires.over.flown_is.count.0 s.first s.groups c.if-to-from.true;
     }
 
 pub add_group-requires-clause-group : goal.add_group-requires-clause-group
@@ -42,20 +42,20 @@ loop-at-preserved c =
       low = c.in_ok-one.ensures.low;
       blocks = c.in_ok-one.ensures.blocks ∙ c.loop-at.invariant.blocks;
       covers = covers_on c.args.table.now.entries.items mid new c.loop-at.invariant.covers c.in_ok-one.ensures.covers;
-      settled = λ all. let both = c.are_both-settled.ensures all in groups_next f.path.now.after f.flights.now f.classes c.args.serving.now.reverse mid new c.in_ok-one.ensures.covers c.as_slice-groups.result.now c.args.serving.now.filed.from c.loop-at.at _ c.index-groups-at.result lt c.index-groups-at.is (c.loop-at.invariant.settled both.0) (c.in_ok-one.ensures.settled both.1);
-      done = λ p. between_more c.args.origin.now.book.now c.args.origin.now.request.now c.args.origin.now.at.now f c.args.serving.now.reverse c.as_slice-groups.result.now c.args.serving.now.filed.from c.loop-at.at _ c.index-groups-at.result
-          c.args.table.now.entries.items mid new lt c.index-groups-at.is (c.loop-at.invariant.done p) (c.in_ok-one.ensures.done p);
+      settled = λ all. let both = c.are_both-settled.ensures all in groups_next f.class.after f.flights.now f.classes c.args.serving.now.reverse mid new c.in_ok-one.ensures.covers c.as_slice-groups.result.now c.args.serving.now.filed.from c.loop-at.at _ c.index-groups-at.result lt c.index-groups-at.is (c.loop-at.invariant.settled both.0) (c.in_ok-one.ensures.settled both.1);
+      done = λ path p. between_more c.args.origin.now.book.now c.args.origin.now.request.now c.args.origin.now.at.now path f c.args.serving.now.reverse c.as_slice-groups.result.now c.args.serving.now.filed.from c.loop-at.at _ c.index-groups-at.result
+          c.args.table.now.entries.items mid new lt c.index-groups-at.is (c.loop-at.invariant.done path p) (c.in_ok-one.ensures.done path p);
     }
 
 pub returns-clause-done : goal.returns-clause-done
-returns-clause-done c = λ p s.
+returns-clause-done c = λ path p s.
     let b = c.args.origin.now.book.now in
     let flown = c.args.flown.now in
     let serving = c.args.serving.now in
     let new = c.loop-at.table.entries.items in
-    let put = c.loop-at.invariant.done p in
+    let put = c.loop-at.invariant.done path p in
     record {
       goes = put.goes;
-      has = groups_between b flown.path.now flown.flights.now flown.classes serving.reverse new serving.market.now.groups s.carrier serving.filed c.requires.over.flown_is.count.0 s.first s.groups
+      has = groups_between b path flown.flights.now flown.classes serving.reverse new serving.market.now.groups s.carrier serving.filed c.requires.over.flown_is.count.0 s.first s.groups
           (λ i g got low high. put.has i g (ap (λ l. slice_get l i) c.as_slice-groups.ensures ∙ got) low (omega (arith, high, c.loop-at-test.false)));
     }

@@ -5,9 +5,10 @@ use Rattle.component_table.specs.Reaches.{IsEnd}
 use Rattle.component_table.proofs.PathFacts.{path_numbers}
 use Rattle.component_table.proofs.ReachFacts.{end_stands}
 use Rattle.component_table.proofs.Served.{closed_added, reaches_as, unserved_added}
-use Rattle.component_table.proofs.SettledFacts.{of_class}
+use Rattle.component_table.proofs.SettledFacts.{class_itself, of_class}
 use Rattle.fare_law.specs.Parts.{Numbers}
 use Rattle.law_lemmas.proofs.Lists.{got_within}
+use Rattle.law_lemmas.proofs.Options.{on_ok}
 use Rattle.component_table.proofs.adding.add_path.Goals as goal
 
 pub returns-in_default-clause-done : goal.returns-in_default-clause-done
@@ -62,11 +63,12 @@ add_landed-requires-clause-landed c =
     let is = end_stands b c.args.origin.now.at.now.place key c.find.new.self.markets.kept.items c.find.new.self.ends.items c.in_ok-at.at e c.in_ok-at.ensures.end (ap (λ xs. slice_get xs c.in_ok-at.at) (sym c.as_slice-ends.ensures.value) ∙ c.end_at-end.ensures) in
     let own = is.key_is ∙ c.key_of.ensures in
     record {
-      end = subst (λ ms. IsEnd b c.args.origin.now.at.now.place ms e) (sym c.as_slice.ensures.value) is.end;
-      classes = λ fs m. c.in_ok-classes.ensures.classes fs (subst (λ l. Numbers b l fs) (sym c.as_slice-numbers.ensures.items) m);
-      class = λ fs m.
-          let own = subst (λ l. Numbers b l fs) (sym c.as_slice-numbers.ensures.items) m in
-          of_class c.class_of.result c.in-Some.first.now c.in-Some-last_flight.last.now c.args.path.now.after fs c.class_of.ensures (c.in-Some.ensures.some fs own) (c.in-Some-last_flight.ensures.some.1 fs own);
+      end = subst (λ ms. IsEnd b c.args.origin.now.at.now.place ms e) (sym c.as_slice-markets.ensures.value) is.end;
+      classes = λ fs m. c.in_ok-classes.ensures.classes fs m;
+      class = λ fs m. class_itself c.class_of.result c.args.path.now.after fs (of_class c.class_of.result c.in-Some.first.now c.in-Some-last_flight.last.now c.args.path.now.after fs c.class_of.ensures (c.in-Some.ensures.some fs m) (c.in-Some-last_flight.ensures.some.1 fs m));
       place_is = ap (λ (x : PathClass). x.end) c.class_of.ensures ∙ sym (ap (λ (x : EndKey). x.place) own);
       carrier_is = ap (λ (x : PathClass). x.carrier) c.class_of.ensures ∙ sym (ap (λ (x : EndKey). x.carrier) own);
     }
+
+pub returns-clause-done : goal.returns-clause-done
+returns-clause-done c = on_ok c.add_landed.result _ _ (λ d. d c.args.path.now (sym c.as_slice-numbers.ensures.items) (sym (ap (λ (x : PathClass). x.after) c.class_of.ensures))) c.add_landed.ensures.done

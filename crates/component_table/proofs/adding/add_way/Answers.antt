@@ -27,16 +27,16 @@ returns-in-Some-clause-done c =
     let same = some_one (slice_get ms f.market) found.at.market m found.at.stands c.market_at-market.ensures in
     let is : IsOver b q flown m = record { flown_is = c.requires.flown; market_is = each_in (IsMarket b) ms m c.requires.markets (got_in ms f.market m c.market_at-market.ensures); limited = c.limits.ensures } in
     on_ok c.add_market.result _ _
-    (λ d path begins ends.
-    let over : IsPathOver b q at flown r m = record {
-      path = path;
-      market = market_over b q at flown r (record { from = end_from r p e.key.place; to = end_to r p e.key.place }) ms f.market m found.at c.market_at-market.ensures (path_over b q at flown.path.now.flights flown.flights.now flown.path.now.after e.key.place path ends r);
+    (λ d way of begins ends.
+    let over : IsPathOver b q at way flown r m = record {
+      is_of = of;
+      market = market_over b q at way flown r (record { from = end_from r p e.key.place; to = end_to r p e.key.place }) ms f.market m found.at c.market_at-market.ensures (path_over b q at way.flights flown.flights.now way.after e.key.place of.path_is ends r);
     } in
-    way_done b q at flown r m c.args.table.now.entries.items c.add_market.new.table.entries.items is over (d over (record { carrier = e.key.carrier; first = begins; groups = subst (λ (x : Market). StandBetween x.groups e.key.carrier f) same found.groups })))
+    way_done b q at way flown r m c.args.table.now.entries.items c.add_market.new.table.entries.items is over (d way over (record { carrier = e.key.carrier; first = begins; groups = subst (λ (x : Market). StandBetween x.groups e.key.carrier f) same found.groups })))
     c.add_market.ensures.done
 
 pub returns-in-None-clause-done : goal.returns-in-None-clause-done
-returns-in-None-clause-done c = λ path begins ends.
+returns-in-None-clause-done c = λ way of begins ends.
     let b = c.args.origin.now.book.now in
     let at = c.args.origin.now.at.now in
     let p = at.place in
@@ -45,4 +45,4 @@ returns-in-None-clause-done c = λ path begins ends.
     let ms = c.args.markets.now in
     let flown = c.args.flown.now in
     let none = subst (λ o. MatchOption o (NoFare b (end_from r p e.key.place) (end_to r p e.key.place)) (FiledAt ms (record { from = end_from r p e.key.place; to = end_to r p e.key.place }) e.key.carrier)) (sym c.filed_of.ensures ∙ c.in-None.is) (end_found b p ms e r c.requires.end) in
-    none_done b c.args.origin.now.request.now at flown r (end_from r p e.key.place) (end_to r p e.key.place) c.args.table.now.entries.items (path_over b c.args.origin.now.request.now at flown.path.now.flights flown.flights.now flown.path.now.after e.key.place path ends r) none
+    none_done b c.args.origin.now.request.now at way flown r (end_from r p e.key.place) (end_to r p e.key.place) c.args.table.now.entries.items (path_over b c.args.origin.now.request.now at way.flights flown.flights.now way.after e.key.place of.path_is ends r) none

@@ -1,6 +1,6 @@
-use Rattle.std.proofs.Common.{◌≡◌, ◌++◌, ◌∷◌, [], List, Some, slice_get, ap, sym, subst, ◌∙◌}
+use Rattle.std.proofs.Common.{◌≡◌, ◌++◌, ◌∷◌, [], List, Some, slice_get, ap, refl, sym, subst, ◌∙◌}
 use Rattle.flight_paths.specs.declared.positions.Path.{Path}
-use Rattle.flight_paths.specs.Heads.{AreRest, IsJoined, Saw}
+use Rattle.flight_paths.specs.Heads.{AreRest, IsJoined, Saw, joined_path}
 use Rattle.flight_paths.specs.Plans.{plan_book}
 use Rattle.flight_paths.proofs.Seeing.{on_ok, rest_not, rest_one, saw_none, saw_one}
 use Rattle.law_lemmas.proofs.Lists.{got_read}
@@ -15,19 +15,15 @@ follows-requires-clause-tail g c =
     let t = c.index-all-number.result in
     c.requires.tails t (got_read all n t c.requires.number ∙ ap Some (sym c.index-all-number.is))
 
-pub visit_after-requires : goal.visit_after-requires
-visit_after-requires g c =
+pub visit_after-requires-clause-known : goal.visit_after-requires-clause-known
+visit_after-requires-clause-known g c =
     let all = c.args.all.now in
     let n = c.args.number in
     let t = c.index-all-number.result in
-    record {
-      tails = all;
-      known = c.requires.knows;
-      tail = t;
-      stands = got_read all n t c.requires.number ∙ ap Some (sym c.index-all-number.is);
-      flights = c.joined.ensures.flights;
-      after = c.joined.ensures.after;
-    }
+    record { tails = all; known = c.requires.knows; stands = got_read all n t c.requires.number ∙ ap Some (sym c.index-all-number.is) }
+
+pub visit_after-requires-clause-few : goal.visit_after-requires-clause-few
+visit_after-requires-clause-few g c = (c.follows.ensures.0 c.if-not-follows.false).few
 
 pub returns-then-not-follows : goal.returns-then-not-follows
 returns-then-not-follows g c = λ t got.
@@ -53,11 +49,9 @@ returns g c =
     let x = c.index-all-number.result in
     let old = g.V.PathVisitor.told c.args.visitor.now in
     let new = g.V.PathVisitor.told c.visit_after.new.self in
-    let joined : IsJoined b sl at h x c.joined.result = record { follows = c.follows.ensures.0 c.if-not-follows.false; numbers = c.joined.ensures.flights; after = c.joined.ensures.after } in
-    on_ok ((before : List Path) → old before → new (before ++ c.joined.result ∷ [])) ((t : Path) → slice_get all n ≡ Some t → Saw old new (AreRest b sl at h (t ∷ []))) c.visit_after.result c.visit_after.ensures
+    let whole = joined_path h x in
+    let joined : IsJoined b sl at h x whole = record { follows = c.follows.ensures.0 c.if-not-follows.false; numbers = refl; after = refl } in
+    on_ok ((before : List Path) → old before → new (before ++ whole ∷ [])) ((t : Path) → slice_get all n ≡ Some t → Saw old new (AreRest b sl at h (t ∷ []))) c.visit_after.result c.visit_after.ensures
     (λ told t got.
     let same = some_same x t (sym (got_read all n x c.requires.number ∙ ap Some (sym c.index-all-number.is)) ∙ got) in
-    subst (λ y. Saw old new (AreRest b sl at h (y ∷ []))) same (saw_one old new (AreRest b sl at h (x ∷ [])) c.joined.result told (rest_one b sl at h x c.joined.result joined)))
-
-pub joined-requires : goal.joined-requires
-joined-requires g c = (c.follows.ensures.0 c.if-not-follows.false).few
+    subst (λ y. Saw old new (AreRest b sl at h (y ∷ []))) same (saw_one old new (AreRest b sl at h (x ∷ [])) whole told (rest_one b sl at h x whole joined)))
