@@ -5,11 +5,10 @@ use Rattle.component_table.specs.declared.markets.MarketKey.{MarketKey}
 use Rattle.component_table.specs.declared.ways.Flown.{Flown}
 use Rattle.component_table.specs.Markets.{StandsAt}
 use Rattle.component_table.specs.Tails.{HasNoFares}
-use Rattle.component_table.specs.Tables.{GoesOn, GroupDone, HasGroup, HasPut, IsDone, IsEntry, IsOfPath, IsOver, IsPathFrom, IsPathOver, IsTable, MarketDone, PathAdded, PutsIn, WayDone}
+use Rattle.component_table.specs.Tables.{HasPut, IsDone, IsEntry, IsOfPath, IsOver, IsPathFrom, IsPathOver, IsTable, MarketDone, PathAdded, PutsIn, WayDone}
 use Rattle.component_table.proofs.GroupFacts.{path_some}
-use Rattle.component_table.proofs.Lower.{goes_on, goes_self, has_group_on, path_done_on}
+use Rattle.component_table.proofs.Lower.{goes_on, goes_self, path_done_on}
 use Rattle.fare_book.specs.Keeping.{NoFare}
-use Rattle.fare_groups.specs.declared.group.FareGroup.{FareGroup}
 use Rattle.fare_law.specs.declared.flights.Flight.{Flight}
 use Rattle.fare_law.specs.declared.requests.Request.{Request}
 use Rattle.fare_law.specs.declared.names.Place.{Place}

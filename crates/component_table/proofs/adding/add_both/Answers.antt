@@ -1,7 +1,6 @@
-use Rattle.std.proofs.Common.{false, refl, subst, sym, ◌≡◌}
+use Rattle.std.proofs.Common.{false, refl, subst}
 use Rattle.component_table.specs.declared.ways.Flown.{Flown}
-use Rattle.component_table.specs.Classes.{BothSettled}
-use Rattle.component_table.specs.Tables.{Covers, IsFlown, IsOfPath, PathAdded}
+use Rattle.component_table.specs.Tables.{Covers, IsOfPath, PathAdded}
 use Rattle.component_table.proofs.Lower.{covers_on}
 use Rattle.component_table.proofs.PathFacts.{path_added}
 use Rattle.component_table.proofs.SettledFacts.{both_ways, lands_flown, reaches_end, way_on}

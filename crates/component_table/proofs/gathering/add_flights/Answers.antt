@@ -1,4 +1,4 @@
-use Rattle.std.proofs.Common.{◌≡◌, ◌+◌, [], ◌∷◌, ◌++◌, get_or, append_assoc, append-nil, length, length-append, option_copied, slice_get, take, ap, refl, subst, sym, ◌∙◌, arith}
+use Rattle.std.proofs.Common.{[], ◌∷◌, ◌++◌, get_or, append_assoc, append-nil, length, length-append, option_copied, slice_get, take, ap, subst, sym, ◌∙◌, arith}
 use Rattle.std.proofs.lemmas.List.{take_all}
 use Rattle.component_table.proofs.Collected.{number_known, numbers_long, numbers_next}
 use Rattle.fare_law.specs.Book.{flight_at}
