@@ -1,18 +1,18 @@
 //! The order in which the entries of a table are kept.
 ghost use Rattle.std.specs.List.Sorted.{IsPermutation};
 
-use fare_law::{Carrier, EndOnEnd, List};
+use fare_law::{CombineRule, EndOnEnd, List};
 use flight_paths::Position;
 use outlines::Entry;
 
-/// What entries are put in order by. Those that close units alike have all of it in common but the price.
+/// What entries are put in order by, in two numbers. Those that close units alike have all of it in common but the price;
+/// so have a few others, which are then put among them.
 #[derive(Clone, Copy, PartialEq, Eq, PartialOrd, Ord)]
 struct EntryOrder {
-    reverse: bool,
-    carrier: Carrier,
-    ends: u8,
-    after: Option<Position>,
-    price: u64,
+    /// Where they lead, and the letters of the carrier.
+    leads: u64,
+    /// Which way they are filed, what they ask of the whole ticket, and the price.
+    costs: u64,
 }
 
 /// The entries so that those that close units alike stand together, and the cheapest of them stands first: the list of an
@@ -26,23 +26,32 @@ pub fn in_order(entries: List<Entry>) -> List<Entry>
 }
 
 fn order_of(entry: &Entry) -> EntryOrder {
+    let outline = &entry.outline;
+    let [a, b] = outline.carrier.0;
+    let range = range_of(&outline.after);
+    let way = u64::from(outline.reverse) << 2 | end_number(&entry.rule.cat10);
     EntryOrder {
-        reverse: entry.outline.reverse,
-        carrier: entry.outline.carrier,
-        ends: match &entry.rule.cat10 {
-            Some(combine) => end_number(combine.end_on_end),
-            None => 0,
-        },
-        after: entry.outline.after,
-        price: entry.price,
+        leads: range << 16 | u64::from(u16::from_le_bytes([a, b])),
+        costs: way << 61 | entry.price,
     }
 }
 
-/// A number for an end.
-fn end_number(ends: EndOnEnd) -> u8 {
-    match ends {
-        EndOnEnd::Free => 0,
-        EndOnEnd::SameCarrier => 1,
-        EndOnEnd::Never => 2,
+/// The range of a position as a number: of long ranges the last digits are left out.
+fn range_of(after: &Option<Position>) -> u64 {
+    match after {
+        Some(at) => u64::from(at.lo) << 20 ^ u64::from(at.hi) << 2 ^ u64::from(at.leg),
+        None => 0,
+    }
+}
+
+/// A number for what category 10 asks of the whole ticket.
+fn end_number(combine: &Option<CombineRule>) -> u64 {
+    match combine {
+        Some(combine) => match combine.end_on_end {
+            EndOnEnd::Free => 0,
+            EndOnEnd::SameCarrier => 1,
+            EndOnEnd::Never => 2,
+        },
+        None => 0,
     }
 }
