@@ -1,12 +1,12 @@
 //! Passes over small stores, and keys of one leg and one row.
-ghost use Rattle.std.specs.Prelude.{◌≤◌, IfOk};
+ghost use Rattle.std.specs.Prelude.{◌≡◌, ◌≤◌, IfOk};
 ghost use Rattle.fare_component.specs.Keys.{IsKey};
 
 use fare_law::{
     ArrayVec, Basis, Carrier, Fare, FareKey, FareKind, Flight, Leg, List, MarketSheet, Mem,
     OfferKey, Place, Rule, Shared, SheetRow,
 };
-use node_publish::{Kept, Node, NodeStore, asks_same};
+use node_publish::{Kept, Node, NodeStore, StorePass, asks_same};
 use std::alloc::Global;
 use std::sync::Arc;
 use std::test::Fail;
@@ -81,6 +81,36 @@ fn kept(kept: Kept) -> Option<u64> {
     }
 }
 
+/// The price of what a pass keeps of the node of that key, or `None` where there is no room.
+fn keep(
+    alloc: Global,
+    store: &NodeStore,
+    pass: &mut StorePass,
+    amount: u32,
+) -> Result<Option<u64>, Mem>
+    requires pass { pass.old.cells ≡ store.now }
+    requires amount { amount ≤ 1000000000 }
+    ensures { pass.new.cells ≡ pass.old.cells }
+{
+    let node = node(alloc, amount)?;
+    Ok(kept(store.keep(alloc, pass, &node)?))
+}
+
+/// The price of what a pass finds by that key.
+fn find(
+    alloc: Global,
+    store: &NodeStore,
+    pass: &mut StorePass,
+    amount: u32,
+) -> Result<Option<u64>, Mem>
+    requires pass { pass.old.cells ≡ store.now }
+    requires amount { amount ≤ 1000000000 }
+    ensures { pass.new.cells ≡ pass.old.cells }
+{
+    let key = key(alloc, amount)?;
+    Ok(store.find(pass, &key).and_then(price))
+}
+
 #[test]
 fn tells_keys(rt: HostRuntime) -> Result<(), Fail> {
     let alloc = rt.alloc();
@@ -94,23 +124,25 @@ fn tells_keys(rt: HostRuntime) -> Result<(), Fail> {
 #[test]
 fn keeps_in_one_cell(rt: HostRuntime) -> Result<(), Fail> {
     let alloc = rt.alloc();
-    let one = node(alloc, 20000)?;
-    let other = node(alloc, 15000)?;
-    let asked = key(alloc, 20000)?;
     let store = NodeStore::new(alloc, 1)?;
     let mut first = store.pass(alloc)?;
-    assert!(rt; store.find(&mut first, &asked).is_none());
-    assert_eq!(rt; kept(store.keep(alloc, &mut first, &one)?), Some(20000));
+    assert_eq!(rt; find(alloc, &store, &mut first, 20000)?, None);
+    assert_eq!(rt; keep(alloc, &store, &mut first, 20000)?, Some(20000));
     let mut second = store.pass(alloc)?;
-    assert_eq!(rt;
-        kept(store.keep(alloc, &mut second, &node(alloc, 20000)?)?),
-        Some(20000)
-    );
-    assert_eq!(rt; kept(store.keep(alloc, &mut second, &other)?), None);
-    assert_eq!(rt; kept(store.keep(alloc, &mut second, &other)?), None);
-    assert!(rt; store.find(&mut second, &other.key).is_none());
-    let mut third = store.pass(alloc)?;
-    assert_eq!(rt; store.find(&mut third, &asked).and_then(price), Some(20000));
+    assert_eq!(rt; keep(alloc, &store, &mut second, 20000)?, Some(20000));
+    assert_eq!(rt; find(alloc, &store, &mut second, 20000)?, Some(20000));
+    Ok(())
+}
+
+#[test]
+fn has_no_room_for_another(rt: HostRuntime) -> Result<(), Fail> {
+    let alloc = rt.alloc();
+    let store = NodeStore::new(alloc, 1)?;
+    let mut pass = store.pass(alloc)?;
+    assert_eq!(rt; keep(alloc, &store, &mut pass, 20000)?, Some(20000));
+    assert_eq!(rt; keep(alloc, &store, &mut pass, 15000)?, None);
+    assert_eq!(rt; keep(alloc, &store, &mut pass, 15000)?, None);
+    assert_eq!(rt; find(alloc, &store, &mut pass, 15000)?, None);
     Ok(())
 }
 
@@ -120,10 +152,8 @@ fn keeps_what_two_passes_built(rt: HostRuntime) -> Result<(), Fail> {
     let store = NodeStore::new(alloc, 16)?;
     let mut first = store.pass(alloc)?;
     let mut second = store.pass(alloc)?;
-    let one = node(alloc, 20000)?;
-    let other = node(alloc, 20000)?;
-    assert_eq!(rt; kept(store.keep(alloc, &mut first, &one)?), Some(20000));
-    assert_eq!(rt; kept(store.keep(alloc, &mut second, &other)?), Some(20000));
+    assert_eq!(rt; keep(alloc, &store, &mut first, 20000)?, Some(20000));
+    assert_eq!(rt; keep(alloc, &store, &mut second, 20000)?, Some(20000));
     Ok(())
 }
 
