@@ -1,5 +1,5 @@
 //! Passes of one board.
-ghost use Rattle.std.specs.Prelude.{◌≡◌, ◌≤◌, None, IfOk};
+ghost use Rattle.std.specs.Prelude.{◌≡◌, ◌≤◌, None, IfOk, IsSome, IsTrue};
 
 use crate::cases::{ROUND_TRIP, TWO_CARRIERS, case_of};
 use fare_law::{Gate, Mem, NoGate, Why};
@@ -76,20 +76,55 @@ fn built_for_best(alloc: Global, board: &Board, pass: &mut BoardPass) -> Result<
     Ok(gate.built.load(Ordering::SeqCst))
 }
 
+/// How many nodes two passes built: each in turn for the work, and then each for its answer.
+fn built_in_turn(
+    alloc: Global,
+    board: &Board,
+    first: &mut BoardPass,
+    second: &mut BoardPass,
+) -> Result<[u64; 4], Fail>
+    requires first { (first.old.of ≡ board.now.slots) × (first.old.held ≡ None) }
+    requires second { (second.old.of ≡ board.now.slots) × (second.old.held ≡ None) }
+    ensures first { first.new ≡ first.old }
+    ensures second { second.new ≡ second.old }
+{
+    let made = first.work(alloc, board)?;
+    let again = second.work(alloc, board)?;
+    let one = built_for_best(alloc, board, first)?;
+    let other = built_for_best(alloc, board, second)?;
+    Ok([u64::from(made), u64::from(again), one, other])
+}
+
 /// What the first pass built, the second finds; neither builds anything for its answer.
 #[test]
 fn shares_nodes(rt: HostRuntime) -> Result<(), Fail> {
-    let alloc = rt.alloc();
     let (board, mut first, mut second) = open(&rt, TWO_CARRIERS, 2, 1_000_000, 64)?;
-    assert!(rt; first.work(alloc, &board)? > 0);
-    assert_eq!(rt; second.work(alloc, &board)?, 0);
-    assert_eq!(rt; built_for_best(alloc, &board, &mut first)?, 0);
-    assert_eq!(rt; built_for_best(alloc, &board, &mut second)?, 0);
-    assert_eq!(rt; first.number(&board), 7);
-    assert_eq!(rt; second.number(&board), 7);
+    let built = built_in_turn(rt.alloc(), &board, &mut first, &mut second)?;
+    let numbers = [first.number(&board), second.number(&board)];
     first.join(&board, second);
     assert_eq!(rt; first.number(&board), 7);
+    assert_eq!(rt; numbers, [7, 7]);
+    assert!(rt; built[0] > 0);
+    assert_eq!(rt; [built[1], built[2], built[3]], [0, 0, 0]);
     Ok(())
+}
+
+/// Whether one pass has the one slot out, and how many nodes another builds for its answer meanwhile.
+fn built_while_held(
+    alloc: Global,
+    board: &Board,
+    first: &mut BoardPass,
+    second: &mut BoardPass,
+) -> Result<(bool, u64), Fail>
+    requires slots { board.now.slots.board.slots ≡ 1 }
+    requires first { (first.old.of ≡ board.now.slots) × (first.old.held ≡ None) }
+    requires second { (second.old.of ≡ board.now.slots) × (second.old.held ≡ None) }
+    ensures first { IfOk result (λ r. IsTrue r.0 → (first.new.of ≡ board.now.slots) × IsSome first.new.held) }
+    ensures second { second.new ≡ second.old }
+{
+    let is_held = first.hold(board, 0);
+    let built = built_for_best(alloc, board, second)?;
+    Ok((is_held, built))
 }
 
 /// While a pass has the one slot out, another finds nothing there, builds for itself and answers the same.
@@ -97,27 +132,50 @@ fn shares_nodes(rt: HostRuntime) -> Result<(), Fail> {
 fn answers_without_a_held_node(rt: HostRuntime) -> Result<(), Fail> {
     let alloc = rt.alloc();
     let (board, mut first, mut second) = open(&rt, TWO_CARRIERS, 2, 1_000_000, 1)?;
-    assert!(rt; !first.hold(&board, 0));
-    assert!(rt; first.work(alloc, &board)? > 0);
-    assert!(rt; first.hold(&board, 0));
-    assert!(rt; !second.hold(&board, 0));
-    assert!(rt; built_for_best(alloc, &board, &mut second)? > 0);
+    let is_empty = !first.hold(&board, 0);
+    if !is_empty {
+        return Err(Fail::new("a node in an empty slot"));
+    }
+    let worked = first.work(alloc, &board)?;
+    let (is_held, built) = built_while_held(alloc, &board, &mut first, &mut second)?;
+    if !is_held {
+        return Err(Fail::new("no node to hold"));
+    }
+    let is_there = second.hold(&board, 0);
+    if is_there {
+        return Err(Fail::new("one node twice"));
+    }
     first.release(&board);
     assert!(rt; second.hold(&board, 0));
+    assert!(rt; worked > 0);
+    assert!(rt; built > 0);
     Ok(())
 }
 
-/// Three residuals are over a budget of two, and a party of none is no request, for which nothing is built.
+/// The fault of an answer of a board.
+fn fault(alloc: Global, board: &Board, pass: &mut BoardPass) -> Option<SearchFault>
+    requires { (pass.old.of ≡ board.now.slots) × (pass.old.held ≡ None) }
+{
+    pass.answer(alloc, board, &NoGate).err()
+}
+
+/// Three residuals are over a budget of two.
 #[test]
-fn refuses_as_a_search_does(rt: HostRuntime) -> Result<(), Fail> {
-    let alloc = rt.alloc();
+fn refuses_what_is_too_large(rt: HostRuntime) -> Result<(), Fail> {
     let (board, mut pass, _other) = open(&rt, ROUND_TRIP, 1, 2, 64)?;
-    let answer = pass.answer(alloc, &board, &NoGate);
-    assert_eq!(rt; answer.err(), Some(SearchFault::TooLarge));
+    let fault = fault(rt.alloc(), &board, &mut pass);
+    assert_eq!(rt; fault, Some(SearchFault::TooLarge));
+    Ok(())
+}
+
+/// A party of none is no request, for which nothing is built.
+#[test]
+fn refuses_a_party_of_none(rt: HostRuntime) -> Result<(), Fail> {
     let (board, mut pass, _other) = open(&rt, ROUND_TRIP, 0, 3, 64)?;
-    assert_eq!(rt; pass.work(alloc, &board)?, 0);
-    let answer = pass.answer(alloc, &board, &NoGate);
-    assert_eq!(rt; answer.err(), Some(SearchFault::BadRequest(Why::Party)));
+    let worked = pass.work(rt.alloc(), &board)?;
+    let fault = fault(rt.alloc(), &board, &mut pass);
+    assert_eq!(rt; worked, 0);
+    assert_eq!(rt; fault, Some(SearchFault::BadRequest(Why::Party)));
     Ok(())
 }
 
