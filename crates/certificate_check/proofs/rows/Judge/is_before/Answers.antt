@@ -12,7 +12,7 @@ returns c =
     let t = c.args.self.now.parts.now in
     let k = c.args.one.now in
     let l = c.args.other.now in
-    let law = c.ranks_order.ensures t c.args.self.now.ranks k l (residual_at t k) (residual_at t l) c.requires.ranks (stands t k c.requires.one) (stands t l c.requires.other) in
-    let first = subst (λ (z : SortKey). IsTrue c.is_below.result ↔ (sort_key.cmp-value.it z c.of-2.result ≡ Less)) c.of.ensures c.is_below.ensures in
-    let told = subst (λ (z : SortKey). IsTrue c.is_below.result ↔ (sort_key.cmp-value.it (rank_of c.args.self.now.ranks k) z ≡ Less)) c.of-2.ensures first in
+    let law = c.ranks_order.ensures t c.args.self.now.ranks k l (residual_at t k) (residual_at t l) c.requires.ranks (stands t k c.requires.one) (stands t l c.requires.other) c.of.ensures.letters c.of-2.ensures.letters in
+    let first = subst (λ (z : SortKey). IsTrue c.is_below.result ↔ (sort_key.cmp-value.it z c.of-2.result ≡ Less)) c.of.ensures.value c.is_below.ensures in
+    let told = subst (λ (z : SortKey). IsTrue c.is_below.result ↔ (sort_key.cmp-value.it (rank_of c.args.self.now.ranks k) z ≡ Less)) c.of-2.ensures.value first in
     (λ h. law.0 (told.0 h), λ h. told.1 (law.1 h))
