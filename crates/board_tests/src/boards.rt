@@ -1,5 +1,5 @@
 //! Passes of one board.
-ghost use Rattle.std.specs.Prelude.{◌≡◌, ◌≤◌, None, IfOk, IsSome, IsTrue};
+ghost use Rattle.std.specs.Prelude.{◌≡◌, ◌≤◌, None, IfOk};
 
 use crate::cases::{ROUND_TRIP, TWO_CARRIERS, case_of};
 use fare_law::{Gate, Mem, NoGate, Why};
@@ -40,7 +40,7 @@ fn open(
     ensures first { IfOk result (λ r. (r.1.of ≡ r.0.slots) × (r.1.held ≡ None)) }
     ensures second { IfOk result (λ r. (r.2.of ≡ r.0.slots) × (r.2.held ≡ None)) }
 {
-    let case = case_of(rt, text)?;
+    let case = case_of(rt.alloc(), text)?;
     let mut request = case.request;
     request.party = party;
     let book = Arc::new(rt.alloc(), case.book)?;
@@ -109,24 +109,6 @@ fn shares_nodes(rt: HostRuntime) -> Result<(), Fail> {
     Ok(())
 }
 
-/// Whether one pass has the one slot out, and how many nodes another builds for its answer meanwhile.
-fn built_while_held(
-    alloc: Global,
-    board: &Board,
-    first: &mut BoardPass,
-    second: &mut BoardPass,
-) -> Result<(bool, u64), Fail>
-    requires slots { board.now.slots.board.slots ≡ 1 }
-    requires first { (first.old.of ≡ board.now.slots) × (first.old.held ≡ None) }
-    requires second { (second.old.of ≡ board.now.slots) × (second.old.held ≡ None) }
-    ensures first { IfOk result (λ r. IsTrue r.0 → (first.new.of ≡ board.now.slots) × IsSome first.new.held) }
-    ensures second { second.new ≡ second.old }
-{
-    let is_held = first.hold(board, 0);
-    let built = built_for_best(alloc, board, second)?;
-    Ok((is_held, built))
-}
-
 /// While a pass has the one slot out, another finds nothing there, builds for itself and answers the same.
 #[test]
 fn answers_without_a_held_node(rt: HostRuntime) -> Result<(), Fail> {
@@ -137,10 +119,11 @@ fn answers_without_a_held_node(rt: HostRuntime) -> Result<(), Fail> {
         return Err(Fail::new("a node in an empty slot"));
     }
     let worked = first.work(alloc, &board)?;
-    let (is_held, built) = built_while_held(alloc, &board, &mut first, &mut second)?;
+    let is_held = first.hold(&board, 0);
     if !is_held {
         return Err(Fail::new("no node to hold"));
     }
+    let built = built_for_best(alloc, &board, &mut second)?;
     let is_there = second.hold(&board, 0);
     if is_there {
         return Err(Fail::new("one node twice"));

@@ -1,6 +1,7 @@
 //! The books and requests of three cases.
+ghost use Rattle.std.specs.Prelude.{◌<◌, length};
+
 use std::alloc::Global;
-use std::process::Abort;
 use std::test::Fail;
 use whole_case::{SearchCase, load_search_case};
 
@@ -62,9 +63,22 @@ QX,101,LON,*,Y9
 #end
 "#;
 
-/// The book and the request of a case.
-pub fn case_of(rt: &(impl Abort + AllocGlobal), text: &str) -> Result<SearchCase, Fail> {
+/// The book and the request of a short case.
+pub fn case_of(alloc: Global, text: &str) -> Result<SearchCase, Fail> {
     let bytes = text.as_bytes();
-    assert!(rt; bytes.len() < 10_000);
-    Ok(load_search_case(rt.alloc(), bytes, None, None)?)
+    if bytes.len() < 10_000 {
+        loaded(alloc, bytes)
+    } else {
+        Err(Fail::new("a long case"))
+    }
+}
+
+/// The book and the request that bytes spell.
+fn loaded(alloc: Global, bytes: &[u8]) -> Result<SearchCase, Fail>
+    requires { length bytes.now < 10000 }
+{
+    match load_search_case(alloc, bytes, None, None) {
+        Ok(case) => Ok(case),
+        Err(_) => Err(Fail::new("no case")),
+    }
 }

@@ -28,7 +28,7 @@ fn world_of(
     text: &str,
     desks: u32,
 ) -> Result<(World, Request), Fail> {
-    let case = case_of(rt, text)?;
+    let case = case_of(rt.alloc(), text)?;
     let world = World::new(rt.alloc(), case.book, desks)?;
     Ok((world, case.request))
 }
