@@ -6,7 +6,7 @@ use Rattle.component_table.specs.declared.growing.Slot.{Slot}
 use Rattle.component_table.specs.declared.growing.Spot.{Spot}
 use Rattle.component_table.specs.declared.ways.Flown.{Flown}
 use Rattle.component_table.specs.declared.ways.Wanted.{Wanted}
-use Rattle.component_table.specs.Blocks.{AreSlots, HasBlock, HasOutline, IsSlot, IsSlotOf, TellsNoMore, TellsOne, outline_of}
+use Rattle.component_table.specs.Blocks.{AreSlots, HasBlock, HasOutline, IsSlot, IsSlotOf, TellsNoMore, TellsOne, outline_of, whole_class}
 use Rattle.component_table.specs.Classes.{IsOfClass}
 use Rattle.component_table.specs.Tables.{Covers, HasBelow, IsWanted}
 use Rattle.fare_groups.specs.declared.group.GroupKey.{GroupKey}
@@ -78,11 +78,11 @@ class_outline c after fs key r o is e = subst (λ (z : Outline). OutlineOver z a
 })
 
 -- the outline of a class is that of its block's spots
-pub block_outline : (blocks : List Block) (c : PathClass) (spot : Spot) → HasBlock blocks c spot.block → HasOutline blocks spot (outline_of c spot.key spot.reverse)
+pub block_outline : (blocks : List Block) (c : PathClass) (spot : Spot) → HasBlock blocks (whole_class c) spot.block → HasOutline blocks spot (outline_of c spot.key spot.reverse)
 block_outline blocks c spot h = record { one = h.one; stands = h.stands; outline = ap (λ x. outline_of x spot.key spot.reverse) (sym h.class_is) }
 
 -- so is that of a group that is wanted
-pub wanted_outline : (blocks : List Block) (flown : Flown) (r : Bool) (w : Wanted) → IsWanted flown r w → HasBlock blocks flown.class flown.block → HasOutline blocks w.spot (outline_of flown.class w.group.now.key r)
+pub wanted_outline : (blocks : List Block) (flown : Flown) (r : Bool) (w : Wanted) → IsWanted flown r w → HasBlock blocks (whole_class flown.class) flown.block → HasOutline blocks w.spot (outline_of flown.class w.group.now.key r)
 wanted_outline blocks flown r w is h = record {
   one = h.one;
   stands = ap (slice_get blocks) is.block_is ∙ h.stands;

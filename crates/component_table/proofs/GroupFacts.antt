@@ -1,10 +1,15 @@
 -- A group that is put in on the flights of a path.
-use Rattle.std.proofs.Common.{◌≡◌, ◌≢◌, ℕ, ℤ, pos, ◌+◌, ◌≤◌, Bool, List, [], ◌∷◌, length, All, Option, Some, None, IsBitSet, refl, sym, ap, subst, ◌∙◌, arith}
+use Rattle.std.proofs.Common.{◌≡◌, ◌≢◌, ℕ, ℤ, pos, ◌+◌, ◌≤◌, ◌≤ℤ◌, Bool, List, [], ◌∷◌, length, All, Option, Some, None, IsBitSet, refl, sym, ap, subst, ◌∙◌, arith}
+use Rattle.std.proofs.lemmas.Int.{ints}
 use Rattle.std.proofs.lemmas.List.Elements.{All-head, All-tail}
+use Rattle.component_table.specs.declared.classes.PathClass.{PathClass}
 use Rattle.component_table.specs.declared.markets.Market.{Market}
+use Rattle.component_table.specs.declared.settled.SettledClass.{SettledClass}
 use Rattle.component_table.specs.declared.ways.Flown.{Flown}
-use Rattle.component_table.specs.Classes.{GroupSettled}
+use Rattle.component_table.specs.Blocks.{outline_of}
+use Rattle.component_table.specs.Classes.{GroupSettled, IsOfClass}
 use Rattle.component_table.specs.Tables.{GroupDone, HasBelow, HasGroup, HasRow, IsEntry, IsOver, IsPathOver, IsRowOf, Lowered}
+use Rattle.component_table.proofs.BlockFacts.{class_outline}
 use Rattle.component_table.proofs.Lower.{goes_lowered, goes_self}
 use Rattle.fare_groups.specs.declared.group.FareGroup.{FareGroup}
 use Rattle.fare_groups.specs.declared.group.GroupKey.{GroupKey}
@@ -13,7 +18,9 @@ use Rattle.fare_groups.specs.Grouping.{Cheapest, IsGroup}
 use Rattle.fare_groups.specs.Groups.{Permits, extra_of}
 use Rattle.fare_groups.proofs.OneGroup.{classes_are_low, fares_are_rows}
 use Rattle.fare_law.specs.declared.flights.Flight.{Flight}
+use Rattle.fare_law.specs.declared.names.Carrier.{Carrier}
 use Rattle.fare_law.specs.declared.requests.Request.{Request}
+use Rattle.fare_law.specs.declared.rules.Rule.{Rule}
 use Rattle.fare_law.specs.declared.sheets.SheetRow.{SheetRow}
 use Rattle.fare_law.specs.Book.{Book, live_rule}
 use Rattle.fare_law.specs.Limits.{IsFlight}
@@ -32,7 +39,6 @@ use Rattle.rule_unit.specs.Ranges.{IsDayWithin}
 use Rattle.law_lemmas.proofs.EachOne.{each_from, each_in}
 use Rattle.law_lemmas.proofs.LawFacts.{low_share}
 use Rattle.law_lemmas.proofs.Members.{got_in}
-use Rattle.law_lemmas.proofs.Numbers.{le_on}
 use Rattle.law_lemmas.proofs.Options.{some_one}
 use Rattle.residual_keys.proofs.NamesKept.{day_within}
 
@@ -58,21 +64,40 @@ last_day o [] a h = absurd h
 last_day o (f ∷ []) a h = subst (IsDayWithin (pos 99000)) (sym h.1) (day_within f.day (All-head IsFlight f [] a).day)
 last_day o (f ∷ g ∷ fs) a h = last_day o (g ∷ fs) (All-tail IsFlight f (g ∷ fs) a) h
 
--- a group stands at no more than the shares of its fares in these classes: where none has one of them, where it was found so, or where it was put in without charges
-module _ (after : Option Position) (fs : List Flight) (classes : ℕ) (reverse : Bool) (g : FareGroup) (table : List Entry) where
-  pub none_settled : Cheapest classes g.fares None → GroupSettled after fs classes reverse g table
-  none_settled none fare i open_class = absurd (each_in (λ (f : GroupedFare). IsBitSet classes f.class → ⊥) g.fares fare none i open_class)
+-- a group is settled for a class of paths and these classes of seats: where no fare of it has one of them, where it stands at no more than their shares, or where its rule permits no path of the class
+module _ (b : Book) (s : SettledClass) (reverse : Bool) (g : FareGroup) (table : List Entry) where
+  pub none_settled : Cheapest s.classes g.fares None → GroupSettled b s reverse g table
+  none_settled none rule live fs of permits fare i open_class = absurd (each_in (λ (f : GroupedFare). IsBitSet s.classes f.class → ⊥) g.fares fare none i open_class)
 
-  pub had_settled : (mine price : ℕ) (o : Outline) → Cheapest classes g.fares (Some mine) → OutlineOver o after fs g.key reverse → HasBelow table o price → price ≤ mine → GroupSettled after fs classes reverse g table
-  had_settled mine price o cheap oo has low fare i open_class = (
+  pub had_settled : (mine price : ℕ) (o : Outline) → Cheapest s.classes g.fares (Some mine) → o ≡ outline_of s.class g.key reverse → HasBelow table o price
+      → ((rule : Rule) → live_rule b g.key.carrier g.key.number ≡ Some rule → (fs : List Flight) → IsOfClass s.class s.class.after fs → price ≤ mine + extra_of rule fs) → GroupSettled b s reverse g table
+  had_settled mine price o cheap is has low rule live fs of permits fare i open_class = (
     has.entry,
     has.within,
-    subst (λ (z : Outline). OutlineOver z after fs g.key reverse) (sym has.outline) oo,
-    le_on has.entry.price price fare.share has.below (le_on price mine fare.share low (each_in (λ (f : GroupedFare). IsBitSet classes f.class → mine ≤ f.share) g.fares fare cheap.below i open_class)),
+    subst (λ (z : Outline). OutlineOver z s.class.after fs g.key reverse) (sym has.outline) (class_outline s.class s.class.after fs g.key reverse o of is),
+    dearer has.entry.price price mine fare.share (extra_of rule fs) has.below (low rule live fs of) (each_in (λ (f : GroupedFare). IsBitSet s.classes f.class → mine ≤ f.share) g.fares fare cheap.below i open_class),
   )
+    where
+      dearer : (had price mine share extra : ℕ) → had ≤ price → price ≤ mine + extra → mine ≤ share → had ≤ share + extra
+      dearer had price mine share extra h k l = omega (arith, h, k, l)
 
-pub free_below : (mine charges price : ℕ) → price ≡ mine + charges → charges ≡ 0 → price ≤ mine
-free_below mine charges price e free = omega (arith, e, free)
+  pub barred_settled : (own : Rule) → live_rule b g.key.carrier g.key.number ≡ Some own → ((carrier : Carrier) (fs : List Flight) → IsOfClass s.class s.class.after fs → Permits own carrier fs → ⊥) → GroupSettled b s reverse g table
+  barred_settled own is barred rule live fs of permits fare i open_class =
+      absurd (barred g.key.carrier fs of (subst (λ (r : Rule). Permits r g.key.carrier fs) (some_one (live_rule b g.key.carrier g.key.number) rule own live is) permits))
+
+-- the paths of a class depart on a day of the calendar
+pub class_day : (c : PathClass) (after : Option Position) (fs : List Flight) → IsOfClass c after fs → All IsFlight fs → pos 0 ≤ℤ c.first
+class_day c after [] is limits = absurd is.first
+class_day c after (f ∷ fs) is limits =
+    let day = (All-head IsFlight f fs limits).day.0 in
+    subst (λ d. pos 0 ≤ℤ d) is.first.0 (omega (arith, ints, day))
+
+-- a share with no charges, or with charges that are the least
+pub share_alone : (mine extra : ℕ) → mine ≤ mine + extra
+share_alone mine extra = omega arith
+
+pub least_below : (mine charges price extra : ℕ) → price ≡ mine + charges → charges ≤ extra → price ≤ mine + extra
+least_below mine charges price extra e least = omega (arith, e, least)
 
 module _ (b : Book) (q : Request) (flown : Flown) (m : Market) (g : FareGroup) (is : IsOver b q flown m) (i : IsIn g m.groups) where
   live_of : (row : SheetRow) → IsIn row m.sheet.value.rows → IsLiveRow b m.sheet.value.from m.sheet.value.to row

@@ -1,11 +1,13 @@
 -- A path of a head and a tail, by what is known of the two.
-use Rattle.std.proofs.Common.{◌≡◌, ℕ, List, [], ◌∷◌, ◌++◌, All, Option, IsBitSet, bit_and, refl, sym, ap, subst, ◌∙◌}
+use Rattle.std.proofs.Common.{◌≡◌, ℕ, ℤ, pos, ◌+◌, ◌≤◌, ◌+ℤ◌, ◌≤ℤ◌, ◌<ℤ◌, Bool, true, false, cond, int_lt, List, [], ◌∷◌, ◌++◌, All, Option, IsBitSet, bit_and, refl, sym, ap, subst, ◌∙◌, arith}
+use Rattle.std.proofs.lemmas.Int.{ints}
 use Rattle.std.proofs.lemmas.List.Elements.{All-append, All-cons, All-nil, All-head, All-tail}
 use Rattle.component_table.specs.declared.kinds.TailClass.{TailClass}
 use Rattle.component_table.specs.declared.kinds.TailKind.{TailKind}
+use Rattle.component_table.specs.declared.rows.HeadClass.{HeadClass}
 use Rattle.component_table.specs.declared.rows.HeadKind.{HeadKind}
 use Rattle.component_table.specs.Classes.{IsOfClass}
-use Rattle.component_table.specs.Kinds.{IsKindOf, joined_class}
+use Rattle.component_table.specs.Kinds.{BeginsFrom, IsKindOf, joined_class}
 use Rattle.component_table.specs.Rows.{IsHeadOf}
 use Rattle.component_table.specs.Tables.{AddsFlights, HasLegs}
 use Rattle.fare_groups.proofs.Bits.{both_set}
@@ -15,10 +17,11 @@ use Rattle.fare_law.specs.declared.sheets.Leg.{Leg}
 use Rattle.fare_law.specs.Book.{Book}
 use Rattle.fare_law.specs.Lists.{Matched, OnFirst, OnLast}
 use Rattle.fare_law.specs.Offers.{flights_of}
-use Rattle.fare_law.specs.Parts.{Numbers}
+use Rattle.fare_law.specs.Parts.{Numbers, stopovers}
 use Rattle.flight_paths.specs.declared.positions.Path.{Path}
 use Rattle.flight_paths.specs.declared.positions.Position.{Position}
 use Rattle.residual_keys.specs.AskedKeys.{IsLeg}
+use Rattle.law_lemmas.proofs.Tests.{int_lt_is, lt_int_lt}
 
 -- the flights of the one's numbers and of the other's
 pub record Halves (b : Book) (ns ms : List ℕ) (fs : List Flight) : Type 0 where
@@ -93,15 +96,32 @@ legs_both b q fs gs here there h k = record {
 joined_classes : (b : Book) (q : Request) (ns ms : List ℕ) (here there : ℕ) → ((fs : List Flight) → Numbers b ns fs → HasLegs b q fs here) → ((fs : List Flight) → Numbers b ms fs → HasLegs b q fs there) → (fs : List Flight) → Numbers b (ns ++ ms) fs → HasLegs b q fs (bit_and here there)
 joined_classes b q ns ms here there h k fs m = let x = halves b ns ms fs m in subst (λ gs. HasLegs b q gs (bit_and here there)) (sym x.parts) (legs_both b q x.front x.back here there (h x.front x.fronts) (k x.back x.backs))
 
+-- flights stop over between a part that arrives a day before an instant and one that doesn't depart before it
+stop_between : (rest from : ℤ) (fs gs : List Flight) → rest <ℤ from → OnLast (λ f. (f.arr +ℤ pos 1440) ≤ℤ rest) fs → OnFirst (λ f. from ≤ℤ f.dep) gs → 1 ≤ stopovers (fs ++ gs)
+stop_between rest from [] gs lt h k = absurd h
+stop_between rest from (f ∷ []) [] lt h k = absurd k
+stop_between rest from (f ∷ []) (g ∷ gs) lt h k = subst (λ (x : Bool). 1 ≤ cond x 1 0 + stopovers (g ∷ gs)) (sym (lt_int_lt (f.arr +ℤ pos 1440) g.dep (omega (arith, ints, lt, h, k)))) (omega arith)
+stop_between rest from (f ∷ e ∷ fs) gs lt h k = let more = stop_between rest from (e ∷ fs) gs lt h k in omega (arith, more)
+
+-- so that they have the stopovers of their class
+stops_joined : (h : HeadClass) (c : TailClass) (fs gs : List Flight) → OnLast (λ f. (f.arr +ℤ pos 1440) ≤ℤ h.rest) fs → BeginsFrom c gs → (joined_class h c).stops ≤ stopovers (fs ++ gs)
+stops_joined h c fs gs last begins = by_test (int_lt h.rest c.from) refl
+  where
+    by_test : (x : Bool) → int_lt h.rest c.from ≡ x → cond x 1 0 ≤ stopovers (fs ++ gs)
+    by_test true e = stop_between h.rest c.from fs gs (int_lt_is h.rest c.from e) last begins
+    by_test false e = omega arith
+
 module _ (b : Book) (q : Request) (ns : List ℕ) (h : HeadKind) (classes : List TailClass) (tail : Path) (k : TailKind) (head : IsHeadOf b q ns h) (kind : IsKindOf b q classes tail k) where
   -- the class of a path that goes on from a head by a tail
-  pub joint_class : (after : Option Position) → after ≡ tail.after → (fs : List Flight) → Numbers b (ns ++ tail.flights) fs → IsOfClass (joined_class h.carrier h.first kind.class) after fs
+  pub joint_class : (after : Option Position) → after ≡ tail.after → (fs : List Flight) → Numbers b (ns ++ tail.flights) fs → IsOfClass (joined_class h.class kind.class) after fs
   joint_class after same fs m =
       let x = halves b ns tail.flights fs m in
+      let first = head x.front x.fronts in
       record {
         after_is = same ∙ sym kind.after;
-        first = subst (OnFirst (λ f. (f.day ≡ h.first) × (f.carrier ≡ h.carrier))) (sym x.parts) (first_left (λ f. (f.day ≡ h.first) × (f.carrier ≡ h.carrier)) x.front x.back (head x.front x.fronts).first);
+        first = subst (OnFirst (λ f. (f.day ≡ h.class.first) × (f.carrier ≡ h.class.carrier))) (sym x.parts) (first_left (λ f. (f.day ≡ h.class.first) × (f.carrier ≡ h.class.carrier)) x.front x.back first.first);
         last = subst (OnLast (λ f. (f.to ≡ kind.class.end) × (f.day ≡ kind.class.last))) (sym x.parts) (last_right (λ f. (f.to ≡ kind.class.end) × (f.day ≡ kind.class.last)) x.front x.back (kind.ends x.back x.backs));
+        stops = subst (λ gs. (joined_class h.class kind.class).stops ≤ stopovers gs) (sym x.parts) (stops_joined h.class kind.class x.front x.back first.last (kind.begins x.back x.backs));
       }
 
   -- and the classes of seats that are open in all its flights

@@ -1,5 +1,5 @@
 -- Paths of a head and a tail that add nothing to a table, by what is known of the two.
-use Rattle.std.proofs.Common.{◌≡◌, ◌⊎◌, ℕ, ℤ, ◌+◌, zero, suc, List, [], ◌∷◌, ◌++◌, length, length-append, set, slice_get, Option, Some, None, IfSome, Bool, true, false, bit_and, refl, sym, ap, subst, ◌∙◌, inl, inr, ◌<◌, ◌≤◌, arith}
+use Rattle.std.proofs.Common.{◌≡◌, ◌⊎◌, ℕ, ◌+◌, zero, suc, List, [], ◌∷◌, ◌++◌, length, length-append, set, slice_get, Option, Some, None, IfSome, Bool, true, false, bit_and, refl, sym, ap, subst, ◌∙◌, inl, inr, ◌<◌, ◌≤◌, arith}
 use Rattle.component_table.specs.declared.classes.PathClass.{PathClass}
 use Rattle.component_table.specs.declared.ends.End.{End}
 use Rattle.component_table.specs.declared.ends.EndKey.{EndKey}
@@ -7,6 +7,7 @@ use Rattle.component_table.specs.declared.kinds.Kinds.{Kinds}
 use Rattle.component_table.specs.declared.kinds.TailClass.{TailClass}
 use Rattle.component_table.specs.declared.kinds.TailKind.{TailKind}
 use Rattle.component_table.specs.declared.markets.Market.{Market}
+use Rattle.component_table.specs.declared.rows.HeadClass.{HeadClass}
 use Rattle.component_table.specs.declared.rows.HeadKind.{HeadKind}
 use Rattle.component_table.specs.declared.rows.MetHead.{MetHead}
 use Rattle.component_table.specs.declared.rows.Row.{Row}
@@ -29,7 +30,6 @@ use Rattle.component_table.proofs.SettledFacts.{class_on, reaches_end, settled_a
 use Rattle.component_table.proofs.SomeLegs.{no_class}
 use Rattle.fare_book.specs.Keeping.{Limited}
 use Rattle.fare_law.specs.declared.flights.Flight.{Flight}
-use Rattle.fare_law.specs.declared.names.Carrier.{Carrier}
 use Rattle.fare_law.specs.declared.requests.Request.{Request}
 use Rattle.fare_law.specs.Book.{Book}
 use Rattle.fare_law.specs.Parts.{Numbers}
@@ -48,36 +48,34 @@ below_or_from (suc n) (suc i) = elim (below_or_from n i) [ inl h ↦ inl (omega 
 module _ (b : Book) (q : Request) (at : Position) where
   -- where the class of the two is done for what is open in both
   pub tail_nothing : (ns : List ℕ) (h : HeadKind) (classes : List TailClass) (tail : Path) (k : TailKind) (c : TailClass) (mask : ℕ) (table : List Entry) → IsHeadOf b q ns h → IsKindOf b q classes tail k → slice_get classes k.class ≡ Some c
-      → ClassDone b q at (record { class = joined_class h.carrier h.first c; classes = mask }) table → AreAmong (bit_and h.classes k.classes) mask → AddsNothing b q at (ns ++ tail.flights) tail.after table
+      → ClassDone b q at (record { class = joined_class h.class c; classes = mask }) table → AreAmong (bit_and h.classes k.classes) mask → AddsNothing b q at (ns ++ tail.flights) tail.after table
   tail_nothing ns h classes tail k c mask table head kind got done among path flights after p =
       let same = some_one (slice_get classes k.class) kind.class c kind.stands got in
-      let own = subst (λ (x : TailClass). ClassDone b q at (record { class = joined_class h.carrier h.first x; classes = mask }) table) (sym same) done in
-      settled_added b q at path (record { class = joined_class h.carrier h.first kind.class; classes = mask }) (bit_and h.classes k.classes) table own
+      let own = subst (λ (x : TailClass). ClassDone b q at (record { class = joined_class h.class x; classes = mask }) table) (sym same) done in
+      settled_added b q at path (record { class = joined_class h.class kind.class; classes = mask }) (bit_and h.classes k.classes) table own
       (λ fs m. joint_class b q ns h classes tail k head kind path.after after fs (subst (λ l. Numbers b l fs) flights m))
       (λ fs m. joint_legs b q ns h classes tail k head kind fs (subst (λ l. Numbers b l fs) flights m)) among
 
   -- what is done for the head's carrier and day is done for its row's
-  pub done_in_row : (rows : List Row) (h : HeadKind) (c : TailClass) (mask : ℕ) (table : List Entry) → IsRowAt rows h.carrier h.first h.row → (one : Row) → slice_get rows h.row ≡ Some one
-      → ClassDone b q at (record { class = joined_class h.carrier h.first c; classes = mask }) table → ClassDone b q at (record { class = joined_class one.carrier one.first c; classes = mask }) table
+  pub done_in_row : (rows : List Row) (h : HeadKind) (c : TailClass) (mask : ℕ) (table : List Entry) → IsRowAt rows h.class h.row → (one : Row) → slice_get rows h.row ≡ Some one
+      → ClassDone b q at (record { class = joined_class h.class c; classes = mask }) table → ClassDone b q at (record { class = joined_class one.class c; classes = mask }) table
   done_in_row rows h c mask table row one stands done =
       let same = some_one (slice_get rows h.row) row.row one row.stands stands in
-      subst (λ (r : Row). ClassDone b q at (record { class = joined_class r.carrier r.first c; classes = mask }) table) same
-      (subst (λ x. ClassDone b q at (record { class = joined_class x row.row.first c; classes = mask }) table) (sym row.carrier_is)
-      (subst (λ d. ClassDone b q at (record { class = joined_class h.carrier d c; classes = mask }) table) (sym row.first_is) done))
+      subst (λ (r : Row). ClassDone b q at (record { class = joined_class r.class c; classes = mask }) table) same
+      (subst (λ x. ClassDone b q at (record { class = joined_class x c; classes = mask }) table) (sym row.class_is) done)
 
   -- where the head's row knows enough classes of seats for the tail's class
   pub known_nothing : (ns : List ℕ) (h : HeadKind) (classes : List TailClass) (tails : List Path) (kinds : List TailKind) (rows : List Row) (number : ℕ) (table : List Entry) → IsHeadOf b q ns h → AreKindsOf b q tails classes kinds → AreRows b q at classes table rows
-      → (row : IsRowAt rows h.carrier h.first h.row) → IsKnownTail kinds row.row.masks.items h.classes number → TailAddsNothing b q at tails table ns number
+      → (row : IsRowAt rows h.class h.row) → IsKnownTail kinds row.row.masks.items h.classes number → TailAddsNothing b q at tails table ns number
   known_nothing ns h classes tails kinds rows number table head are rights row known tail got =
       let kind = are number known.kind tail known.stands got in
       let done = each_in (IsRow b q at classes table) rows row.row rights (got_in rows h.row row.row row.stands) known.kind.class known.mask kind.class known.known kind.stands in
-      let own = subst (λ d. ClassDone b q at (record { class = joined_class h.carrier d kind.class; classes = known.mask }) table) row.first_is
-      (subst (λ x. ClassDone b q at (record { class = joined_class x row.row.first kind.class; classes = known.mask }) table) row.carrier_is done) in
+      let own = subst (λ x. ClassDone b q at (record { class = joined_class x kind.class; classes = known.mask }) table) row.class_is done in
       tail_nothing ns h classes tail known.kind kind.class known.mask table head kind kind.stands own known.among
 
   -- the tails before a place add nothing, where those before another do and a row tells it of those between
   pub nothing_to : (ns : List ℕ) (h : HeadKind) (classes : List TailClass) (tails : List Path) (kinds : List TailKind) (rows : List Row) (numbers : List ℕ) (from to : ℕ) (table : List Entry) → IsHeadOf b q ns h → AreKindsOf b q tails classes kinds → AreRows b q at classes table rows
-      → (row : IsRowAt rows h.carrier h.first h.row) → ((i number : ℕ) → from ≤ i → i < to → slice_get numbers i ≡ Some number → IsKnownTail kinds row.row.masks.items h.classes number)
+      → (row : IsRowAt rows h.class h.row) → ((i number : ℕ) → from ≤ i → i < to → slice_get numbers i ≡ Some number → IsKnownTail kinds row.row.masks.items h.classes number)
       → ((i number : ℕ) → i < from → slice_get numbers i ≡ Some number → TailAddsNothing b q at tails table ns number) → (i number : ℕ) → i < to → slice_get numbers i ≡ Some number → TailAddsNothing b q at tails table ns number
   nothing_to ns h classes tails kinds rows numbers from to table head are rights row known before i number lt got = elim (below_or_from from i) [
     | inl k ↦ before i number k got
@@ -104,7 +102,7 @@ module _ (b : Book) (q : Request) (at : Position) where
 
   -- a row stays right as the table grows
   pub rows_on : (classes : List TailClass) (old new : List Entry) (rows : List Row) → Covers old new → AreRows b q at classes old rows → AreRows b q at classes new rows
-  rows_on classes old new rows covers h = each_from (IsRow b q at classes new) rows (λ row i n mask c got known. class_on b q at (record { class = joined_class row.carrier row.first c; classes = mask }) old new covers (each_in (IsRow b q at classes old) rows row h i n mask c got known))
+  rows_on classes old new rows covers h = each_from (IsRow b q at classes new) rows (λ row i n mask c got known. class_on b q at (record { class = joined_class row.class c; classes = mask }) old new covers (each_in (IsRow b q at classes old) rows row h i n mask c got known))
 
 -- the rows stay right as the table grows
 pub has_rows_on : (b : Book) (q : Request) (at : Position) (classes : List TailClass) (old new : List Entry) (r : Rows) → Covers old new → HasRows b q at classes old r → HasRows b q at classes new r
@@ -118,49 +116,44 @@ set_stands (z ∷ zs) zero (suc n) old new x e g = (x, g, inl refl)
 set_stands (z ∷ zs) (suc i) zero old new x e g = (x, g, inl refl)
 set_stands (z ∷ zs) (suc i) (suc n) old new x e g = set_stands zs i n old new x e g
 
-module _ (rows : List Row) (i : ℕ) (old new : Row) (stands : slice_get rows i ≡ Some old) (carrier_same : new.carrier ≡ old.carrier) (first_same : new.first ≡ old.first) where
-  -- each row keeps its carrier and day
-  pub row_at_set : (carrier : Carrier) (first : ℤ) (n : ℕ) → IsRowAt rows carrier first n → IsRowAt (set rows i new) carrier first n
-  row_at_set carrier first n h =
+module _ (rows : List Row) (i : ℕ) (old new : Row) (stands : slice_get rows i ≡ Some old) (class_same : new.class ≡ old.class) where
+  -- each row keeps its class
+  pub row_at_set : (head : HeadClass) (n : ℕ) → IsRowAt rows head n → IsRowAt (set rows i new) head n
+  row_at_set head n h =
       let y = set_stands rows i n old new h.row stands h.stands in
       elim y.2 [
-        | inl e ↦ record { row = y.0; stands = y.1; carrier_is = ap (λ (r : Row). r.carrier) e ∙ h.carrier_is; first_is = ap (λ (r : Row). r.first) e ∙ h.first_is }
-        | inr e ↦ record {
-          row = y.0;
-          stands = y.1;
-          carrier_is = ap (λ (r : Row). r.carrier) e.0 ∙ carrier_same ∙ ap (λ (r : Row). r.carrier) (sym e.1) ∙ h.carrier_is;
-          first_is = ap (λ (r : Row). r.first) e.0 ∙ first_same ∙ ap (λ (r : Row). r.first) (sym e.1) ∙ h.first_is;
-        }
+        | inl e ↦ record { row = y.0; stands = y.1; class_is = ap (λ (r : Row). r.class) e ∙ h.class_is }
+        | inr e ↦ record { row = y.0; stands = y.1; class_is = ap (λ (r : Row). r.class) e.0 ∙ class_same ∙ ap (λ (r : Row). r.class) (sym e.1) ∙ h.class_is }
       ]
 
   pub met_set : (b : Book) (q : Request) (o : Option MetHead) → IfSome o (IsMet b q rows) → IfSome o (IsMet b q (set rows i new))
   met_set b q None h = tt
-  met_set b q (Some x) h = record { known = h.known; row = row_at_set x.kind.carrier x.kind.first x.kind.row h.row }
+  met_set b q (Some x) h = record { known = h.known; row = row_at_set x.kind.class x.kind.row h.row }
 
   -- a row in which one more is known
   pub rows_put : (b : Book) (q : Request) (at : Position) (classes : List TailClass) (table : List Entry) (class mask : ℕ) (c : TailClass) → PutsMask class mask old.masks.items new.masks.items → slice_get classes class ≡ Some c
-      → ClassDone b q at (record { class = joined_class old.carrier old.first c; classes = mask }) table → AreRows b q at classes table rows → AreRows b q at classes table (set rows i new)
+      → ClassDone b q at (record { class = joined_class old.class c; classes = mask }) table → AreRows b q at classes table rows → AreRows b q at classes table (set rows i new)
   rows_put b q at classes table class mask c puts known done h =
       each_from (IsRow b q at classes table) (set rows i new) (λ row within. elim (set_only rows i new row within) [
         | inl k ↦ each_in (IsRow b q at classes table) rows row h k
         | inr e ↦ subst (IsRow b q at classes table) (sym e) own
       ])
     where
-      DoneFor : Carrier → ℤ → TailClass → ℕ → Type 0
-      DoneFor carrier first k m = ClassDone b q at (record { class = joined_class carrier first k; classes = m }) table
+      DoneFor : HeadClass → TailClass → ℕ → Type 0
+      DoneFor head k m = ClassDone b q at (record { class = joined_class head k; classes = m }) table
 
       was : IsRow b q at classes table old
       was = each_in (IsRow b q at classes table) rows old h (got_in rows i old stands)
 
-      now_for : (k : TailClass) (m : ℕ) → DoneFor old.carrier old.first k m → DoneFor new.carrier new.first k m
-      now_for k m d = subst (λ x. DoneFor x new.first k m) (sym carrier_same) (subst (λ d. DoneFor old.carrier d k m) (sym first_same) d)
+      now_for : (k : TailClass) (m : ℕ) → DoneFor old.class k m → DoneFor new.class k m
+      now_for k m d = subst (λ x. DoneFor x k m) (sym class_same) d
 
       own : IsRow b q at classes table new
       own n m k got at_n = elim (puts n m got) [
         | inl e ↦ now_for k m (was n m k e at_n)
         | inr e ↦
             let same = some_one (slice_get classes class) c k known (ap (slice_get classes) (sym e.0) ∙ at_n) in
-            now_for k m (subst (λ x. DoneFor old.carrier old.first x m) same (subst (λ x. DoneFor old.carrier old.first c x) (sym e.1) done))
+            now_for k m (subst (λ x. DoneFor old.class x m) same (subst (λ x. DoneFor old.class c x) (sym e.1) done))
       ]
 
 -- one row more, in which nothing is known
@@ -189,8 +182,8 @@ module _ (b : Book) (q : Request) (at : Position) (table : List Entry) (r : Rows
       own : (fs : List Flight) → Numbers b (j.head.now.flights ++ j.tail.now.flights) fs → Numbers b (head.flights ++ tail.flights) fs
       own fs m = subst (λ (t : Path). Numbers b (head.flights ++ t.flights) fs) x.path_is (subst (λ (h : Path). Numbers b (h.flights ++ j.tail.now.flights) fs) x.head_is m)
 
-      class : j.class ≡ joined_class x.head.kind.carrier x.head.kind.first kind.class
-      class = x.class_is ∙ ap (λ (c : TailClass). joined_class x.head.kind.carrier x.head.kind.first c) (some_one (slice_get ks.classes.items x.kind.class) x.tail kind.class x.tail_stands kind.stands)
+      class : j.class ≡ joined_class x.head.kind.class kind.class
+      class = x.class_is ∙ ap (λ (c : TailClass). joined_class x.head.kind.class c) (some_one (slice_get ks.classes.items x.kind.class) x.tail kind.class x.tail_stands kind.stands)
 
   pub joint_of : IsJointOf ks.classes.items r.kept.items j
   joint_of = record {
@@ -199,7 +192,7 @@ module _ (b : Book) (q : Request) (at : Position) (table : List Entry) (r : Rows
     row = λ one got.
         let row = joint_head.row in
         let same = some_one (slice_get r.kept.items x.head.kind.row) row.row one row.stands (ap (slice_get r.kept.items) (sym x.row_is) ∙ got) in
-        x.class_is ∙ ap (λ d. joined_class x.head.kind.carrier d x.tail) (sym row.first_is) ∙ ap (λ e. joined_class e row.row.first x.tail) (sym row.carrier_is) ∙ ap (λ (y : Row). joined_class y.carrier y.first x.tail) same;
+        x.class_is ∙ ap (λ d. joined_class d x.tail) (sym row.class_is) ∙ ap (λ (y : Row). joined_class y.class x.tail) same;
   }
 
 -- the flights of a head and a tail land where their class ends

@@ -1,5 +1,5 @@
 -- Classes of paths that are settled: when one is, and that it stays so as the table grows.
-use Rattle.std.proofs.Common.{◌≡◌, ◌⊎◌, ℕ, ℤ, ◌+◌, ◌<◌, ◌≤◌, All, Bool, true, false, List, [], ◌∷◌, length, get_or, slice_get, Option, Some, None, IsBitSet, bit_and, refl, sym, ap, subst, ◌∙◌, inl, inr, arith}
+use Rattle.std.proofs.Common.{◌≡◌, ◌⊎◌, ℕ, ◌+◌, ◌<◌, ◌≤◌, All, Bool, true, false, List, [], ◌∷◌, length, get_or, slice_get, Option, Some, None, IsBitSet, bit_and, refl, sym, ap, subst, ◌∙◌, inl, inr, arith}
 use Rattle.std.specs.Int.{IsInRange}
 use Rattle.component_table.specs.declared.classes.PathClass.{PathClass}
 use Rattle.component_table.specs.declared.ends.End.{End}
@@ -8,7 +8,7 @@ use Rattle.component_table.specs.declared.markets.Market.{Market}
 use Rattle.component_table.specs.declared.settled.SettledClass.{SettledClass}
 use Rattle.component_table.specs.declared.ways.Flown.{Flown}
 use Rattle.component_table.specs.declared.ways.Landed.{Landed}
-use Rattle.component_table.specs.Classes.{AreAmong, AreSettled, BothSettled, ClassDone, GroupSettled, GroupsSettled, IsLanded, IsOfClass, LandsBy, WaySettled}
+use Rattle.component_table.specs.Classes.{AreAmong, AreSettled, BothSettled, ClassDone, GroupSettled, GroupsSettled, IsLanded, IsOfClass, LandsBy, WaySettled, class_landed}
 use Rattle.component_table.specs.Markets.{AreMarkets}
 use Rattle.component_table.specs.Reaches.{filed_of}
 use Rattle.component_table.specs.Tables.{AreLimited, Covers, HasLegs, IsFlown, PathAdded}
@@ -18,7 +18,6 @@ use Rattle.component_table.proofs.PathFacts.{path_numbers}
 use Rattle.component_table.proofs.Served.{ReachesEnd, not_between, served_done}
 use Rattle.fare_book.specs.Keeping.{Limited}
 use Rattle.fare_groups.specs.declared.group.FareGroup.{FareGroup}
-use Rattle.fare_groups.specs.declared.group.GroupKey.{GroupKey}
 use Rattle.fare_groups.specs.Groups.{extra_of}
 use Rattle.fare_groups.proofs.Bits.{both_set}
 use Rattle.fare_law.specs.declared.flights.Flight.{Flight}
@@ -26,7 +25,7 @@ use Rattle.fare_law.specs.declared.requests.Request.{Request}
 use Rattle.fare_law.specs.Book.{Book}
 use Rattle.fare_law.specs.Limits.{IsFlight}
 use Rattle.fare_law.specs.Lists.{IsIn, OnFirst, OnLast}
-use Rattle.fare_law.specs.Parts.{Numbers}
+use Rattle.fare_law.specs.Parts.{Numbers, stopovers}
 use Rattle.flight_paths.specs.declared.positions.Path.{Path}
 use Rattle.flight_paths.specs.declared.positions.Position.{Position}
 use Rattle.outlines.specs.declared.outline.Entry.{Entry}
@@ -37,33 +36,6 @@ use Rattle.law_lemmas.proofs.LawFacts.{on_last_to}
 use Rattle.law_lemmas.proofs.Lists.{read_got}
 use Rattle.law_lemmas.proofs.Numbers.{here_or_before, le_on}
 use Rattle.law_lemmas.proofs.Options.{some_one}
-
--- the paths of a class have the outlines of their groups in common
-first_is : (d : ℤ) (c : PathClass) (fs : List Flight) → OnFirst (λ f. d ≡ f.day) fs → OnFirst (λ f. (f.day ≡ c.first) × (f.carrier ≡ c.carrier)) fs → d ≡ c.first
-first_is d c [] h k = absurd h
-first_is d c (f ∷ fs) h k = h ∙ k.0
-
-first_like : (d : ℤ) (c : PathClass) (fs : List Flight) → d ≡ c.first → OnFirst (λ f. (f.day ≡ c.first) × (f.carrier ≡ c.carrier)) fs → OnFirst (λ f. d ≡ f.day) fs
-first_like d c [] e k = absurd k
-first_like d c (f ∷ fs) e k = e ∙ sym k.0
-
-last_is : (o : Outline) (c : PathClass) (fs : List Flight) → OnLast (λ f. (o.end ≡ f.to) × (o.last ≡ f.day)) fs → OnLast (λ f. (f.to ≡ c.end) × (f.day ≡ c.last)) fs → (o.end ≡ c.end) × (o.last ≡ c.last)
-last_is o c [] h k = absurd h
-last_is o c (f ∷ []) h k = (h.0 ∙ k.0, h.1 ∙ k.1)
-last_is o c (f ∷ g ∷ fs) h k = last_is o c (g ∷ fs) h k
-
-outline_like : (c : PathClass) (one other : Option Position) (fs gs : List Flight) (key : GroupKey) (r : Bool) (o : Outline) → IsOfClass c one fs → IsOfClass c other gs → OutlineOver o one fs key r → OutlineOver o other gs key r
-outline_like c one other fs gs key r o x y oo =
-    let end = last_is o c fs oo.ends x.last in
-    record {
-      after_is = oo.after_is ∙ x.after_is ∙ sym y.after_is;
-      first = first_like o.first c gs (first_is o.first c fs oo.first x.first) y.first;
-      ends = on_last_to (λ f. (f.to ≡ c.end) × (f.day ≡ c.last)) (λ f. (o.end ≡ f.to) × (o.last ≡ f.day)) gs (λ f k. (end.0 ∙ sym k.0, end.1 ∙ sym k.1)) y.last;
-      carrier = oo.carrier;
-      number = oo.number;
-      kind = oo.kind;
-      reverse_is = oo.reverse_is;
-    }
 
 -- a path of a class reaches the class's end
 first_carrier : (c : PathClass) (e : End) (fs : List Flight) → c.carrier ≡ e.key.carrier → OnFirst (λ f. (f.day ≡ c.first) × (f.carrier ≡ c.carrier)) fs → OnFirst (λ f. f.carrier ≡ e.key.carrier) fs
@@ -83,7 +55,7 @@ lands_flown b q at ms l fs flown is same classes = record {
 }
 
 pub class_itself : (c : PathClass) (after : Option Position) (fs : List Flight) → IsOfClass c after fs → IsOfClass c c.after fs
-class_itself c after fs is = record { after_is = refl; first = is.first; last = is.last }
+class_itself c after fs is = record { after_is = refl; first = is.first; last = is.last; stops = is.stops }
 
 -- the flights of a path's numbers land, if they are so
 pub landed_lands : (b : Book) (q : Request) (at : Position) (ms : List Market) (ns : List ℕ) (l : Landed) (fs : List Flight) → IsLanded b q at ms ns l → length ns ≤ 4 → AreLimited b → Numbers b ns fs → LandsBy b q at ms l fs
@@ -99,7 +71,7 @@ landed_lands b q at ms ns l fs is few limited numbers = record {
 
 -- a path leads where its class does
 pub class_leads : (c : PathClass) (after : Option Position) (fs : List Flight) → after ≡ c.after → IsOfClass c c.after fs → IsOfClass c after fs
-class_leads c after fs e is = record { after_is = e; first = is.first; last = is.last }
+class_leads c after fs e is = record { after_is = e; first = is.first; last = is.last; stops = is.stops }
 
 pub reaches_end : (c : PathClass) (e : End) (after : Option Position) (fs : List Flight) → c.end ≡ e.key.place → c.carrier ≡ e.key.carrier → IsOfClass c after fs → ReachesEnd e fs
 reaches_end c e after fs place carrier is = record {
@@ -107,16 +79,13 @@ reaches_end c e after fs place carrier is = record {
   begins = first_carrier c e fs carrier is.first;
 }
 
-more : (x y z : ℕ) → x ≤ y → x ≤ y + z
-more x y z h = omega (arith, h)
-
--- where the groups of one path stand at their least shares, each path of its class is done
-pub class_done : (b : Book) (q : Request) (at : Position) (ms : List Market) (l : Landed) (fs : List Flight) (table : List Entry) → AreMarkets b ms → Limited b → LandsBy b q at ms l fs → BothSettled ms l fs table → ClassDone b q at (record { class = l.class; classes = l.classes }) table
+-- where the groups of a class are settled, each path of it is done
+pub class_done : (b : Book) (q : Request) (at : Position) (ms : List Market) (l : Landed) (fs : List Flight) (table : List Entry) → AreMarkets b ms → Limited b → LandsBy b q at ms l fs → BothSettled b ms l table → ClassDone b q at (class_landed l) table
 class_done b q at ms l fs table are limited is both path gs path_is of classes legs among r =
     served_done b q at path ms l.end.now are limited is.end classes gs table path_is legs (reaches_end l.class l.end.now path.after gs is.place_is is.carrier_is of) r
     (λ f found m stands i g got low high rule live permits least cheap.
-    let x = both r f found m stands i g got low high cheap.fare cheap.within (among cheap.fare.class cheap.open_class) in
-    (x.0, x.1, outline_like l.class l.class.after path.after fs gs g.key r x.0.outline is.class of x.2, more x.0.price least (extra_of rule gs) (subst (λ n. x.0.price ≤ n) cheap.costs x.3)))
+    let x = both r f found m stands i g got low high rule live gs (class_itself l.class path.after gs of) permits cheap.fare cheap.within (among cheap.fare.class cheap.open_class) in
+    (x.0, x.1, subst (λ (p : Option Position). OutlineOver x.0.outline p gs g.key r) (sym of.after_is) x.2, subst (λ n. x.0.price ≤ n + extra_of rule gs) cheap.costs x.3))
 
 -- a path of a settled class is put in by leaving the table as it is
 pub settled_added : (b : Book) (q : Request) (at : Position) (path : Path) (s : SettledClass) (classes : ℕ) (old : List Entry) → ClassDone b q at s old → ((fs : List Flight) → Numbers b path.flights fs → IsOfClass s.class path.after fs) → ((fs : List Flight) → Numbers b path.flights fs → HasLegs b q fs classes)
@@ -138,40 +107,40 @@ module _ (b : Book) (q : Request) (at : Position) where
   settled_more old new one table h done only = each_from (λ s. ClassDone b q at s table) new (λ s i. elim (only s i) [ inl k ↦ each_in (λ s. ClassDone b q at s table) old s h k | inr e ↦ subst (λ s. ClassDone b q at s table) (sym e) done ])
 
 -- what is settled stays so
-module _ (after : Option Position) (fs : List Flight) (classes : ℕ) (reverse : Bool) (old new : List Entry) (on : Covers old new) where
-  pub group_on : (g : FareGroup) → GroupSettled after fs classes reverse g old → GroupSettled after fs classes reverse g new
-  group_on g h fare i open_class =
-      let x = h fare i open_class in
+module _ (b : Book) (s : SettledClass) (reverse : Bool) (old new : List Entry) (on : Covers old new) where
+  pub group_on : (g : FareGroup) → GroupSettled b s reverse g old → GroupSettled b s reverse g new
+  group_on g h rule live fs of permits fare i open_class =
+      let x = h rule live fs of permits fare i open_class in
       let y = on x.0 x.1 in
-      (y.entry, y.within, subst (λ (o : Outline). OutlineOver o after fs g.key reverse) (sym y.outline) x.2, le_on y.entry.price x.0.price fare.share y.below x.3)
+      (y.entry, y.within, subst (λ (o : Outline). OutlineOver o s.class.after fs g.key reverse) (sym y.outline) x.2, le_on y.entry.price x.0.price (fare.share + extra_of rule fs) y.below x.3)
 
-  pub way_on : (ms : List Market) (e : End) → WaySettled ms e after fs classes reverse old → WaySettled ms e after fs classes reverse new
+  pub way_on : (ms : List Market) (e : End) → WaySettled b ms e s reverse old → WaySettled b ms e s reverse new
   way_on ms e h f found m stands i g got low high = group_on g (h f found m stands i g got low high)
 
   -- one group more of those from a place on
-  pub groups_next : (gs : List FareGroup) (from n : ℕ) (d x : FareGroup) → n < length gs → x ≡ get_or gs n d → GroupsSettled after fs classes reverse gs from n old → GroupSettled after fs classes reverse x new → GroupsSettled after fs classes reverse gs from (n + 1) new
+  pub groups_next : (gs : List FareGroup) (from n : ℕ) (d x : FareGroup) → n < length gs → x ≡ get_or gs n d → GroupsSettled b s reverse gs from n old → GroupSettled b s reverse x new → GroupsSettled b s reverse gs from (n + 1) new
   groups_next gs from n d x lt e h one i g got low high = elim (here_or_before i n high) [
     | inl k ↦ group_on g (h i g got low k)
-    | inr s ↦ subst (λ (y : FareGroup). GroupSettled after fs classes reverse y new) (some_one (slice_get gs n) x g (read_got gs n d x lt e) (ap (slice_get gs) (sym s) ∙ got)) one
+    | inr same ↦ subst (λ (y : FareGroup). GroupSettled b s reverse y new) (some_one (slice_get gs n) x g (read_got gs n d x lt e) (ap (slice_get gs) (sym same) ∙ got)) one
   ]
 
-pub groups_none : (after : Option Position) (fs : List Flight) (classes : ℕ) (reverse : Bool) (table : List Entry) (gs : List FareGroup) (from to : ℕ) → to ≤ from → GroupsSettled after fs classes reverse gs from to table
-groups_none after fs classes reverse table gs from to none i g got low high = absurd (not_between from to i none low high)
+pub groups_none : (b : Book) (s : SettledClass) (reverse : Bool) (table : List Entry) (gs : List FareGroup) (from to : ℕ) → to ≤ from → GroupsSettled b s reverse gs from to table
+groups_none b s reverse table gs from to none i g got low high = absurd (not_between from to i none low high)
 
 -- where a carrier's groups stand, they are settled once those there are
-module _ (after : Option Position) (fs : List Flight) (classes : ℕ) (reverse : Bool) (table : List Entry) (ms : List Market) (e : End) where
-  pub way_settled : (f : Filed) (m : Market) → filed_of e reverse ≡ Some f → slice_get ms f.market ≡ Some m → GroupsSettled after fs classes reverse m.groups f.from f.to table → WaySettled ms e after fs classes reverse table
+module _ (b : Book) (s : SettledClass) (reverse : Bool) (table : List Entry) (ms : List Market) (e : End) where
+  pub way_settled : (f : Filed) (m : Market) → filed_of e reverse ≡ Some f → slice_get ms f.market ≡ Some m → GroupsSettled b s reverse m.groups f.from f.to table → WaySettled b ms e s reverse table
   way_settled f m found stands h g known n got_n i x got low high =
       let sf = some_one (filed_of e reverse) f g found known in
       let sm = some_one (slice_get ms f.market) m n stands (ap (λ (z : Filed). slice_get ms z.market) sf ∙ got_n) in
       h i x (ap (λ (z : Market). slice_get z.groups i) sm ∙ got) (subst (λ (z : Filed). z.from ≤ i) (sym sf) low) (subst (λ (z : Filed). i < z.to) (sym sf) high)
 
-  pub way_none : filed_of e reverse ≡ None → WaySettled ms e after fs classes reverse table
+  pub way_none : filed_of e reverse ≡ None → WaySettled b ms e s reverse table
   way_none none f found = absurd (cc)
 
-pub both_ways : (ms : List Market) (l : Landed) (fs : List Flight) (table : List Entry) → WaySettled ms l.end.now l.class.after fs l.classes false table → WaySettled ms l.end.now l.class.after fs l.classes true table → BothSettled ms l fs table
-both_ways ms l fs table there back true = back
-both_ways ms l fs table there back false = there
+pub both_ways : (b : Book) (ms : List Market) (l : Landed) (table : List Entry) → WaySettled b ms l.end.now (class_landed l) false table → WaySettled b ms l.end.now (class_landed l) true table → BothSettled b ms l table
+both_ways b ms l table there back true = back
+both_ways b ms l table there back false = there
 
 -- all are among themselves where both masks give the one
 pub among_both : (classes others : ℕ) → bit_and classes others ≡ classes → AreAmong classes others
@@ -181,9 +150,10 @@ pub class_starts : (c : PathClass) (f : Flight) (fs : List Flight) → c.first �
 class_starts c f [] day carrier h = absurd h
 class_starts c f (g ∷ fs) day carrier h = (ap (λ (x : Flight). x.day) h ∙ sym day, ap (λ (x : Flight). x.carrier) h ∙ sym carrier)
 
-pub of_class : (c : PathClass) (first last : Flight) (after : Option Position) (fs : List Flight) → c ≡ record { after = after; end = last.to; carrier = first.carrier; first = first.day; last = last.day } → OnFirst (λ g. g ≡ first) fs → OnLast (λ g. g ≡ last) fs → IsOfClass c after fs
+pub of_class : (c : PathClass) (first last : Flight) (after : Option Position) (fs : List Flight) → c ≡ record { after = after; end = last.to; carrier = first.carrier; first = first.day; last = last.day; stops = 0 } → OnFirst (λ g. g ≡ first) fs → OnLast (λ g. g ≡ last) fs → IsOfClass c after fs
 of_class c first last after fs is begins ends = record {
   after_is = sym (ap (λ (x : PathClass). x.after) is);
   first = class_starts c first fs (ap (λ (x : PathClass). x.first) is) (ap (λ (x : PathClass). x.carrier) is) begins;
   last = on_last_to (λ g. g ≡ last) (λ g. (g.to ≡ c.end) × (g.day ≡ c.last)) fs (λ g k. (ap (λ (x : Flight). x.to) k ∙ sym (ap (λ (x : PathClass). x.end) is), ap (λ (x : Flight). x.day) k ∙ sym (ap (λ (x : PathClass). x.last) is))) ends;
+  stops = subst (λ n. n ≤ stopovers fs) (sym (ap (λ (x : PathClass). x.stops) is)) (omega arith);
 }

@@ -10,6 +10,10 @@ use Rattle.fare_groups.specs.declared.group.GroupKey.{GroupKey}
 use Rattle.outlines.specs.declared.outline.Entry.{Entry}
 use Rattle.outlines.specs.declared.outline.Outline.{Outline}
 
+-- the class whose paths may have any stopovers
+abbrev pub whole_class : PathClass → PathClass
+whole_class c = record { after = c.after; end = c.end; carrier = c.carrier; first = c.first; last = c.last; stops = 0 }
+
 -- the outline of a group's components on the paths of a class, one way
 abbrev pub outline_of : PathClass → GroupKey → Bool → Outline
 outline_of c key reverse = record { after = c.after; end = c.end; first = c.first; last = c.last; carrier = key.carrier; number = key.number; kind = key.kind; reverse = reverse }

@@ -1,21 +1,24 @@
 -- Classes of paths, and when a class is settled.
-use Rattle.std.specs.Prelude.{◌≡◌, ℕ, ◌≤◌, ◌<◌, Bool, List, length, slice_get, All, Option, Some, IsBitSet}
+use Rattle.std.specs.Prelude.{◌≡◌, ℕ, ◌+◌, ◌≤◌, ◌<◌, Bool, List, length, slice_get, All, Option, Some, IsBitSet}
 use Rattle.component_table.specs.declared.classes.PathClass.{PathClass}
 use Rattle.component_table.specs.declared.ends.End.{End}
 use Rattle.component_table.specs.declared.filed.Filed.{Filed}
 use Rattle.component_table.specs.declared.markets.Market.{Market}
 use Rattle.component_table.specs.declared.settled.SettledClass.{SettledClass}
+use Rattle.component_table.specs.declared.ways.Flown.{Flown}
 use Rattle.component_table.specs.declared.ways.Landed.{Landed}
 use Rattle.component_table.specs.Reaches.{IsEnd, filed_of}
 use Rattle.component_table.specs.Tables.{HasLegs}
 use Rattle.fare_groups.specs.declared.group.FareGroup.{FareGroup}
 use Rattle.fare_groups.specs.declared.group.GroupedFare.{GroupedFare}
+use Rattle.fare_groups.specs.Groups.{Permits, extra_of}
 use Rattle.fare_law.specs.declared.flights.Flight.{Flight}
 use Rattle.fare_law.specs.declared.requests.Request.{Request}
-use Rattle.fare_law.specs.Book.{Book}
+use Rattle.fare_law.specs.declared.rules.Rule.{Rule}
+use Rattle.fare_law.specs.Book.{Book, live_rule}
 use Rattle.fare_law.specs.Limits.{IsFlight}
 use Rattle.fare_law.specs.Lists.{Each, IsIn, OnFirst, OnLast}
-use Rattle.fare_law.specs.Parts.{Numbers}
+use Rattle.fare_law.specs.Parts.{Numbers, stopovers}
 use Rattle.flight_paths.specs.declared.positions.Path.{Path}
 use Rattle.flight_paths.specs.declared.positions.Position.{Position}
 use Rattle.flight_paths.specs.Positions.{IsPath}
@@ -27,6 +30,7 @@ pub record IsOfClass (c : PathClass) (after : Option Position) (fs : List Flight
   pub after_is : after ≡ c.after
   pub first : OnFirst (λ f. (f.day ≡ c.first) × (f.carrier ≡ c.carrier)) fs
   pub last : OnLast (λ f. (f.to ≡ c.end) × (f.day ≡ c.last)) fs
+  pub stops : c.stops ≤ stopovers fs
 
 -- these classes of seats are all among others
 abbrev pub AreAmong : ℕ → ℕ → Type 0
@@ -46,17 +50,22 @@ pub record IsSettledAt (kept : List SettledClass) (class : PathClass) (at : ℕ)
   pub stands : slice_get kept at ≡ Some one
   pub class_is : one.class ≡ class
 
--- The table has a group's outline on these flights at no more than the share of any of its fares whose class is open.
-abbrev pub GroupSettled : Option Position → List Flight → ℕ → Bool → FareGroup → List Entry → Type 0
-GroupSettled after fs classes reverse g table = (fare : GroupedFare) → IsIn fare g.fares → IsBitSet classes fare.class → (e : Entry) × IsIn e table × OutlineOver e.outline after fs g.key reverse × (e.price ≤ fare.share)
+-- On each path of the class that a group's rule permits, the table has the group's outline at no more than the share of any of its fares whose class is open, with the charges of the rule.
+abbrev pub GroupSettled : Book → SettledClass → Bool → FareGroup → List Entry → Type 0
+GroupSettled b s reverse g table = (rule : Rule) → live_rule b g.key.carrier g.key.number ≡ Some rule → (fs : List Flight) → IsOfClass s.class s.class.after fs → Permits rule g.key.carrier fs → (fare : GroupedFare) → IsIn fare g.fares → IsBitSet s.classes fare.class
+    → (e : Entry) × IsIn e table × OutlineOver e.outline s.class.after fs g.key reverse × (e.price ≤ fare.share + extra_of rule fs)
 
 -- so it has those between two places
-abbrev pub GroupsSettled : Option Position → List Flight → ℕ → Bool → List FareGroup → ℕ → ℕ → List Entry → Type 0
-GroupsSettled after fs classes reverse gs from to table = (i : ℕ) (g : FareGroup) → slice_get gs i ≡ Some g → from ≤ i → i < to → GroupSettled after fs classes reverse g table
+abbrev pub GroupsSettled : Book → SettledClass → Bool → List FareGroup → ℕ → ℕ → List Entry → Type 0
+GroupsSettled b s reverse gs from to table = (i : ℕ) (g : FareGroup) → slice_get gs i ≡ Some g → from ≤ i → i < to → GroupSettled b s reverse g table
 
 -- and those of a carrier that are filed this way
-abbrev pub WaySettled : List Market → End → Option Position → List Flight → ℕ → Bool → List Entry → Type 0
-WaySettled ms e after fs classes reverse table = (f : Filed) → filed_of e reverse ≡ Some f → (m : Market) → slice_get ms f.market ≡ Some m → GroupsSettled after fs classes reverse m.groups f.from f.to table
+abbrev pub WaySettled : Book → List Market → End → SettledClass → Bool → List Entry → Type 0
+WaySettled b ms e s reverse table = (f : Filed) → filed_of e reverse ≡ Some f → (m : Market) → slice_get ms f.market ≡ Some m → GroupsSettled b s reverse m.groups f.from f.to table
+
+-- the class of flights, for the classes of seats that are open in all of them
+abbrev pub class_flown : Flown → SettledClass
+class_flown f = record { class = f.class; classes = f.classes }
 
 -- The flights of these numbers reach the end of their first carrier's fares, are of the class, and these classes of seats are open in all of them.
 pub record IsLanded (b : Book) (q : Request) (at : Position) (ms : List Market) (numbers : List ℕ) (l : Landed) : Type 0 where
@@ -76,6 +85,10 @@ pub record LandsBy (b : Book) (q : Request) (at : Position) (ms : List Market) (
   pub place_is : l.class.end ≡ l.end.now.key.place
   pub carrier_is : l.class.carrier ≡ l.end.now.key.carrier
 
--- The table has such a path's groups both ways.
-abbrev pub BothSettled : List Market → Landed → List Flight → List Entry → Type 0
-BothSettled ms l fs table = (reverse : Bool) → WaySettled ms l.end.now l.class.after fs l.classes reverse table
+-- the class of a path that lands, for the classes of seats that are open
+abbrev pub class_landed : Landed → SettledClass
+class_landed l = record { class = l.class; classes = l.classes }
+
+-- The table has the groups of such a path's class both ways.
+abbrev pub BothSettled : Book → List Market → Landed → List Entry → Type 0
+BothSettled b ms l table = (reverse : Bool) → WaySettled b ms l.end.now (class_landed l) reverse table

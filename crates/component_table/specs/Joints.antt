@@ -27,7 +27,7 @@ pub record Joins (r : Rows) (ks : Kinds) (first : Path) (number : ℕ) (last : P
   pub tail_stands : slice_get ks.classes.items kind.class ≡ Some tail
   pub head_is : j.head.now ≡ first
   pub path_is : j.tail.now ≡ last
-  pub class_is : j.class ≡ joined_class head.kind.carrier head.kind.first tail
+  pub class_is : j.class ≡ joined_class head.kind.class tail
   pub classes_are : j.classes ≡ bit_and head.kind.classes kind.classes
   pub row_is : j.row ≡ head.kind.row
   pub tail_is : j.tail_class ≡ kind.class
@@ -43,4 +43,4 @@ pub record IsJoint (b : Book) (q : Request) (j : Joint) : Type 0 where
 pub record IsJointOf (tails : List TailClass) (rows : List Row) (j : Joint) : Type 0 where
   pub tail : TailClass
   pub stands : slice_get tails j.tail_class ≡ Some tail
-  pub row : (one : Row) → slice_get rows j.row ≡ Some one → j.class ≡ joined_class one.carrier one.first tail
+  pub row : (one : Row) → slice_get rows j.row ≡ Some one → j.class ≡ joined_class one.class tail

@@ -1,7 +1,8 @@
--- What is known of the paths that begin with a carrier on a day and go on by tails, class by class.
-use Rattle.std.specs.Prelude.{◌≡◌, ℕ, ℤ, List, ◌++◌, Option, Some, bit_and, IfSome, slice_get}
+-- What is known of the paths that begin with a head and go on by a tail, class by class.
+use Rattle.std.specs.Prelude.{◌≡◌, ◌≤ℤ◌, ◌+ℤ◌, pos, ℕ, List, ◌++◌, Option, Some, bit_and, IfSome, slice_get}
 use Rattle.component_table.specs.declared.kinds.TailClass.{TailClass}
 use Rattle.component_table.specs.declared.kinds.TailKind.{TailKind}
+use Rattle.component_table.specs.declared.rows.HeadClass.{HeadClass}
 use Rattle.component_table.specs.declared.rows.HeadKind.{HeadKind}
 use Rattle.component_table.specs.declared.rows.MetHead.{MetHead}
 use Rattle.component_table.specs.declared.rows.Row.{Row}
@@ -10,18 +11,18 @@ use Rattle.component_table.specs.Classes.{AreAmong, ClassDone}
 use Rattle.component_table.specs.Kinds.{joined_class}
 use Rattle.component_table.specs.Tables.{AddsNothing, HasLegs}
 use Rattle.fare_law.specs.declared.flights.Flight.{Flight}
-use Rattle.fare_law.specs.declared.names.Carrier.{Carrier}
 use Rattle.fare_law.specs.declared.requests.Request.{Request}
 use Rattle.fare_law.specs.Book.{Book}
-use Rattle.fare_law.specs.Lists.{Each, OnFirst}
+use Rattle.fare_law.specs.Lists.{Each, OnFirst, OnLast}
 use Rattle.fare_law.specs.Parts.{Numbers}
 use Rattle.flight_paths.specs.declared.positions.Path.{Path}
 use Rattle.flight_paths.specs.declared.positions.Position.{Position}
 use Rattle.outlines.specs.declared.outline.Entry.{Entry}
 
--- The first of these flights is the carrier's and departs on the day, and the classes are those that are open in all of them.
+-- The first of these flights is the carrier's and departs on the day, the last arrives a day before the instant at least, and the classes of seats are those that are open in all of them.
 pub record BeginsAs (b : Book) (q : Request) (k : HeadKind) (fs : List Flight) : Type 0 where
-  pub first : OnFirst (λ f. (f.day ≡ k.first) × (f.carrier ≡ k.carrier)) fs
+  pub first : OnFirst (λ f. (f.day ≡ k.class.first) × (f.carrier ≡ k.class.carrier)) fs
+  pub last : OnLast (λ f. (f.arr +ℤ pos 1440) ≤ℤ k.class.rest) fs
   pub legs : HasLegs b q fs k.classes
 
 -- what is known of a head holds of its flights
@@ -30,22 +31,21 @@ IsHeadOf b q numbers k = (fs : List Flight) → Numbers b numbers fs → BeginsA
 
 -- Where classes of seats stand in a row by the class of a tail, each path of the two on which none but these are open is done.
 abbrev pub IsRow : Book → Request → Position → List TailClass → List Entry → Row → Type 0
-IsRow b q at classes table row = (n mask : ℕ) (c : TailClass) → slice_get row.masks.items n ≡ Some (Some mask) → slice_get classes n ≡ Some c → ClassDone b q at (record { class = joined_class row.carrier row.first c; classes = mask }) table
+IsRow b q at classes table row = (n mask : ℕ) (c : TailClass) → slice_get row.masks.items n ≡ Some (Some mask) → slice_get classes n ≡ Some c → ClassDone b q at (record { class = joined_class row.class c; classes = mask }) table
 
 abbrev pub AreRows : Book → Request → Position → List TailClass → List Entry → List Row → Type 0
 AreRows b q at classes table rows = Each (IsRow b q at classes table) rows
 
--- the row of the carrier and the day has this number
-pub record IsRowAt (rows : List Row) (carrier : Carrier) (first : ℤ) (at : ℕ) : Type 0 where
+-- the row of the class of heads has this number
+pub record IsRowAt (rows : List Row) (class : HeadClass) (at : ℕ) : Type 0 where
   pub row : Row
   pub stands : slice_get rows at ≡ Some row
-  pub carrier_is : row.carrier ≡ carrier
-  pub first_is : row.first ≡ first
+  pub class_is : row.class ≡ class
 
 -- what is known of the head that was met last, and its row, hold
 pub record IsMet (b : Book) (q : Request) (rows : List Row) (h : MetHead) : Type 0 where
   pub known : IsHeadOf b q h.flights h.kind
-  pub row : IsRowAt rows h.kind.carrier h.kind.first h.kind.row
+  pub row : IsRowAt rows h.kind.class h.kind.row
 
 -- Each row is right as the table stands, and so is what is known of the head at hand.
 pub record HasRows (b : Book) (q : Request) (at : Position) (classes : List TailClass) (table : List Entry) (r : Rows) : Type 0 where

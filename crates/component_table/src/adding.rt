@@ -2,8 +2,8 @@
 ghost use Rattle.std.specs.Prelude.{◌≡◌, ◌≢◌, ◌⊎◌, ◌<◌, ◌≤◌, ◌+◌, [], List as Items, length, slice_get, IfOk, IsTrue, OnOk, Some};
 ghost use Rattle.component_table.specs.declared.kinds.TailClass.{TailClass as OneClass};
 ghost use Rattle.component_table.specs.declared.settled.SettledClass.{SettledClass as OneSettled};
-ghost use Rattle.component_table.specs.Blocks.{HasBlock, IsLow, outline_of};
-ghost use Rattle.component_table.specs.Classes.{AreSettled, BothSettled, GroupSettled, GroupsSettled, IsLanded, IsOfClass, LandsBy, WaySettled};
+ghost use Rattle.component_table.specs.Blocks.{HasBlock, IsLow, outline_of, whole_class};
+ghost use Rattle.component_table.specs.Classes.{AreSettled, BothSettled, GroupSettled, GroupsSettled, IsLanded, IsOfClass, LandsBy, WaySettled, class_flown};
 ghost use Rattle.component_table.specs.Joints.{IsJoint, IsJointOf};
 ghost use Rattle.component_table.specs.Markets.{AreMarkets};
 ghost use Rattle.component_table.specs.Masks.{AreMasks};
@@ -21,6 +21,7 @@ ghost use Rattle.flight_paths.specs.Positions.{IsPath};
 ghost use Rattle.outlines.specs.declared.outline.Entry.{Entry as OneEntry};
 ghost use Rattle.outlines.specs.ByGroups.{OutlineOver};
 
+use crate::barring::{are_least, permits_none};
 use crate::classes::PathClass;
 use crate::ends::{End, EndKey, Reach};
 use crate::filed::Filed;
@@ -99,7 +100,7 @@ pub fn key_of(first: &Flight, last: &Flight) -> EndKey
 
 /// The class of a path with these first and last flights.
 pub fn class_of(after: &Option<Position>, opening: &Flight, closing: &Flight) -> PathClass
-    ensures { result ≡ record { after = after.now; end = closing.now.to; carrier = opening.now.carrier; first = opening.now.day; last = closing.now.day } }
+    ensures { result ≡ record { after = after.now; end = closing.now.to; carrier = opening.now.carrier; first = opening.now.day; last = closing.now.day; stops = 0 } }
 {
     PathClass {
         after: *after,
@@ -107,6 +108,7 @@ pub fn class_of(after: &Option<Position>, opening: &Flight, closing: &Flight) ->
         carrier: opening.carrier,
         first: opening.day,
         last: closing.day,
+        stops: 0,
     }
 }
 
@@ -231,8 +233,8 @@ pub fn end_of(class: &PathClass) -> EndKey
     }
 }
 
-/// Puts in such a path by its flights. Returns whether each of its groups then stands at its least share, so that no path
-/// of the class on which no other classes of seats are open can lower one. The block of the class may stand at a spot.
+/// Puts in such a path by its flights. Returns whether each of its groups is settled then, so that no path of the class
+/// on which no other classes of seats are open can lower one. The block of the class may stand at a spot.
 fn add_both(
     table: &mut Growing,
     origin: &Origin,
@@ -246,7 +248,7 @@ fn add_both(
     requires low { IsLow table.old }
     ensures low { IsLow table.new }
     ensures covers { Covers table.old.entries.items table.new.entries.items }
-    ensures settled { IfOk result (λ all. IsTrue all → BothSettled markets.now landed.now flights.now table.new.entries.items) }
+    ensures settled { IfOk result (λ all. IsTrue all → BothSettled origin.now.book.now markets.now landed.now table.new.entries.items) }
     ensures done { OnOk result ((path : PathData) → path.after ≡ landed.now.class.after → IsPath origin.now.book.now origin.now.request.now.slices origin.now.at.now path.flights flights.now path.after → PathAdded origin.now.book.now origin.now.request.now origin.now.at.now path table.old.entries.items table.new.entries.items) }
 {
     let end = landed.end;
@@ -284,12 +286,12 @@ fn add_way(
     requires end { IsEnd origin.now.book.now origin.now.at.now.place markets.now end.now }
     requires flown { IsFlown origin.now.book.now origin.now.request.now flown.now }
     requires low { IsLow table.old }
-    requires block { HasBlock table.old.blocks.items flown.now.class flown.now.block }
+    requires block { HasBlock table.old.blocks.items (whole_class flown.now.class) flown.now.block }
     requires class { IsOfClass flown.now.class flown.now.class.after flown.now.flights.now }
     ensures low { IsLow table.new }
     ensures blocks { table.new.blocks.items ≡ table.old.blocks.items }
     ensures covers { Covers table.old.entries.items table.new.entries.items }
-    ensures settled { IfOk result (λ all. IsTrue all → WaySettled markets.now end.now flown.now.class.after flown.now.flights.now flown.now.classes reverse table.new.entries.items) }
+    ensures settled { IfOk result (λ all. IsTrue all → WaySettled origin.now.book.now markets.now end.now (class_flown flown.now) reverse table.new.entries.items) }
     ensures done { OnOk result ((path : PathData) → IsOfPath origin.now.book.now origin.now.request.now origin.now.at.now path flown.now → OnFirst (λ f. f.carrier ≡ end.now.key.carrier) flown.now.flights.now → OnLast (λ f. f.to ≡ end.now.key.place) flown.now.flights.now → WayDone origin.now.book.now origin.now.request.now origin.now.at.now path flown.now.flights.now reverse table.old.entries.items table.new.entries.items) }
 {
     origin.book.limits();
@@ -332,12 +334,12 @@ fn add_market(
     requires over { IsOver origin.now.book.now origin.now.request.now flown.now serving.now.market.now }
     requires within { serving.now.filed.to ≤ length serving.now.market.now.groups }
     requires low { IsLow table.old }
-    requires block { HasBlock table.old.blocks.items flown.now.class flown.now.block }
+    requires block { HasBlock table.old.blocks.items (whole_class flown.now.class) flown.now.block }
     requires class { IsOfClass flown.now.class flown.now.class.after flown.now.flights.now }
     ensures low { IsLow table.new }
     ensures blocks { table.new.blocks.items ≡ table.old.blocks.items }
     ensures covers { Covers table.old.entries.items table.new.entries.items }
-    ensures settled { IfOk result (λ all. IsTrue all → GroupsSettled flown.now.class.after flown.now.flights.now flown.now.classes serving.now.reverse serving.now.market.now.groups serving.now.filed.from serving.now.filed.to table.new.entries.items) }
+    ensures settled { IfOk result (λ all. IsTrue all → GroupsSettled origin.now.book.now (class_flown flown.now) serving.now.reverse serving.now.market.now.groups serving.now.filed.from serving.now.filed.to table.new.entries.items) }
     ensures done { OnOk result ((path : PathData) → IsPathOver origin.now.book.now origin.now.request.now origin.now.at.now path flown.now serving.now.reverse serving.now.market.now → IsServed flown.now.flights.now serving.now → MarketDone origin.now.book.now origin.now.request.now origin.now.at.now path flown.now serving.now.reverse serving.now.market.now table.old.entries.items table.new.entries.items) }
 {
     let from = serving.filed.from;
@@ -358,7 +360,7 @@ fn add_market(
 
 /// Puts in a group of a market, where its rule permits the flights and it has a fare in an open class. The rule need
 /// not be asked where the outline stands already at no more than the share, since it only adds charges. Returns whether
-/// it stands at no more than the share then.
+/// it stands at no more than the share then, or the rule permits no path of the class.
 #[inline]
 fn add_group(
     table: &mut Growing,
@@ -371,12 +373,12 @@ fn add_group(
     requires over { IsOver origin.now.book.now origin.now.request.now flown.now serving.now.market.now }
     requires group { IsIn group.now serving.now.market.now.groups }
     requires low { IsLow table.old }
-    requires block { HasBlock table.old.blocks.items flown.now.class flown.now.block }
+    requires block { HasBlock table.old.blocks.items (whole_class flown.now.class) flown.now.block }
     requires class { IsOfClass flown.now.class flown.now.class.after flown.now.flights.now }
     ensures low { IsLow table.new }
     ensures blocks { table.new.blocks.items ≡ table.old.blocks.items }
     ensures covers { Covers table.old.entries.items table.new.entries.items }
-    ensures settled { IfOk result (λ all. IsTrue all → GroupSettled flown.now.class.after flown.now.flights.now flown.now.classes serving.now.reverse group.now table.new.entries.items) }
+    ensures settled { IfOk result (λ all. IsTrue all → GroupSettled origin.now.book.now (class_flown flown.now) serving.now.reverse group.now table.new.entries.items) }
     ensures done { OnOk result ((path : PathData) → IsPathOver origin.now.book.now origin.now.request.now origin.now.at.now path flown.now serving.now.reverse serving.now.market.now → GroupDone origin.now.book.now origin.now.request.now origin.now.at.now path flown.now serving.now.reverse group.now table.old.entries.items table.new.entries.items) }
 {
     origin.book.limits();
@@ -410,12 +412,12 @@ fn ask_rule(
     requires group { IsIn wanted.now.group.now serving.now.market.now.groups }
     requires wanted { IsWanted flown.now serving.now.reverse wanted.now }
     requires low { IsLow table.old }
-    requires block { HasBlock table.old.blocks.items flown.now.class flown.now.block }
+    requires block { HasBlock table.old.blocks.items (whole_class flown.now.class) flown.now.block }
     requires class { IsOfClass flown.now.class flown.now.class.after flown.now.flights.now }
     ensures low { IsLow table.new }
     ensures blocks { table.new.blocks.items ≡ table.old.blocks.items }
     ensures covers { Covers table.old.entries.items table.new.entries.items }
-    ensures settled { IfOk result (λ all. IsTrue all → GroupSettled flown.now.class.after flown.now.flights.now flown.now.classes serving.now.reverse wanted.now.group.now table.new.entries.items) }
+    ensures settled { IfOk result (λ all. IsTrue all → GroupSettled origin.now.book.now (class_flown flown.now) serving.now.reverse wanted.now.group.now table.new.entries.items) }
     ensures done { OnOk result ((path : PathData) → IsPathOver origin.now.book.now origin.now.request.now origin.now.at.now path flown.now serving.now.reverse serving.now.market.now → GroupDone origin.now.book.now origin.now.request.now origin.now.at.now path flown.now serving.now.reverse wanted.now.group.now table.old.entries.items table.new.entries.items) }
 {
     origin.book.limits();
@@ -425,15 +427,16 @@ fn ask_rule(
     let sheet: &MarketSheet = &serving.market.sheet;
     let row = first_row(sheet, group);
     let Some(charges) = extra(&row.rule, group.key.carrier, flown.flights) else {
-        return Ok(false);
+        return Ok(permits_none(&row.rule, &flown.class));
     };
     let price = sum(wanted.share, charges);
+    let least = are_least(&row.rule, &flown.class, charges);
     if table.is_below(&wanted.spot, price) {
-        return Ok(false);
+        return Ok(least);
     }
     let outline = outline_of(&flown.class, group.key, serving.reverse);
     table.put(&wanted.spot, &outline, &row.rule, price)?;
-    Ok(is_free(charges))
+    Ok(least)
 }
 
 /// Whether both hold.
@@ -441,13 +444,6 @@ fn are_both(one: bool, other: bool) -> bool
     ensures { IsTrue result → IsTrue one × IsTrue other }
 {
     one && other
-}
-
-/// Whether a rule adds no charges.
-fn is_free(charges: u64) -> bool
-    ensures { IsTrue result → charges ≡ 0 }
-{
-    charges == 0
 }
 
 /// A share with the charges of a rule.

@@ -1,5 +1,6 @@
 //! Classes of paths: those of one class have their outlines in common.
 ghost use Rattle.std.specs.Prelude.{◌≡◌, ◌↔◌, IsTrue};
+ghost use Rattle.component_table.specs.Blocks.{whole_class};
 
 use crate::kinds::TailClass;
 use crate::recent::{mixed, spot_of};
@@ -7,8 +8,8 @@ use crate::same::same_after;
 use fare_law::{Carrier, Place};
 use flight_paths::Position;
 
-/// What the paths of a class have in common: where they lead, where they end, the carrier of their first flight, and
-/// the days on which their first and their last flight depart.
+/// What the paths of a class have in common: where they lead, where they end, the carrier of their first flight,
+/// the days on which their first and their last flight depart, and how many stopovers they have at least.
 #[derive(Clone, Copy, PartialEq, Eq, Debug)]
 pub struct PathClass {
     pub after: Option<Position>,
@@ -16,6 +17,7 @@ pub struct PathClass {
     pub carrier: Carrier,
     pub first: i32,
     pub last: i32,
+    pub stops: u8,
 }
 
 /// A class, packed into numbers, by which places are looked up.
@@ -37,6 +39,33 @@ impl PathClass {
             && self.carrier.is(other.carrier)
             && self.first == other.first
             && self.last == other.last
+            && self.stops == other.stops
+    }
+
+    /// The same class, whatever stopovers its paths have.
+    pub fn whole(&self) -> PathClass
+        ensures { result ≡ whole_class self.now }
+    {
+        PathClass {
+            after: self.after,
+            end: self.end,
+            carrier: self.carrier,
+            first: self.first,
+            last: self.last,
+            stops: 0,
+        }
+    }
+
+    /// Whether it is another class, whatever stopovers that one's paths have.
+    pub fn is_whole_of(&self, class: &PathClass) -> bool
+        ensures { IsTrue result → self.now ≡ whole_class class.now }
+    {
+        same_after(&self.after, &class.after)
+            && self.end.is(class.end)
+            && self.carrier.is(class.carrier)
+            && self.first == class.first
+            && self.last == class.last
+            && self.stops == 0
     }
 
     /// The spot of the class.

@@ -1,6 +1,6 @@
 //! A table as it grows, entry by entry.
 ghost use Rattle.std.specs.Prelude.{◌≡◌, ◌↔◌, ◌≤◌, [], IfOk, IfSome, IsTrue, OnOk, Some, slice_get};
-ghost use Rattle.component_table.specs.Blocks.{HasBlock, HasOutline, IsLow, IsSlotOf, TellsNoMore, TellsOne};
+ghost use Rattle.component_table.specs.Blocks.{HasBlock, HasOutline, IsLow, IsSlotOf, TellsNoMore, TellsOne, whole_class};
 ghost use Rattle.component_table.specs.Tables.{Covers, HasAt, HasBelow, Lowered};
 ghost use Rattle.outlines.specs.declared.outline.Outline.{Outline as OneOutline};
 
@@ -78,8 +78,8 @@ impl Growing {
         }
     }
 
-    /// Where the block of a class stands: with slots for so many groups of the fares that are filed one way, and for so
-    /// many of those in reverse, if it is a new one. It is looked for at a spot first.
+    /// Where the block of a class stands, whatever stopovers its paths have: with slots for so many groups of the fares
+    /// that are filed one way, and for so many of those in reverse, if it is a new one. It is looked for at a spot first.
     #[inline]
     pub fn block(
         &mut self,
@@ -91,7 +91,7 @@ impl Growing {
         requires { IsLow self.old }
         ensures low { IsLow self.new }
         ensures same { self.new.entries.items ≡ self.old.entries.items }
-        ensures block { IfOk result (HasBlock self.new.blocks.items class.now) }
+        ensures block { IfOk result (HasBlock self.new.blocks.items (whole_class class.now)) }
     {
         match known(self.blocks.as_slice(), self.recent.get(spot), class) {
             Some(at) => Ok(at),
@@ -111,7 +111,7 @@ impl Growing {
         requires { IsLow self.old }
         ensures low { IsLow self.new }
         ensures same { self.new.entries.items ≡ self.old.entries.items }
-        ensures block { IfOk result (HasBlock self.new.blocks.items class.now) }
+        ensures block { IfOk result (HasBlock self.new.blocks.items (whole_class class.now)) }
     {
         let key = ClassKey::of(class);
         let found = self.places.get(&key).copied();
@@ -133,7 +133,7 @@ impl Growing {
         requires { IsLow self.old }
         ensures low { IsLow self.new }
         ensures same { self.new.entries.items ≡ self.old.entries.items }
-        ensures block { IfOk result (HasBlock self.new.blocks.items class.now) }
+        ensures block { IfOk result (HasBlock self.new.blocks.items (whole_class class.now)) }
     {
         let at = self.blocks.len();
         let begin = self.slots.len();
@@ -142,7 +142,7 @@ impl Growing {
         add_slots(&mut self.slots, back)?;
         self.places.insert(key, at)?;
         self.blocks.push(Block {
-            class: *class,
+            class: class.whole(),
             there: begin,
             back: middle,
         })?;
@@ -206,11 +206,11 @@ fn slot_of(slots: &[Option<Slot>], spot: &Spot) -> Option<Slot>
 
 /// A place, if the block of the class stands there.
 fn known(blocks: &[Block], found: Option<usize>, class: &PathClass) -> Option<usize>
-    ensures { IfSome result (HasBlock blocks.now class.now) }
+    ensures { IfSome result (HasBlock blocks.now (whole_class class.now)) }
 {
     let at = found?;
     let block = blocks.get(at)?;
-    if block.class.is(class) {
+    if block.class.is_whole_of(class) {
         Some(at)
     } else {
         None

@@ -1,10 +1,10 @@
 //! What is known of the tails of a slice by themselves, so that a few loads tell of a path that goes on by one of them.
-ghost use Rattle.std.specs.Prelude.{◌≡◌, IfOk, IfSome, IsTrue, OnOk, [], Some, slice_get};
+ghost use Rattle.std.specs.Prelude.{◌≡◌, ◌≤ℤ◌, IfOk, IfSome, IsTrue, OnOk, [], Some, slice_get};
 ghost use Rattle.component_table.specs.Kinds.{AreKinds, KindAdded, NumberGiven};
 ghost use Rattle.component_table.specs.Masks.{AreMasks};
 
 use crate::classes::TailKey;
-use crate::gathering::last_flight;
+use crate::gathering::{first_flight, last_flight};
 use crate::masks::Masks;
 use crate::same::same_after;
 use fare_book::Book;
@@ -13,13 +13,14 @@ use flight_paths::{Path, Position};
 use indexmap::IndexMap;
 use std::alloc::Global;
 
-/// What the tails of a class have in common: where they lead, where they end, and the day on which their last flight
-/// departs.
+/// What the tails of a class have in common: where they lead, where they end, the day on which their last flight departs,
+/// and an instant before which none of them departs.
 #[derive(Clone, Copy, PartialEq, Eq, Debug)]
 pub struct TailClass {
     pub after: Option<Position>,
     pub end: Place,
     pub last: i32,
+    pub from: i64,
 }
 
 /// What is known of a tail: the number of its class, and the classes of seats that are open for the party in each of its
@@ -35,6 +36,8 @@ pub struct TailKind {
 pub struct Kinds {
     pub classes: Vec<TailClass>,
     pub of: Vec<TailKind>,
+    /// The instant before which none of the tails departs.
+    pub from: i64,
     /// Where a class may stand.
     pub places: IndexMap<TailKey, usize>,
 }
@@ -44,19 +47,23 @@ impl TailClass {
     fn is(&self, other: &TailClass) -> bool
         ensures { IsTrue result → self.now ≡ other.now }
     {
-        same_after(&self.after, &other.after) && self.end.is(other.end) && self.last == other.last
+        same_after(&self.after, &other.after)
+            && self.end.is(other.end)
+            && self.last == other.last
+            && self.from == other.from
     }
 }
 
 impl Kinds {
     /// No class and no tail.
-    fn new(alloc: Global) -> Kinds
+    fn new(alloc: Global, from: i64) -> Kinds
         ensures classes { result.classes.items ≡ [] }
         ensures of { result.of.items ≡ [] }
     {
         Kinds {
             classes: Vec::new(alloc),
             of: Vec::new(alloc),
+            from,
             places: IndexMap::new(alloc),
         }
     }
@@ -108,26 +115,50 @@ pub fn kinds_of(
     ensures masks { AreMasks book.now request.now masks.new }
     ensures kinds { IfOk result (AreKinds book.now request.now tails.now) }
 {
-    let mut kinds = Kinds::new(alloc);
+    let from = first_departure(book, tails);
+    let mut kinds = Kinds::new(alloc, from);
     for at in 0..tails.len() {
         let tail = &tails[at];
         let numbers = tail.flights.as_slice();
+        let Some(first) = first_flight(book, numbers) else {
+            return Ok(kinds);
+        };
         let Some(last) = last_flight(book, numbers) else {
             return Ok(kinds);
         };
         let classes = masks.classes_of(book, request, numbers)?;
-        kinds.add(&class_with(tail, last), classes)?;
+        kinds.add(&class_with(tail, first, last, from), classes)?;
     }
     Ok(kinds)
 }
 
-/// The class of a tail with this last flight.
-fn class_with(tail: &Path, last: &Flight) -> TailClass
-    ensures { result ≡ record { after = tail.now.after; end = last.now.to; last = last.now.day } }
+/// When the first of some tails departs.
+fn first_departure(book: &Book, tails: &[Path]) -> i64 {
+    let mut from = i64::MAX;
+    for tail in tails {
+        if let Some(first) = first_flight(book, tail.flights.as_slice()) {
+            from = earlier(first, from);
+        }
+    }
+    from
+}
+
+/// An instant, or the departure of a flight if that is earlier.
+fn earlier(flight: &Flight, from: i64) -> i64
+    ensures { result ≤ℤ flight.now.dep }
+{
+    if flight.dep < from { flight.dep } else { from }
+}
+
+/// The class of a tail with this first and this last flight, which doesn't depart before an instant.
+fn class_with(tail: &Path, first: &Flight, last: &Flight, from: i64) -> TailClass
+    ensures class { result ≡ record { after = tail.now.after; end = last.now.to; last = last.now.day; from = result.from } }
+    ensures from { result.from ≤ℤ first.now.dep }
 {
     TailClass {
         after: tail.after,
         end: last.to,
         last: last.day,
+        from: earlier(first, from),
     }
 }

@@ -4,6 +4,7 @@
 #![tactic(auto)]
 
 mod adding;
+mod barring;
 mod classes;
 mod ends;
 mod filed;

@@ -1,7 +1,8 @@
-//! For the heads of a position that begin with a carrier on a day: by the class of a tail, for which classes of seats the
-//! paths are known to add nothing more.
-ghost use Rattle.std.specs.Prelude.{◌≡◌, ℕ, ℤ, IfOk, IfSome, List as Items, Some, slice_get, IsTrue};
+//! For the heads of a position by their class: by the class of a tail, for which classes of seats the paths are known to
+//! add nothing more.
+ghost use Rattle.std.specs.Prelude.{◌≡◌, ◌≤ℤ◌, ◌+ℤ◌, pos, ℕ, IfOk, IfSome, List as Items, Some, slice_get, IsTrue};
 ghost use Rattle.component_table.specs.declared.kinds.TailClass.{TailClass as OneClass};
+ghost use Rattle.component_table.specs.declared.rows.HeadClass.{HeadClass as OneHeadClass};
 ghost use Rattle.component_table.specs.declared.rows.MetHead.{MetHead as OneHead};
 ghost use Rattle.component_table.specs.declared.rows.Row.{Row as OneRow};
 ghost use Rattle.component_table.specs.Classes.{ClassDone};
@@ -9,14 +10,13 @@ ghost use Rattle.component_table.specs.Joints.{Joins};
 ghost use Rattle.component_table.specs.Masks.{AreMasks, PutsMask};
 ghost use Rattle.component_table.specs.Kinds.{joined_class};
 ghost use Rattle.component_table.specs.Rows.{AreRows, HasRows, IsMet, IsRowAt};
-ghost use Rattle.fare_law.specs.declared.names.Carrier.{Carrier as CarrierName};
 ghost use Rattle.fare_law.specs.declared.requests.Request.{Request as Asked};
 ghost use Rattle.fare_law.specs.Book.{Book as Version};
 ghost use Rattle.flight_paths.specs.declared.positions.Position.{Position as At};
 ghost use Rattle.outlines.specs.declared.outline.Entry.{Entry as OneEntry};
 
 use crate::classes::PathClass;
-use crate::gathering::first_flight;
+use crate::gathering::{first_flight, last_flight};
 use crate::kinds::{Kinds, TailClass};
 use crate::masks::Masks;
 use crate::same::same_numbers;
@@ -26,12 +26,20 @@ use flight_paths::Path;
 use indexmap::IndexMap;
 use std::alloc::Global;
 
-/// What is known of a head: the carrier and the day of its first flight, the classes of seats that are open for the party
-/// in each of its flights, and the number of the row of the carrier and the day.
+/// What the heads of a class have in common: the carrier and the day of their first flight, and an instant that is a day
+/// at least after their last flights arrive.
 #[derive(Clone, Copy, PartialEq, Eq, Debug)]
-pub struct HeadKind {
+pub struct HeadClass {
     pub carrier: Carrier,
     pub first: i32,
+    pub rest: i64,
+}
+
+/// What is known of a head: its class, the classes of seats that are open for the party in each of its flights, and the
+/// number of the row of its class.
+#[derive(Clone, Copy, PartialEq, Eq, Debug)]
+pub struct HeadKind {
+    pub class: HeadClass,
     pub classes: u32,
     pub row: usize,
 }
@@ -43,12 +51,11 @@ pub struct MetHead {
     pub kind: HeadKind,
 }
 
-/// For the paths that begin with a carrier on a day: by the number of a tail's class, the classes of seats with which the
+/// For the paths that begin with a head of a class: by the number of a tail's class, the classes of seats with which the
 /// table needs no more paths of the class. None says nothing.
 #[derive(Drop)]
 pub struct Row {
-    pub carrier: Carrier,
-    pub first: i32,
+    pub class: HeadClass,
     pub masks: Vec<Option<u32>>,
 }
 
@@ -56,15 +63,22 @@ pub struct Row {
 #[derive(Drop)]
 pub struct Rows {
     pub kept: Vec<Row>,
-    /// Where a row may stand, by the letters of its carrier and its day.
+    /// Where a row may stand, by the letters of its carrier and its first day.
     pub places: IndexMap<u64, usize>,
     pub head: Option<MetHead>,
 }
 
-impl HeadKind {
-    /// The class of the paths that go on from the head by a tail of a class.
+impl HeadClass {
+    /// Whether it is the same class.
+    fn is(&self, other: &HeadClass) -> bool
+        ensures { IsTrue result → self.now ≡ other.now }
+    {
+        self.carrier.is(other.carrier) && self.first == other.first && self.rest == other.rest
+    }
+
+    /// The class of the paths that go on from a head of the class by a tail of a class.
     pub fn joined(&self, class: &TailClass) -> PathClass
-        ensures { result ≡ joined_class self.now.carrier self.now.first class.now }
+        ensures { result ≡ joined_class self.now class.now }
     {
         PathClass {
             after: class.after,
@@ -72,16 +86,8 @@ impl HeadKind {
             carrier: self.carrier,
             first: self.first,
             last: class.last,
+            stops: if self.rest < class.from { 1 } else { 0 },
         }
-    }
-}
-
-impl Row {
-    /// Whether it is that of the first flight's carrier and day.
-    fn is_of(&self, first: &Flight) -> bool
-        ensures { IsTrue result → (self.now.carrier ≡ first.now.carrier) × (self.now.first ≡ first.now.day) }
-    {
-        self.carrier.is(first.carrier) && self.first == first.day
     }
 }
 
@@ -97,14 +103,14 @@ impl Rows {
         }
     }
 
-    /// Takes a head at hand, if it isn't there already, with a row for so many classes of tails. Where
-    /// memory runs out there is none.
+    /// Takes a head at hand, if it isn't there already, with a row for the classes of tails. Where memory runs out there
+    /// is none.
     pub fn meet(
         &mut self,
         alloc: Global,
         origin: &Origin,
         masks: &mut Masks,
-        width: usize,
+        kinds: &Kinds,
         head: &Path,
     )
         requires { AreMasks origin.now.book.now origin.now.request.now masks.old }
@@ -115,7 +121,7 @@ impl Rows {
         if is_at_hand(&self.head, head.flights.as_slice()) {
             return;
         }
-        let met = self.met(alloc, origin, masks, width, head);
+        let met = self.met(alloc, origin, masks, kinds, head);
         self.head = met;
     }
 
@@ -125,7 +131,7 @@ impl Rows {
         alloc: Global,
         origin: &Origin,
         masks: &mut Masks,
-        width: usize,
+        kinds: &Kinds,
         head: &Path,
     ) -> Option<MetHead>
         requires { AreMasks origin.now.book.now origin.now.request.now masks.old }
@@ -136,29 +142,31 @@ impl Rows {
     {
         let numbers = head.flights.as_slice();
         let first = first_flight(origin.book, numbers)?;
+        let last = last_flight(origin.book, numbers)?;
+        let class = head_class(first, last, kinds.from)?;
         let Ok(classes) = masks.classes_of(origin.book, origin.request, numbers) else {
             return None;
         };
-        let Ok(row) = self.row_of(alloc, first, width) else {
+        let Ok(row) = self.row_of(alloc, &class, kinds.classes.len()) else {
             return None;
         };
-        Some(with_first(head, first, classes, row))
+        Some(met_head(head, &class, classes, row))
     }
 
-    /// The number of the row of a first flight's carrier and day, which is added if it isn't there.
-    fn row_of(&mut self, alloc: Global, first: &Flight, width: usize) -> Result<usize, Mem>
+    /// The number of the row of a class of heads, which is added if it isn't there.
+    fn row_of(&mut self, alloc: Global, class: &HeadClass, width: usize) -> Result<usize, Mem>
         ensures rows { (b : Version) (q : Asked) (at : At) (classes : Items OneClass) (table : Items OneEntry) → AreRows b q at classes table self.old.kept.items → AreRows b q at classes table self.new.kept.items }
-        ensures row { IfOk result (IsRowAt self.new.kept.items first.now.carrier first.now.day) }
+        ensures row { IfOk result (IsRowAt self.new.kept.items class.now) }
     {
-        let key = letters(first);
+        let key = letters(class);
         let found = self.places.get(&key).copied();
-        if let Some(at) = known(self.kept.as_slice(), found, first) {
+        if let Some(at) = known(self.kept.as_slice(), found, class) {
             return Ok(at);
         }
         let masks = no_masks(alloc, width)?;
         let at = self.kept.len();
         self.places.insert(key, at)?;
-        self.kept.push(row_with(first, masks))?;
+        self.kept.push(row_with(class, masks))?;
         Ok(at)
     }
 
@@ -191,7 +199,7 @@ impl Rows {
         Some(Joint {
             head,
             tail,
-            class: met.kind.joined(class),
+            class: met.kind.class.joined(class),
             classes: met.kind.classes & kind.classes,
             row: met.kind.row,
             tail_class: kind.class,
@@ -210,8 +218,8 @@ impl Rows {
 
     /// Keeps in a row for which classes of seats a class of tails is known.
     pub fn put(&mut self, row: usize, class: usize, mask: u32)
-        ensures rows { (b : Version) (q : Asked) (at : At) (classes : Items OneClass) (table : Items OneEntry) (c : OneClass) → slice_get classes class ≡ Some c → ((one : OneRow) → slice_get self.old.kept.items row ≡ Some one → ClassDone b q at (record { class = joined_class one.carrier one.first c; classes = mask }) table) → HasRows b q at classes table self.old → HasRows b q at classes table self.new }
-        ensures stays { (carrier : CarrierName) (first : ℤ) (n : ℕ) → IsRowAt self.old.kept.items carrier first n → IsRowAt self.new.kept.items carrier first n }
+        ensures rows { (b : Version) (q : Asked) (at : At) (classes : Items OneClass) (table : Items OneEntry) (c : OneClass) → slice_get classes class ≡ Some c → ((one : OneRow) → slice_get self.old.kept.items row ≡ Some one → ClassDone b q at (record { class = joined_class one.class c; classes = mask }) table) → HasRows b q at classes table self.old → HasRows b q at classes table self.new }
+        ensures stays { (head : OneHeadClass) (n : ℕ) → IsRowAt self.old.kept.items head n → IsRowAt self.new.kept.items head n }
     {
         if row < self.kept.len() {
             put_in(&mut self.kept[row], class, mask);
@@ -221,8 +229,7 @@ impl Rows {
 
 /// Keeps in a row for which classes of seats a class of tails is known.
 fn put_in(row: &mut Row, class: usize, mask: u32)
-    ensures carrier { row.new.carrier ≡ row.old.carrier }
-    ensures first { row.new.first ≡ row.old.first }
+    ensures class { row.new.class ≡ row.old.class }
     ensures masks { PutsMask class mask row.old.masks.items row.new.masks.items }
 {
     if class < row.masks.len() {
@@ -240,15 +247,13 @@ pub fn known_for(masks: &[Option<u32>], class: usize) -> Option<u32>
     }
 }
 
-/// The row of a first flight's carrier and day.
-fn row_with(first: &Flight, masks: Vec<Option<u32>>) -> Row
-    ensures carrier { result.carrier ≡ first.now.carrier }
-    ensures first { result.first ≡ first.now.day }
+/// The row of a class of heads.
+fn row_with(class: &HeadClass, masks: Vec<Option<u32>>) -> Row
+    ensures class { result.class ≡ class.now }
     ensures masks { result.masks ≡ masks }
 {
     Row {
-        carrier: first.carrier,
-        first: first.day,
+        class: *class,
         masks,
     }
 }
@@ -274,34 +279,49 @@ fn is_at_hand(head: &Option<MetHead>, numbers: &[u32]) -> bool
     }
 }
 
-/// A head with this first flight.
-fn with_first(head: &Path, first: &Flight, classes: u32, row: usize) -> MetHead
+/// The class of a head with this first and this last flight. Which instant is a day after its arrival depends on an
+/// instant by which tails depart, so that the heads that arrive a day before are of one class.
+fn head_class(first: &Flight, last: &Flight, from: i64) -> Option<HeadClass>
+    ensures first { IfSome result (λ c. (c.first ≡ first.now.day) × (c.carrier ≡ first.now.carrier)) }
+    ensures rest { IfSome result (λ c. (last.now.arr +ℤ pos 1440) ≤ℤ c.rest) }
+{
+    let rest = last.arr.checked_add(1440)?;
+    let before = from.checked_sub(1)?;
+    let rest = if rest <= before { before } else { i64::MAX };
+    Some(HeadClass {
+        carrier: first.carrier,
+        first: first.day,
+        rest,
+    })
+}
+
+/// A head of a class.
+fn met_head(head: &Path, class: &HeadClass, classes: u32, row: usize) -> MetHead
     ensures flights { result.flights ≡ head.now.flights }
-    ensures kind { result.kind ≡ record { carrier = first.now.carrier; first = first.now.day; classes = classes; row = row } }
+    ensures kind { result.kind ≡ record { class = class.now; classes = classes; row = row } }
 {
     MetHead {
         flights: head.flights.copied(),
         kind: HeadKind {
-            carrier: first.carrier,
-            first: first.day,
+            class: *class,
             classes,
             row,
         },
     }
 }
 
-/// A place, if the row of the first flight's carrier and day stands there.
-fn known(rows: &[Row], found: Option<usize>, first: &Flight) -> Option<usize>
-    ensures { IfSome result (IsRowAt rows.now first.now.carrier first.now.day) }
+/// A place, if the row of the class of heads stands there.
+fn known(rows: &[Row], found: Option<usize>, class: &HeadClass) -> Option<usize>
+    ensures { IfSome result (IsRowAt rows.now class.now) }
 {
     let at = found?;
     let one = rows.get(at)?;
-    if one.is_of(first) { Some(at) } else { None }
+    if one.class.is(class) { Some(at) } else { None }
 }
 
-/// The letters of a first flight's carrier and its day, as one number.
-fn letters(first: &Flight) -> u64 {
-    let [a, b] = first.carrier.0;
-    let [c, d, e, f] = first.day.to_le_bytes();
+/// The letters of a class's carrier and its first day, as one number.
+fn letters(class: &HeadClass) -> u64 {
+    let [a, b] = class.carrier.0;
+    let [c, d, e, f] = class.first.to_le_bytes();
     u64::from_le_bytes([a, b, c, d, e, f, 0, 0])
 }

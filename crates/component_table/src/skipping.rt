@@ -27,7 +27,7 @@ pub struct Met<'a> {
 /// How many of the first tails of these numbers make paths with the head that add nothing to the table.
 pub fn skipped(rows: &mut Rows, met: &Met, numbers: &[usize]) -> usize
     requires reach { IsReach met.now.origin.book.now met.now.origin.at.now.place met.now.reach.now }
-    requires row { IsRowAt rows.old.kept.items met.now.head.carrier met.now.head.first met.now.head.row }
+    requires row { IsRowAt rows.old.kept.items met.now.head.class met.now.head.row }
     ensures rows { (table : Items OneEntry) → HasRows met.now.origin.book.now met.now.origin.request.now met.now.origin.at.now met.now.kinds.now.classes.items table rows.old → HasRows met.now.origin.book.now met.now.origin.request.now met.now.origin.at.now met.now.kinds.now.classes.items table rows.new }
     ensures within { result ≤ length numbers.now }
     ensures nothing { (table : Items OneEntry) → HasRows met.now.origin.book.now met.now.origin.request.now met.now.origin.at.now met.now.kinds.now.classes.items table rows.old → (head : Items ℕ) → IsHeadOf met.now.origin.book.now met.now.origin.request.now head met.now.head → (tails : Items PathData) → AreKinds met.now.origin.book.now met.now.origin.request.now tails met.now.kinds.now → (i number : ℕ) → i < result → slice_get numbers.now i ≡ Some number → TailAddsNothing met.now.origin.book.now met.now.origin.request.now met.now.origin.at.now tails table head number }
@@ -104,9 +104,9 @@ fn is_known(kinds: &[TailKind], masks: &[Option<u32>], classes: u32, number: usi
 /// Whether there is a number at this place, and the path that goes on from the head by its tail adds nothing.
 fn adds_nothing_at(rows: &mut Rows, met: &Met, numbers: &[usize], at: usize) -> bool
     requires reach { IsReach met.now.origin.book.now met.now.origin.at.now.place met.now.reach.now }
-    requires row { IsRowAt rows.old.kept.items met.now.head.carrier met.now.head.first met.now.head.row }
+    requires row { IsRowAt rows.old.kept.items met.now.head.class met.now.head.row }
     ensures rows { (table : Items OneEntry) → HasRows met.now.origin.book.now met.now.origin.request.now met.now.origin.at.now met.now.kinds.now.classes.items table rows.old → HasRows met.now.origin.book.now met.now.origin.request.now met.now.origin.at.now met.now.kinds.now.classes.items table rows.new }
-    ensures row { IsRowAt rows.new.kept.items met.now.head.carrier met.now.head.first met.now.head.row }
+    ensures row { IsRowAt rows.new.kept.items met.now.head.class met.now.head.row }
     ensures within { IsTrue result → at < length numbers.now }
     ensures nothing { IsTrue result → (table : Items OneEntry) → HasRows met.now.origin.book.now met.now.origin.request.now met.now.origin.at.now met.now.kinds.now.classes.items table rows.old → (head : Items ℕ) → IsHeadOf met.now.origin.book.now met.now.origin.request.now head met.now.head → (tails : Items PathData) → AreKinds met.now.origin.book.now met.now.origin.request.now tails met.now.kinds.now → (number : ℕ) → slice_get numbers.now at ≡ Some number → TailAddsNothing met.now.origin.book.now met.now.origin.request.now met.now.origin.at.now tails table head number }
 {
@@ -120,9 +120,9 @@ fn adds_nothing_at(rows: &mut Rows, met: &Met, numbers: &[usize], at: usize) -> 
 /// which is then kept in the head's row.
 fn adds_nothing(rows: &mut Rows, met: &Met, number: usize) -> bool
     requires reach { IsReach met.now.origin.book.now met.now.origin.at.now.place met.now.reach.now }
-    requires row { IsRowAt rows.old.kept.items met.now.head.carrier met.now.head.first met.now.head.row }
+    requires row { IsRowAt rows.old.kept.items met.now.head.class met.now.head.row }
     ensures rows { (table : Items OneEntry) → HasRows met.now.origin.book.now met.now.origin.request.now met.now.origin.at.now met.now.kinds.now.classes.items table rows.old → HasRows met.now.origin.book.now met.now.origin.request.now met.now.origin.at.now met.now.kinds.now.classes.items table rows.new }
-    ensures row { IsRowAt rows.new.kept.items met.now.head.carrier met.now.head.first met.now.head.row }
+    ensures row { IsRowAt rows.new.kept.items met.now.head.class met.now.head.row }
     ensures nothing { IsTrue result → (table : Items OneEntry) → HasRows met.now.origin.book.now met.now.origin.request.now met.now.origin.at.now met.now.kinds.now.classes.items table rows.old → (head : Items ℕ) → IsHeadOf met.now.origin.book.now met.now.origin.request.now head met.now.head → (tails : Items PathData) → AreKinds met.now.origin.book.now met.now.origin.request.now tails met.now.kinds.now → TailAddsNothing met.now.origin.book.now met.now.origin.request.now met.now.origin.at.now tails table head number }
 {
     let Some(kind) = met.kinds.of.as_slice().get(number) else {
@@ -135,7 +135,7 @@ fn adds_nothing(rows: &mut Rows, met: &Met, number: usize) -> bool
     let Some(class) = met.kinds.classes.as_slice().get(kind.class) else {
         return false;
     };
-    match filed_for(met, &met.head.joined(class)) {
+    match filed_for(met, &met.head.class.joined(class)) {
         Some(mask) => {
             rows.put(met.head.row, kind.class, mask);
             are_among(classes, mask)

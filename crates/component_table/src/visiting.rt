@@ -84,9 +84,8 @@ impl<'a, S: Scene> PathVisitor for Putting<'a, S> {
     }
 
     fn skips(&mut self, head: &Path, numbers: &[usize]) -> usize {
-        let width = self.kinds.classes.len();
         let rows = &mut self.filling.rows;
-        rows.meet(self.alloc, &self.origin, &mut self.masks, width, head);
+        rows.meet(self.alloc, &self.origin, &mut self.masks, self.kinds, head);
         let Some(kind) = rows.at_hand() else {
             return 0;
         };

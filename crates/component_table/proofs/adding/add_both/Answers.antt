@@ -1,5 +1,6 @@
 use Rattle.std.proofs.Common.{false, refl, subst}
 use Rattle.component_table.specs.declared.ways.Flown.{Flown}
+use Rattle.component_table.specs.Classes.{class_landed}
 use Rattle.component_table.specs.Tables.{Covers, IsOfPath, PathAdded}
 use Rattle.component_table.proofs.Lower.{covers_on}
 use Rattle.component_table.proofs.PathFacts.{path_added}
@@ -32,13 +33,13 @@ returns-clause-covers c =
 
 pub returns-clause-settled : goal.returns-clause-settled
 returns-clause-settled c = λ all.
+    let b = c.args.origin.now.book.now in
     let l = c.args.landed.now in
-    let fs = c.args.flights.now in
     let ms = c.args.markets.now in
     let mid = c.add_way.new.table.entries.items in
     let new = c.add_way-2.new.table.entries.items in
     let both = c.are_both.ensures all in
-    both_ways ms l fs new (way_on l.class.after fs l.classes false mid new c.in_ok-back.ensures.covers ms l.end.now (c.in_ok-there.ensures.settled both.0)) (c.in_ok-back.ensures.settled both.1)
+    both_ways b ms l new (way_on b (class_landed l) false mid new c.in_ok-back.ensures.covers ms l.end.now (c.in_ok-there.ensures.settled both.0)) (c.in_ok-back.ensures.settled both.1)
 
 pub returns-clause-done : goal.returns-clause-done
 returns-clause-done c = λ path leads is.

@@ -1,17 +1,18 @@
 use Rattle.std.proofs.Common.{refl}
 use Rattle.component_table.specs.declared.growing.Spot.{Spot}
 use Rattle.component_table.specs.Blocks.{outline_of}
+use Rattle.component_table.specs.Classes.{class_flown}
 use Rattle.component_table.proofs.BlockFacts.{block_outline, class_outline}
-use Rattle.component_table.proofs.GroupFacts.{group_below, had_settled, low_classes, none_cheap, none_settled}
+use Rattle.component_table.proofs.GroupFacts.{group_below, had_settled, low_classes, none_cheap, none_settled, share_alone}
 use Rattle.component_table.proofs.SettledFacts.{class_leads}
-use Rattle.law_lemmas.proofs.Numbers.{le_itself}
+use Rattle.fare_groups.specs.Groups.{extra_of}
 use Rattle.component_table.proofs.adding.add_group.Goals as goal
 
 pub cheapest-requires : goal.cheapest-requires
 cheapest-requires c = low_classes c.args.origin.now.book.now c.args.origin.now.request.now c.args.flown.now c.args.serving.now.market.now c.args.group.now c.requires.over c.requires.group
 
 pub returns-in_default-clause-settled : goal.returns-in_default-clause-settled
-returns-in_default-clause-settled c = λ all. none_settled c.args.flown.now.class.after c.args.flown.now.flights.now c.args.flown.now.classes c.args.serving.now.reverse c.args.group.now c.args.table.now.entries.items c.in_default.ensures
+returns-in_default-clause-settled c = λ all. none_settled c.args.origin.now.book.now (class_flown c.args.flown.now) c.args.serving.now.reverse c.args.group.now c.args.table.now.entries.items c.in_default.ensures
 
 pub returns-in_default-clause-done : goal.returns-in_default-clause-done
 returns-in_default-clause-done c = λ path p. none_cheap c.args.origin.now.book.now c.args.origin.now.request.now c.args.origin.now.at.now path c.args.flown.now c.args.serving.now.reverse c.args.serving.now.market.now c.args.group.now c.requires.over c.requires.group c.args.table.now.entries.items c.in_default.ensures
@@ -25,8 +26,8 @@ returns-then-is_below-clause-settled c = λ all.
     let share = c.in-Some.share in
     let o = outline_of f.class key r in
     let spot : Spot = record { block = f.block; key = key; reverse = r; slot = c.args.slot } in
-    had_settled f.class.after f.flights.now f.classes r c.args.group.now t.entries.items share share o c.in-Some.ensures (class_outline f.class f.class.after f.flights.now key r o c.requires.class refl)
-    (c.is_below.ensures c.if-is_below.true c.requires.low o (block_outline t.blocks.items f.class spot c.requires.block)) (le_itself share)
+    had_settled c.args.origin.now.book.now (class_flown f) r c.args.group.now t.entries.items share share o c.in-Some.ensures refl
+    (c.is_below.ensures c.if-is_below.true c.requires.low o (block_outline t.blocks.items f.class spot c.requires.block)) (λ rule live fs of. share_alone share (extra_of rule fs))
 
 pub returns-then-is_below-clause-done : goal.returns-then-is_below-clause-done
 returns-then-is_below-clause-done c = λ path p.

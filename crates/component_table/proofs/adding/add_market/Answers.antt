@@ -1,5 +1,6 @@
 use Rattle.std.proofs.Common.{◌<◌, ap, length, slice_get, subst, sym, ◌∙◌, arith}
-use Rattle.component_table.specs.Blocks.{HasBlock}
+use Rattle.component_table.specs.Blocks.{HasBlock, whole_class}
+use Rattle.component_table.specs.Classes.{class_flown}
 use Rattle.component_table.proofs.Lower.{covers_on, goes_self}
 use Rattle.component_table.proofs.Served.{between_more, groups_apart, groups_between}
 use Rattle.component_table.proofs.SettledFacts.{groups_next}
@@ -24,7 +25,7 @@ add_group-requires-clause-group c =
     subst (IsIn c.index-groups-at.result) c.as_slice-groups.ensures (read_in c.as_slice-groups.result.now c.loop-at.at _ c.index-groups-at.result lt c.index-groups-at.is)
 
 pub add_group-requires-clause-block : goal.add_group-requires-clause-block
-add_group-requires-clause-block c = subst (λ bs. HasBlock bs c.args.flown.now.class c.args.flown.now.block) (sym c.loop-at.invariant.blocks) c.requires.block
+add_group-requires-clause-block c = subst (λ bs. HasBlock bs (whole_class c.args.flown.now.class) c.args.flown.now.block) (sym c.loop-at.invariant.blocks) c.requires.block
 
 pub returns-in_err-one-clause-blocks : goal.returns-in_err-one-clause-blocks
 returns-in_err-one-clause-blocks c = c.in_err-one.ensures.blocks ∙ c.loop-at.invariant.blocks
@@ -42,7 +43,7 @@ loop-at-preserved c =
       low = c.in_ok-one.ensures.low;
       blocks = c.in_ok-one.ensures.blocks ∙ c.loop-at.invariant.blocks;
       covers = covers_on c.args.table.now.entries.items mid new c.loop-at.invariant.covers c.in_ok-one.ensures.covers;
-      settled = λ all. let both = c.are_both-settled.ensures all in groups_next f.class.after f.flights.now f.classes c.args.serving.now.reverse mid new c.in_ok-one.ensures.covers c.as_slice-groups.result.now c.args.serving.now.filed.from c.loop-at.at _ c.index-groups-at.result lt c.index-groups-at.is (c.loop-at.invariant.settled both.0) (c.in_ok-one.ensures.settled both.1);
+      settled = λ all. let both = c.are_both-settled.ensures all in groups_next c.args.origin.now.book.now (class_flown f) c.args.serving.now.reverse mid new c.in_ok-one.ensures.covers c.as_slice-groups.result.now c.args.serving.now.filed.from c.loop-at.at _ c.index-groups-at.result lt c.index-groups-at.is (c.loop-at.invariant.settled both.0) (c.in_ok-one.ensures.settled both.1);
       done = λ path p. between_more c.args.origin.now.book.now c.args.origin.now.request.now c.args.origin.now.at.now path f c.args.serving.now.reverse c.as_slice-groups.result.now c.args.serving.now.filed.from c.loop-at.at _ c.index-groups-at.result
           c.args.table.now.entries.items mid new lt c.index-groups-at.is (c.loop-at.invariant.done path p) (c.in_ok-one.ensures.done path p);
     }

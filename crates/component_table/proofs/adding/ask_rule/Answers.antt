@@ -1,14 +1,20 @@
-use Rattle.std.proofs.Common.{ap, refl, subst, sym, ◌∙◌}
+use Rattle.std.proofs.Common.{◌≤◌, List, ap, refl, subst, sym, ◌∙◌}
 use Rattle.component_table.specs.Tables.{HasRow, IsRowOf, Lowered}
 use Rattle.component_table.specs.Blocks.{HasOutline, outline_of}
+use Rattle.component_table.specs.Classes.{IsOfClass, class_flown}
 use Rattle.component_table.proofs.BlockFacts.{class_outline, wanted_outline}
-use Rattle.component_table.proofs.GroupFacts.{free_below, group_dear, group_had, had_settled, has_row, none_extra, rule_within, share_low}
+use Rattle.component_table.proofs.GroupFacts.{barred_settled, class_day, group_dear, group_had, had_settled, has_row, least_below, none_extra, rule_live, rule_within, share_low}
 use Rattle.component_table.proofs.SettledFacts.{class_leads}
 use Rattle.fare_groups.specs.Groups.{Permits, extra_of}
+use Rattle.fare_law.specs.declared.flights.Flight.{Flight}
+use Rattle.fare_law.specs.declared.names.Carrier.{Carrier}
+use Rattle.fare_law.specs.declared.rules.Rule.{Rule}
+use Rattle.fare_law.specs.Book.{live_rule}
 use Rattle.fare_law.specs.RuleLimits.{IsRule}
 use Rattle.fare_law.specs.Parts.{stopover_charge, surcharges}
 use Rattle.fare_law.specs.Sheets.{Sheet}
 use Rattle.law_lemmas.proofs.LawFacts.{low_sum}
+use Rattle.law_lemmas.proofs.Options.{some_one}
 use Rattle.component_table.proofs.adding.ask_rule.Goals as goal
 
 pub first_row-row-requires : goal.first_row-row-requires
@@ -41,10 +47,51 @@ put-requires-clause-outline c =
 
 pub returns-clause-settled : goal.returns-clause-settled
 returns-clause-settled c = λ all.
+    let b = c.args.origin.now.book.now in
+    let s = class_flown c.args.flown.now in
+    let g = c.args.wanted.now.group.now in
+    let row = c.first_row-row.result.now in
+    let of = subst (λ (s : Sheet). IsRowOf s.rows g row) c.deref-sheet.ensures c.first_row-row.ensures in
+    let live = rule_live b c.args.origin.now.request.now c.args.flown.now c.args.serving.now.market.now g c.requires.over c.requires.group row of in
+    let least = subst (λ (r : Rule). (fs : List Flight) → IsOfClass s.class s.class.after fs → c.in-Some.charges ≤ extra_of r fs) c.deref-2.ensures (c.are_least-least.ensures all) in
+    had_settled b s c.args.serving.now.reverse g c.put.new.self.entries.items c.args.wanted.now.share c.sum-price.result c.outline_of-outline.result
+    c.requires.wanted.share_is c.outline_of-outline.ensures c.in_ok-put.ensures.lowered.has
+    (λ rule own fs is. least_below c.args.wanted.now.share c.in-Some.charges c.sum-price.result (extra_of rule fs) c.sum-price.ensures
+    (subst (λ (r : Rule). c.in-Some.charges ≤ extra_of r fs) (some_one (live_rule b g.key.carrier g.key.number) row.rule rule live own) (least fs is)))
+
+pub returns-then-is_below-clause-settled : goal.returns-then-is_below-clause-settled
+returns-then-is_below-clause-settled c = λ all.
+    let b = c.args.origin.now.book.now in
     let f = c.args.flown.now in
-    let l = c.in_ok-put.ensures.lowered in
-    let outline = class_outline f.class f.class.after f.flights.now c.args.wanted.now.group.now.key c.args.serving.now.reverse c.outline_of-outline.result c.requires.class c.outline_of-outline.ensures in
-    had_settled f.class.after f.flights.now f.classes c.args.serving.now.reverse c.args.wanted.now.group.now c.put.new.self.entries.items c.args.wanted.now.share c.sum-price.result c.outline_of-outline.result c.requires.wanted.share_is outline l.has (free_below c.args.wanted.now.share c.in-Some.charges c.sum-price.result c.sum-price.ensures (c.is_free.ensures all))
+    let s = class_flown f in
+    let g = c.args.wanted.now.group.now in
+    let r = c.args.serving.now.reverse in
+    let t = c.args.table.now in
+    let o = outline_of f.class g.key r in
+    let row = c.first_row-row.result.now in
+    let of = subst (λ (s : Sheet). IsRowOf s.rows g row) c.deref-sheet.ensures c.first_row-row.ensures in
+    let live = rule_live b c.args.origin.now.request.now f c.args.serving.now.market.now g c.requires.over c.requires.group row of in
+    let least = subst (λ (r : Rule). (fs : List Flight) → IsOfClass s.class s.class.after fs → c.in-Some.charges ≤ extra_of r fs) c.deref-2.ensures (c.are_least-least.ensures all) in
+    had_settled b s r g t.entries.items c.args.wanted.now.share c.sum-price.result o c.requires.wanted.share_is refl
+    (c.is_below.ensures c.if-is_below.true c.requires.low o (wanted_outline t.blocks.items f r c.args.wanted.now c.requires.wanted c.requires.block))
+    (λ rule own fs is. least_below c.args.wanted.now.share c.in-Some.charges c.sum-price.result (extra_of rule fs) c.sum-price.ensures
+    (subst (λ (r : Rule). c.in-Some.charges ≤ extra_of r fs) (some_one (live_rule b g.key.carrier g.key.number) row.rule rule live own) (least fs is)))
+
+pub permits_none-requires : goal.permits_none-requires
+permits_none-requires c =
+    let f = c.args.flown.now in
+    class_day f.class f.class.after f.flights.now c.requires.class c.requires.over.flown_is.limits
+
+pub returns-in_default-clause-settled : goal.returns-in_default-clause-settled
+returns-in_default-clause-settled c = λ all.
+    let b = c.args.origin.now.book.now in
+    let s = class_flown c.args.flown.now in
+    let g = c.args.wanted.now.group.now in
+    let row = c.first_row-row.result.now in
+    let of = subst (λ (s : Sheet). IsRowOf s.rows g row) c.deref-sheet.ensures c.first_row-row.ensures in
+    let live = rule_live b c.args.origin.now.request.now c.args.flown.now c.args.serving.now.market.now g c.requires.over c.requires.group row of in
+    barred_settled b s c.args.serving.now.reverse g c.args.table.now.entries.items row.rule live
+    (subst (λ (r : Rule). (carrier : Carrier) (fs : List Flight) → IsOfClass s.class s.class.after fs → Permits r carrier fs → ⊥) c.deref-in_default.ensures (c.permits_none.ensures all))
 
 pub returns-clause-done : goal.returns-clause-done
 returns-clause-done c = λ path p.

@@ -21,7 +21,7 @@ returns-in-Some-filed_for-clause-rows c = λ table has.
     c.put.ensures.rows b q at m.kinds.now.classes.items table class stands (λ one got. done_in_row b q at c.args.rows.now.kept.items m.head class mask table c.requires.row one got done) has
 
 pub returns-in-Some-filed_for-clause-row : goal.returns-in-Some-filed_for-clause-row
-returns-in-Some-filed_for-clause-row c = c.put.ensures.stays c.args.met.now.head.carrier c.args.met.now.head.first c.args.met.now.head.row c.requires.row
+returns-in-Some-filed_for-clause-row c = c.put.ensures.stays c.args.met.now.head.class c.args.met.now.head.row c.requires.row
 
 pub returns-in-Some-filed_for-clause-nothing : goal.returns-in-Some-filed_for-clause-nothing
 returns-in-Some-filed_for-clause-nothing c = λ t table has head is tails kinds tail got.

@@ -8,7 +8,7 @@ use Rattle.component_table.proofs.skipping.skipped.Given as goal
 abbrev pub invariant-loop-at : goal.invariant-loop-at
 invariant-loop-at l = record {
   within : l.at ≤ length l.numbers;
-  row : IsRowAt l.rows.kept.items l.met.head.carrier l.met.head.first l.met.head.row;
+  row : IsRowAt l.rows.kept.items l.met.head.class l.met.head.row;
   rows : (table : List Entry) → HasRows l.met.origin.book.now l.met.origin.request.now l.met.origin.at.now l.met.kinds.now.classes.items table l.initial.rows → HasRows l.met.origin.book.now l.met.origin.request.now l.met.origin.at.now l.met.kinds.now.classes.items table l.rows;
   nothing : (table : List Entry) → HasRows l.met.origin.book.now l.met.origin.request.now l.met.origin.at.now l.met.kinds.now.classes.items table l.initial.rows → (head : List ℕ) → IsHeadOf l.met.origin.book.now l.met.origin.request.now head l.met.head → (tails : List Path)
       → AreKinds l.met.origin.book.now l.met.origin.request.now tails l.met.kinds.now → (i number : ℕ) → i < l.at → slice_get l.numbers i ≡ Some number → TailAddsNothing l.met.origin.book.now l.met.origin.request.now l.met.origin.at.now tails table head number;

@@ -1,4 +1,4 @@
-use Rattle.std.proofs.Common.{◌≡◌, [], ◌∷◌, ◌++◌, ap, length, refl, slice_get, subst, sym, ◌∙◌, arith}
+use Rattle.std.proofs.Common.{◌≡◌, [], ◌∷◌, ◌++◌, ap, length, slice_get, subst, sym, ◌∙◌, arith}
 use Rattle.component_table.specs.declared.growing.Block.{Block}
 use Rattle.component_table.specs.Blocks.{IsSlot}
 use Rattle.component_table.proofs.BlockFacts.{slots_block, slots_fewer}
@@ -10,7 +10,7 @@ returns-clause-low c = λ n s got.
     let old = c.args.self.now in
     let blocks = old.blocks.items in
     let entries = old.entries.items in
-    let block : Block = record { class = c.args.class.now; there = c.len-begin.result; back = c.len-middle.result } in
+    let block : Block = record { class = c.whole.result; there = c.len-begin.result; back = c.len-middle.result } in
     let mid = c.add_slots.new.slots.items in
     let new = c.add_slots-2.new.slots.items in
     let low = slots_fewer blocks entries mid new c.add_slots-2.ensures (slots_fewer blocks entries old.slots.items mid c.add_slots.ensures c.requires) in
@@ -19,6 +19,6 @@ returns-clause-low c = λ n s got.
 pub returns-clause-block : goal.returns-clause-block
 returns-clause-block c =
     let blocks = c.args.self.now.blocks.items in
-    let block : Block = record { class = c.args.class.now; there = c.len-begin.result; back = c.len-middle.result } in
+    let block : Block = record { class = c.whole.result; there = c.len-begin.result; back = c.len-middle.result } in
     let n : c.len-at.result ≡ length blocks = omega (arith, c.len-at.ensures) in
-    record { one = block; stands = ap (λ xs. slice_get xs c.len-at.result) c.in_ok-push.ensures.items ∙ ap (slice_get (blocks ++ block ∷ [])) n ∙ got_last blocks block; class_is = refl }
+    record { one = block; stands = ap (λ xs. slice_get xs c.len-at.result) c.in_ok-push.ensures.items ∙ ap (slice_get (blocks ++ block ∷ [])) n ∙ got_last blocks block; class_is = c.whole.ensures }

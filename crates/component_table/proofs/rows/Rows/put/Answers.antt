@@ -12,13 +12,13 @@ returns-then-row-len-clause-rows c = λ b q at classes table k known done has.
     let stands = read_got rows c.args.row _ old lt c.index_mut.ensures.value in
     let puts = c.put_in.ensures in
     record {
-      each = rows_put rows c.args.row old new stands puts.carrier puts.first b q at classes table c.args.class c.args.mask k puts.masks known (done old stands) has.each;
-      head = met_set rows c.args.row old new stands puts.carrier puts.first b q c.args.self.now.head has.head;
+      each = rows_put rows c.args.row old new stands puts.class b q at classes table c.args.class c.args.mask k puts.masks known (done old stands) has.each;
+      head = met_set rows c.args.row old new stands puts.class b q c.args.self.now.head has.head;
     }
 
 pub returns-then-row-len-clause-stays : goal.returns-then-row-len-clause-stays
-returns-then-row-len-clause-stays c = λ carrier first n h.
+returns-then-row-len-clause-stays c = λ head n h.
     let rows = c.args.self.now.kept.items in
     let old = c.index_mut.result.now in
     let lt : c.args.row < length rows = omega (arith, c.if-row-len.true, c.len.ensures) in
-    row_at_set rows c.args.row old c.put_in.new.row (read_got rows c.args.row _ old lt c.index_mut.ensures.value) c.put_in.ensures.carrier c.put_in.ensures.first carrier first n h
+    row_at_set rows c.args.row old c.put_in.new.row (read_got rows c.args.row _ old lt c.index_mut.ensures.value) c.put_in.ensures.class head n h

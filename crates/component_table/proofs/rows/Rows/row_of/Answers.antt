@@ -5,7 +5,7 @@ use Rattle.law_lemmas.proofs.Lists.{got_last}
 use Rattle.component_table.proofs.rows.Rows.row_of.Goals as goal
 
 pub returns-in-Some-clause-row : goal.returns-in-Some-clause-row
-returns-in-Some-clause-row c = subst (λ xs. IsRowAt xs c.args.first.now.carrier c.args.first.now.day c.in-Some.at) c.as_slice.ensures.value c.in-Some.ensures
+returns-in-Some-clause-row c = subst (λ xs. IsRowAt xs c.args.class.now c.in-Some.at) c.as_slice.ensures.value c.in-Some.ensures
 
 pub returns-clause-rows : goal.returns-clause-rows
 returns-clause-rows c = λ b q at classes table h.
@@ -17,4 +17,4 @@ returns-clause-row c =
     let old = c.args.self.now.kept.items in
     let row = c.row_with.result in
     let n : c.len-at.result ≡ length old = omega (arith, c.len-at.ensures) in
-    record { row = row; stands = ap (λ xs. slice_get xs c.len-at.result) c.in_ok-push.ensures.items ∙ ap (slice_get (old ++ row ∷ [])) n ∙ got_last old row; carrier_is = c.row_with.ensures.carrier; first_is = c.row_with.ensures.first }
+    record { row = row; stands = ap (λ xs. slice_get xs c.len-at.result) c.in_ok-push.ensures.items ∙ ap (slice_get (old ++ row ∷ [])) n ∙ got_last old row; class_is = c.row_with.ensures.class }

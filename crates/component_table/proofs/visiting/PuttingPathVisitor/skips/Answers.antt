@@ -45,7 +45,7 @@ skipped-requires-clause-row g c =
     let has = c.meet.ensures.rows s.origin.at.now s.kinds.now.classes.items s.filling.table.entries.items c.self.invariant.rows in
     let hand = c.in-Some.ensures in
     let met = subst (λ o. IfSome o (IsMet s.origin.book.now s.origin.request.now rows.kept.items)) hand.1 has.head in
-    subst (λ (k : HeadKind). IsRowAt rows.kept.items k.carrier k.first k.row) hand.2 met.row
+    subst (λ (k : HeadKind). IsRowAt rows.kept.items k.class k.row) hand.2 met.row
 
 pub returns-clause-skipped : goal.returns-clause-skipped
 returns-clause-skipped g c = λ tails known n lt number got tail stands joined flights after before h.
