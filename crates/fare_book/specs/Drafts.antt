@@ -1,5 +1,5 @@
 -- What is kept of a filing while its actions are taken one after another.
-use Rattle.std.specs.Prelude.{◌≡◌, ◌≢◌, ◌≤◌, ℕ, List, [], ◌∷◌, ◌++◌, Option, Some, None, IsSome, Result, Ok, Err}
+use Rattle.std.specs.Prelude.{◌≡◌, ◌≢◌, ◌≤◌, ℕ, List, [], ◌∷◌, ◌++◌, Some, IsSome, Result, Ok, Err}
 use Rattle.std.specs.Arc.{arc_value}
 use Rattle.std.specs.declared.sync.Arc.{Arc}
 use Rattle.fare_law.specs.declared.fares.Fare.{Fare}
@@ -34,14 +34,9 @@ pub record Follows (b : Book) (action : Action) (next : Book) : Type 0 where
 abbrev pub Faultless : Book → Action → Type 0
 Faultless b action = (why : BookWhy) → Why b action why → ⊥
 
--- the seats that were changed, or else those that are shared
-abbrev pub own_or : Option (List (SeatKey × List ℕ)) → List (SeatKey × List ℕ) → List (SeatKey × List ℕ)
-own_or None shared = shared
-own_or (Some own) shared = own
-
 -- the seats of a draft
 abbrev pub drafted_seats : Draft → List (SeatKey × List ℕ)
-drafted_seats d = own_or d.own_seats (arc_value d.seats)
+drafted_seats d = arc_value d.seats
 
 -- the rule of each live fare is live
 abbrev pub Stand : Fares → LiveRules → Type 0

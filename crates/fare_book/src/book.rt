@@ -1,11 +1,13 @@
 //! The book: a version of the history.
-ghost use Rattle.std.specs.Prelude.{◌≡◌, ◌≤◌, ◌↔◌, ℕ, [], length, map, Some, None, IfOk, IsTrue, MatchOption};
+ghost use Rattle.std.specs.Prelude.{◌≡◌, ◌≤◌, ◌↔◌, ℕ, [], length, map, Some, None, IfErr, IfOk, OnOk, IsTrue, MatchOption};
 ghost use Rattle.std.specs.Arc.{arc_value};
-ghost use Rattle.fare_law.specs.Book.{live_fare, live_rule, seats};
+ghost use Rattle.fare_law.specs.Book.{live_fare, live_rule, row_key, seats};
+ghost use Rattle.fare_law.specs.Lists.{AllDifferent};
 ghost use Rattle.fare_law.specs.Sheets.{SheetOf};
 ghost use Rattle.fare_law.specs.declared.flights.Flight.{Flight};
 ghost use Rattle.fare_book.specs.Keeping.{History, Limited, NoFare};
 ghost use Rattle.fare_book.specs.Seating.{SeatsBook};
+ghost use Rattle.seat_classes.specs.Given.{HasCause};
 ghost use Rattle.seat_classes.specs.Held.{seats_in};
 
 mod next;
@@ -14,9 +16,10 @@ mod open_book;
 use crate::Timetable;
 use crate::keys::{Market, RuleKey};
 use crate::rows::row_of;
-use fare_law::{FareKey, Filing, List, MarketSheet, Mem, Place, Rule, Shared, SheetRow};
+use fare_law::{FareKey, Filing, List, MarketSheet, Place, Rule, SeatRow, Shared, SheetRow};
 pub use open_book::OpenBook;
-use seat_classes::{Seats, live_rows_seat_flights};
+use schedule_book::Schedule;
+use seat_classes::{SeatFault, Seats, live_rows_seat_flights};
 use std::alloc::Global;
 use std::collections::HashMap;
 use std::marker::Model;
@@ -54,11 +57,17 @@ impl Model for Book {
 const MOST_ENTRIES: usize = 1_000_000;
 
 impl Book {
-    /// The book of a timetable with no filing.
-    pub fn empty(alloc: Global, timetable: Arc<Timetable>) -> Result<Book, Mem>
-        ensures { IfOk result (λ b. b ≡ record { timetable = arc_value timetable; entries = [] }) }
+    /// The book of a schedule and at most 200,000 seat rows, with no filing. The first row that has the
+    /// carrier, number, origin and date field of an earlier one is refused. A row for no flight has no
+    /// effect.
+    pub fn empty(alloc: Global, schedule: Schedule, rows: &[SeatRow]) -> Result<Book, SeatFault>
+        requires { length rows.now ≤ 200000 }
+        ensures value { IfOk result (λ b. b ≡ record { timetable = record { places = schedule.places; flights = schedule.flights; seats = rows.now }; entries = [] }) }
+        ensures differ { OnOk result (AllDifferent (map row_key rows.now)) }
+        ensures fault { IfErr result (HasCause rows.now) }
     {
-        let seats = Arc::try_clone(timetable.seats())?;
+        let seats = Arc::new(alloc, Seats::build(alloc, rows)?)?;
+        let timetable = Arc::new(alloc, Timetable::of(schedule, rows))?;
         Ok(Book {
             timetable,
             entries: List::new(alloc),

@@ -21,9 +21,8 @@ pub struct Draft {
     pub changed: HashSet<RuleKey>,
     /// How many live fares name each rule.
     pub uses: HashMap<RuleKey, u32>,
-    /// The book's seats, for as long as none are put or dropped.
+    /// Shared with the book for as long as none are put or dropped.
     pub seats: Arc<Seats>,
-    pub own_seats: Option<Seats>,
     pub fare_count: u32,
     pub rule_count: u32,
 }

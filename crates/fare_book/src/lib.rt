@@ -14,6 +14,7 @@ mod laws;
 mod rows;
 mod rule_actions;
 mod rules;
+mod same_fares;
 mod seat_actions;
 mod sheets;
 mod tables;

@@ -12,6 +12,7 @@ ghost use Rattle.fare_book.specs.declared.keys.RuleKey.{RuleKey as RuleName};
 
 use crate::fare_table::FareTable;
 use crate::keys::Market;
+use crate::same_fares::is_key;
 use fare_law::{Fare, FareKey, MarketSheet, Mem, SheetRow};
 use std::alloc::Global;
 use std::collections::{BTreeMap, HashMap};
@@ -55,7 +56,7 @@ fn put_fare_in(alloc: Global, table: &mut FareTable, fare: &Fare) -> Result<Opti
 {
     match table {
         FareTable::One(only) => {
-            if only.key == fare.key {
+            if is_key(&only.key, &fare.key) {
                 return Ok(Some(replace(only, fare.copied())));
             }
             let fares = tree_of(alloc, only, fare)?;

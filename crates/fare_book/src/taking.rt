@@ -52,6 +52,6 @@ fn act(draft: &mut Draft, alloc: Global, action: &Action) -> Result<(), Stop>
         Action::PutRule(carrier, number, rule) => put_rule(draft, *carrier, *number, rule),
         Action::DropRule(carrier, number) => drop_rule(draft, *carrier, *number),
         Action::PutSeats(key, seats) => put_seats(draft, alloc, key, seats),
-        Action::DropSeats(key) => drop_seats(draft, alloc, key),
+        Action::DropSeats(key) => drop_seats(draft, key),
     }
 }

@@ -1,58 +1,36 @@
 //! What is known before any filing.
-ghost use Rattle.std.specs.Prelude.{◌≡◌, ◌≤◌, length, map, IfOk, IfErr, OnOk};
-ghost use Rattle.fare_law.specs.Book.{row_key};
-ghost use Rattle.fare_law.specs.Lists.{AllDifferent};
-ghost use Rattle.fare_book.specs.Seating.{SeatsRows};
-ghost use Rattle.seat_classes.specs.Given.{HasCause};
-ghost use Rattle.std.specs.Arc.{arc_value};
+ghost use Rattle.std.specs.Prelude.{◌≡◌};
 
-use fare_law::{List, SeatRow};
+use fare_law::SeatRow;
+use known_list::KnownList;
 use schedule_book::Schedule;
-use seat_classes::{SeatFault, Seats};
-use std::alloc::Global;
 use std::marker::Model;
-use std::sync::Arc;
 
 /// The places, the dated flights and the seat rows that a case gives. Contracts see the seat rows as
-/// they were given.
+/// they were given; they aren't kept, as a book has its seats.
 #[derive(Drop)]
 pub struct Timetable {
     schedule: Schedule,
-    rows: List<SeatRow>,
-    seats: Arc<Seats>,
+    rows: KnownList<SeatRow>,
 }
 
 impl Model for Timetable {
-    ghost use Rattle.std.specs.Arc.{arc_value};
     ghost use Rattle.fare_law.specs.Book.{Timetable as Given};
-    ghost use Rattle.fare_book.specs.Seating.{SeatsRows};
 
     ghost Value = { Given };
 
     ghost view = { λ t. record { places = t.schedule.places; flights = t.schedule.flights; seats = t.rows } };
-
-    ghost invariant = { λ t. SeatsRows t.rows (arc_value t.seats) };
 }
 
 impl Timetable {
-    /// The timetable of a schedule and at most 200,000 seat rows. The first row that has the carrier,
-    /// number, origin and date field of an earlier one is refused. A row for no flight has no effect.
-    pub fn of(
-        alloc: Global,
-        schedule: Schedule,
-        rows: List<SeatRow>,
-    ) -> Result<Timetable, SeatFault>
-        requires { length rows ≤ 200000 }
-        ensures value { IfOk result (λ t. t ≡ record { places = schedule.places; flights = schedule.flights; seats = rows }) }
-        ensures differ { OnOk result (AllDifferent (map row_key rows)) }
-        ensures fault { IfErr result (HasCause rows) }
+    /// The timetable of a schedule and these seat rows.
+    pub(crate) fn of(schedule: Schedule, rows: &[SeatRow]) -> Timetable
+        ensures { result ≡ record { places = schedule.places; flights = schedule.flights; seats = rows.now } }
     {
-        let seats = Arc::new(alloc, Seats::build(alloc, rows.as_slice())?)?;
-        Ok(Timetable {
+        Timetable {
             schedule,
-            rows,
-            seats,
-        })
+            rows: KnownList::of(rows),
+        }
     }
 
     /// The places and the dated flights.
@@ -60,12 +38,5 @@ impl Timetable {
         ensures { result.now ≡ record { places = self.now.places; flights = self.now.flights } }
     {
         &self.schedule
-    }
-
-    /// The seats of the rows.
-    pub(crate) fn seats(&self) -> &Arc<Seats>
-        ensures { SeatsRows self.now.seats (arc_value result.now) }
-    {
-        &self.seats
     }
 }

@@ -8,9 +8,9 @@ ghost use Rattle.seat_classes.specs.Given.{HasCause, rows_have};
 
 use crate::keys::{daily_key, dated_key, row_key};
 use crate::{SeatFault, SeatPut};
-use fare_law::{Class, Flight, Mem, SeatKey, SeatRow};
+use fare_law::{Class, Flight, SeatKey, SeatRow};
 use lane_mask::at_least;
-use std::alloc::Global;
+use std::alloc::{AllocError, Global};
 use std::collections::HashMap;
 use std::marker::Model;
 
@@ -90,15 +90,6 @@ impl Seats {
         }
     }
 
-    /// The same rows. The map keeps its own hold of the allocator.
-    pub fn copy(&self, _alloc: Global) -> Result<Seats, Mem>
-        ensures { IfOk result (λ seats. seats ≡ self.now) }
-    {
-        Ok(Seats {
-            rows: self.rows.clone()?,
-        })
-    }
-
     /// The number of rows.
     pub fn count(&self) -> u32
         ensures { Counts self.now result }
@@ -127,5 +118,15 @@ impl Seats {
         ensures same { OnFalse result (self.new ≡ self.old) }
     {
         self.rows.remove(key).is_some()
+    }
+}
+
+impl Clone for Seats {
+    ghost is_clone = { λ v w. w ≡ v };
+
+    fn clone(&self) -> Result<Seats, AllocError> {
+        Ok(Seats {
+            rows: self.rows.clone()?,
+        })
     }
 }

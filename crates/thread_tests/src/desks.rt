@@ -5,10 +5,10 @@ ghost use Rattle.fare_law.specs.FilingLimits.{IsFiling};
 ghost use Rattle.fare_law.specs.Limits.{IsFareKey};
 
 use crate::versions::{LON, NYC, PLACES, QX, filing, key, key_back};
-use fare_book::{Book, Timetable};
+use fare_book::Book;
 use fare_law::{
-    Action, ArrayVec, Fare, FareKey, FareKind, Filing, FlightRow, Gate, List, Mem, Request,
-    SeatRow, Slice,
+    Action, ArrayVec, Fare, FareKey, FareKind, Filing, FlightRow, Gate, Mem, Request, SeatRow,
+    Slice,
 };
 use fare_versions::{Clerk, begin};
 use node_publish::NodeStore;
@@ -66,10 +66,7 @@ impl Gate for Counting {
 /// The book of one flight and no fare.
 fn opening(alloc: Global) -> Result<Book, Fail> {
     let schedule = Schedule::build(alloc, &PLACES, &[FLIGHT])?;
-    let mut seats = List::new(alloc);
-    seats.push(SEATS)?;
-    let timetable = Arc::new(alloc, Timetable::of(alloc, schedule, seats)?)?;
-    Ok(Book::empty(alloc, timetable)?)
+    Ok(Book::empty(alloc, schedule, &[SEATS])?)
 }
 
 /// The filing that puts a fare of this basis at this amount.

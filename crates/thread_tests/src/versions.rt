@@ -5,7 +5,7 @@ ghost use Rattle.fare_law.specs.FilingLimits.{IsAction, IsFiling};
 ghost use Rattle.fare_law.specs.Limits.{IsFareKey};
 ghost use Rattle.fare_versions.specs.Seen.{HasSeen};
 
-use fare_book::{Book, Timetable};
+use fare_book::Book;
 use fare_law::{
     Action, ArrayVec, Basis, BookWhy, Carrier, Fare, FareKey, FareKind, Filing, FlightRow, List,
     Mem, Place, PlaceRow, Refused, SeatRow,
@@ -39,9 +39,8 @@ pub const PLACES: [PlaceRow; 2] = [
 pub fn opening(alloc: Global) -> Result<Book, Fail> {
     let rows: [FlightRow; 0] = [];
     let schedule = Schedule::build(alloc, &PLACES, &rows)?;
-    let seats: List<SeatRow> = List::new(alloc);
-    let timetable = Arc::new(alloc, Timetable::of(alloc, schedule, seats)?)?;
-    Ok(Book::empty(alloc, timetable)?)
+    let seats: [SeatRow; 0] = [];
+    Ok(Book::empty(alloc, schedule, &seats)?)
 }
 
 /// The key of the fare QX LON NYC with this basis of one letter.

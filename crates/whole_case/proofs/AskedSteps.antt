@@ -1,9 +1,6 @@
 -- What follows each stage of what a case asks, and how a stage that refuses the case ends the whole.
 use Rattle.std.proofs.Common.{ℕ, Option, List, [], Ok, Err}
 use Rattle.fare_law.specs.declared.requests.Request.{Request}
-use Rattle.fare_law.specs.declared.rows.FlightRow.{FlightRow}
-use Rattle.fare_law.specs.declared.rows.PlaceRow.{PlaceRow}
-use Rattle.fare_law.specs.declared.rows.SeatRow.{SeatRow}
 use Rattle.fare_law.specs.Book.{Book, Timetable}
 use Rattle.case_text.specs.declared.contents.Case.{Case}
 use Rattle.case_text.specs.declared.kinds.CaseKind.{CaseKind}
@@ -13,7 +10,7 @@ use Rattle.whole_case.specs.Cases.{asked_case}
 use Rattle.whole_case.specs.Filings.{filed_version}
 use Rattle.whole_case.specs.Requests.{sole_line, sole_request}
 use Rattle.whole_case.specs.Stages.{Reads, Stage, done, ◌>>=◌}
-use Rattle.whole_case.specs.Timetables.{opening_of, sections_in, timetable_of}
+use Rattle.whole_case.specs.Timetables.{opening_of, sections_in}
 use Rattle.whole_case.proofs.StageLemmas.{goes_on, stops}
 
 abbrev pub opening : Timetable → Book
@@ -33,9 +30,6 @@ after_opening at case opening = filed_version opening case.filings at >>= after_
 
 abbrev pub after_form : Option ℕ → Case → Stage AskedCase
 after_form at case = opening_of case.places case.flights case.seats >>= after_opening at case
-
-pub timetable_stops : (places : List PlaceRow) (rows : List FlightRow) (seats : List SeatRow) (fault : LoadFault) → Reads {A = Timetable} (Err fault) (timetable_of places rows seats) → Reads {A = Book} (Err fault) (opening_of places rows seats)
-timetable_stops places rows seats fault h = stops (timetable_of places rows seats) (λ timetable. done (opening timetable)) fault h
 
 -- stages that refuse the case after its rows are read
 module _ (kind : CaseKind) (at : Option ℕ) (bytes : List ℕ) (case : Case) (form : sections_in kind bytes (Ok case)) (opening : Book) (rows : opening_of case.places case.flights case.seats (Ok opening)) where

@@ -9,12 +9,11 @@ ghost use Rattle.whole_case.specs.Timetables as Timetables;
 use crate::reasons::{of_form, of_rows, refused_at};
 use crate::{LoadFault, Reason};
 use case_text::{Case, CaseKind, sections};
-use fare_book::{Book, Timetable};
+use fare_book::Book;
 use fare_law::{FlightRow, List, PlaceRow, SeatRow};
 use schedule_book::Schedule;
 use seat_classes::SeatFault;
 use std::alloc::Global;
-use std::sync::Arc;
 
 /// The sections of a case of this kind.
 pub fn sections_in(alloc: Global, bytes: &[u8], kind: CaseKind) -> Result<Case<'_>, LoadFault>
@@ -41,28 +40,33 @@ pub fn opening_of(
     ensures book { Reads result (Timetables.opening_of places.now flights.now seats) }
     ensures empty { IfOk result (λ book. book.entries ≡ []) }
 {
-    let timetable = timetable_of(alloc, places.as_slice(), flights.as_slice(), seats)?;
-    Ok(Book::empty(alloc, Arc::new(alloc, timetable)?)?)
+    book_of(
+        alloc,
+        places.as_slice(),
+        flights.as_slice(),
+        seats.as_slice(),
+    )
 }
 
-/// The timetable of rows within their limits.
-fn timetable_of(
+/// The same of rows that stand beside each other.
+fn book_of(
     alloc: Global,
     places: &[PlaceRow],
     flights: &[FlightRow],
-    seats: List<SeatRow>,
-) -> Result<Timetable, LoadFault>
+    seats: &[SeatRow],
+) -> Result<Book, LoadFault>
     requires places { Each IsPlaceRow places.now }
     requires flights { Each IsFlightRow flights.now }
-    requires seats { length seats ≤ 200000 }
-    ensures { Reads result (Timetables.timetable_of places.now flights.now seats) }
+    requires seats { length seats.now ≤ 200000 }
+    ensures book { Reads result (Timetables.opening_of places.now flights.now seats.now) }
+    ensures empty { IfOk result (λ book. book.entries ≡ []) }
 {
     let schedule = match Schedule::build(alloc, places, flights) {
         Ok(schedule) => schedule,
         Err(fault) => return Err(of_rows(fault)),
     };
-    match Timetable::of(alloc, schedule, seats) {
-        Ok(timetable) => Ok(timetable),
+    match Book::empty(alloc, schedule, seats) {
+        Ok(book) => Ok(book),
         Err(SeatFault::Twice { line }) => Err(refused_at(line, Reason::Twice)),
         Err(SeatFault::Mem) => Err(LoadFault::Mem),
     }

@@ -4,7 +4,7 @@ ghost use Rattle.std.specs.Arc.{arc_value};
 ghost use Rattle.fare_law.specs.Faults.{Fault, filed};
 ghost use Rattle.fare_law.specs.FilingLimits.{IsFiling};
 ghost use Rattle.fare_law.specs.declared.filings.BookWhy.{BookWhy as Reason};
-ghost use Rattle.fare_book.specs.Drafts.{Drafts, own_or};
+ghost use Rattle.fare_book.specs.Drafts.{Drafts};
 ghost use Rattle.fare_book.specs.Taking.{HasCause, NoneStops};
 
 use super::{Book, MOST_ENTRIES};
@@ -13,7 +13,6 @@ use crate::draft::Draft;
 use crate::sheets::{place_tables, touch_stale};
 use crate::taking::take_actions;
 use fare_law::{BookWhy, Filing, List, Mem, Refused};
-use seat_classes::Seats;
 use std::alloc::Global;
 use std::collections::{HashMap, HashSet};
 use std::sync::Arc;
@@ -56,7 +55,6 @@ impl Book {
             changed: HashSet::new(alloc),
             uses,
             seats,
-            own_seats: None,
             fare_count: self.fare_count,
             rule_count: self.rule_count,
         })
@@ -77,14 +75,12 @@ impl Book {
             changed,
             uses,
             seats,
-            own_seats,
             fare_count,
             rule_count,
         } = draft;
         touch_stale(alloc, &mut tables, &sheets, &changed)?;
         place_tables(alloc, &mut sheets, &tables, &rules)?;
         let entries = with_entry(alloc, self.entries.as_slice(), filing)?;
-        let seats = own_seats_or(alloc, own_seats, seats)?;
         let timetable = Arc::try_clone(&self.timetable)?;
         Ok(Book {
             timetable,
@@ -122,21 +118,4 @@ pub fn shared(alloc: Global, entries: &[Arc<Filing>]) -> Result<List<Arc<Filing>
         all.push(entry)?;
     }
     Ok(all)
-}
-
-/// Seats that were changed, or else those that are shared.
-pub fn own_seats_or(
-    alloc: Global,
-    own: Option<Seats>,
-    shared: Arc<Seats>,
-) -> Result<Arc<Seats>, Mem>
-    ensures { IfOk result (λ seats. arc_value seats ≡ own_or own (arc_value shared)) }
-{
-    match own {
-        Some(own) => {
-            let seats = Arc::new(alloc, own)?;
-            Ok(seats)
-        }
-        None => Ok(shared),
-    }
 }

@@ -6,7 +6,7 @@ ghost use Rattle.fare_law.specs.FilingLimits.{IsFiling};
 ghost use Rattle.fare_law.specs.declared.filings.BookWhy.{BookWhy as Reason};
 ghost use Rattle.fare_book.specs.Taking.{HasCause};
 
-use super::next::{own_seats_or, shared};
+use super::next::shared;
 use super::{Book, MOST_ENTRIES};
 use crate::draft::Draft;
 use crate::sheets::{place_tables, touch_stale};
@@ -64,7 +64,6 @@ impl OpenBook {
             changed: HashSet::new(alloc),
             uses,
             seats,
-            own_seats: None,
             fare_count,
             rule_count,
         };
@@ -133,13 +132,11 @@ impl OpenBook {
             changed,
             uses,
             seats,
-            own_seats,
             fare_count,
             rule_count,
         } = draft;
         touch_stale(alloc, &mut tables, &sheets, &changed)?;
         place_tables(alloc, &mut sheets, &tables, &rules)?;
-        let seats = own_seats_or(alloc, own_seats, seats)?;
         Ok(Book {
             timetable,
             entries,

@@ -1,23 +1,18 @@
-use Rattle.std.proofs.Common.{◌≡◌, refl, sym, ap, ◌∙◌}
-use Rattle.std.specs.Arc.{arc_value}
+use Rattle.std.proofs.Common.{◌≡◌, inl, inr, refl, sym, ap, subst}
+use Rattle.std.specs.Result.{is_ok}
 use Rattle.fare_law.specs.declared.filings.Action.TheVariants.{PutSeats}
 use Rattle.fare_law.specs.Book.{Book, live_fare, live_rule}
-use Rattle.fare_book.specs.Drafts.{Follows, own_or}
+use Rattle.fare_book.specs.Drafts.{ActsOnSeats, Follows, drafted_seats}
 use Rattle.fare_book.proofs.Assembled.{seats_act}
 use Rattle.fare_book.proofs.Following.{fares_stay, rules_stay}
 use Rattle.fare_book.proofs.seat_actions.put_seats.Goals as goal
 
-pub returns-in-Some : goal.returns-in-Some
-returns-in-Some c =
+pub returns : goal.returns
+returns c =
     let old = c.args.draft.now in
     let action = PutSeats c.args.key.now c.args.seats.now in
     let stay : (b next : Book) → Follows b action next → (live_fare next ≡ live_fare b) × (live_rule next ≡ live_rule b) = λ b next f. (fares_stay b next action (λ k. refl) f, rules_stay b next action (λ k n. refl) f) in
-    seats_act action old c.in-Some.held c.put_in.new.held c.put_in.result stay (ap (λ o. own_or o (arc_value old.seats)) c.in-Some.is) c.put_in.ensures
-
-pub returns-in_ok-held-in-None : goal.returns-in_ok-held-in-None
-returns-in_ok-held-in-None c =
-    let old = c.args.draft.now in
-    let action = PutSeats c.args.key.now c.args.seats.now in
-    let stay : (b next : Book) → Follows b action next → (live_fare next ≡ live_fare b) × (live_rule next ≡ live_rule b) = λ b next f. (fares_stay b next action (λ k. refl) f, rules_stay b next action (λ k n. refl) f) in
-    let held = sym (c.in_ok-held-in-None.ensures ∙ c.deref.ensures) in
-    seats_act action old c.in_ok-held-in-None.held c.put_in-put.new.held c.put_in-put.result stay (ap (λ o. own_or o (arc_value old.seats)) c.in-None.is ∙ held) c.put_in-put.ensures
+    let new = c.make_mut.follows.lender c.put_in.new.held in
+    let same : drafted_seats old ≡ c.in_ok-held.held.now = elim c.in_ok-held.ensures.value [ inl e ↦ sym e | inr e ↦ sym e ] in
+    seats_act action old c.in_ok-held.held.now new c.put_in.result stay same
+    (subst (λ held. ActsOnSeats action c.in_ok-held.held.now held c.put_in.result) (sym (c.make_mut.follows.holds c.put_in.new.held (ap is_ok c.in_ok-held.was))) c.put_in.ensures)

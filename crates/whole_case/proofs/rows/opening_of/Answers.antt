@@ -1,18 +1,17 @@
--- A timetable that is refused.
-use Rattle.std.proofs.Common.{Err, List, subst}
-use Rattle.std.proofs.lemmas.Result.{err_from_is_err_and}
+use Rattle.std.proofs.Common.{List, subst}
 use Rattle.fare_law.specs.declared.rows.FlightRow.{FlightRow}
 use Rattle.fare_law.specs.declared.rows.PlaceRow.{PlaceRow}
-use Rattle.fare_law.specs.Book.{Timetable}
+use Rattle.fare_law.specs.declared.rows.SeatRow.{SeatRow}
+use Rattle.fare_law.specs.Book.{Book}
 use Rattle.whole_case.specs.Stages.{Reads}
-use Rattle.whole_case.specs.Timetables.{timetable_of}
-use Rattle.whole_case.proofs.AskedSteps.{timetable_stops}
+use Rattle.whole_case.specs.Timetables.{opening_of}
 use Rattle.whole_case.proofs.rows.opening_of.Goals as goal
 
-pub returns-in_err-timetable-clause-book : goal.returns-in_err-timetable-clause-book
-returns-in_err-timetable-clause-book c =
-    let fault = c.in_err-timetable.field-0.0 in
-    let p = err_from_is_err_and c.from_residual.result c.from_residual.ensures.1 in
-    let stop = subst (λ (places : List PlaceRow). Reads {A = Timetable} (Err fault) (timetable_of places c.args.flights.now c.args.seats)) c.as_slice.ensures
-    (subst (λ (rows : List FlightRow). Reads {A = Timetable} (Err fault) (timetable_of c.as_slice.result.now rows c.args.seats)) c.as_slice-2.ensures c.in_err-timetable.ensures) in
-    rw (p.1, p.2) (timetable_stops c.args.places.now c.args.flights.now c.args.seats fault stop)
+pub returns-clause-book : goal.returns-clause-book
+returns-clause-book c =
+    let outcome = c.book_of.result in
+    let flights = c.as_slice-2.result.now in
+    let seats = c.as_slice-3.result.now in
+    subst (λ (rows : List SeatRow). Reads {A = Book} outcome (opening_of c.args.places.now c.args.flights.now rows)) c.as_slice-3.ensures
+    (subst (λ (rows : List FlightRow). Reads {A = Book} outcome (opening_of c.args.places.now rows seats)) c.as_slice-2.ensures
+    (subst (λ (rows : List PlaceRow). Reads {A = Book} outcome (opening_of rows flights seats)) c.as_slice.ensures c.book_of.ensures.book))

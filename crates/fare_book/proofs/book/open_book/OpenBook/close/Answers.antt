@@ -1,4 +1,4 @@
-use Rattle.std.proofs.Common.{map}
+use Rattle.std.proofs.Common.{map, refl}
 use Rattle.std.specs.Arc.{arc_value}
 use Rattle.fare_law.specs.Book.{Book, live_fare, live_rule}
 use Rattle.fare_book.proofs.Versions.{draft_closes, draft_ready}
@@ -15,4 +15,4 @@ invariant_of-result c =
     let b : Book = record { timetable = arc_value c.self.inside.timetable; entries = map arc_value c.self.inside.entries } in
     let k = c.self.invariant.drafts in
     let ready = draft_ready b c.self.inside.draft c.touch_stale.new.tables.entries k (c.in_ok-touch_stale.ensures (live_fare b) (live_rule b) k.fares_kept.keyed k.fares_kept.markets) in
-    draft_closes b c.self.inside.draft c.place_tables.new.sheets.entries (arc_value c.in_ok-seats.seats) c.self.invariant.history k (c.in_ok-place_tables.ensures b ready) c.in_ok-seats.ensures
+    draft_closes b c.self.inside.draft c.place_tables.new.sheets.entries (arc_value c.self.inside.draft.seats) c.self.invariant.history k (c.in_ok-place_tables.ensures b ready) refl
