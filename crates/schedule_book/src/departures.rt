@@ -1,5 +1,5 @@
 //! The numbers of flights by origin.
-ghost use Rattle.std.specs.Prelude.{◌≡◌, ◌≤◌, ◌%◌, length, map, true, false, IfOk};
+ghost use Rattle.std.specs.Prelude.{◌≡◌, ◌≤◌, ◌<◌, ◌%◌, length, map, true, false, IfOk, IsTrue};
 ghost use Rattle.std.specs.List.Sorted.{IsPartitionPoint, IsSorted};
 ghost use Rattle.std.specs.Ordering.{is_lt, nat_cmp};
 ghost use Rattle.fare_law.specs.Limits.{IsFlight};
@@ -15,6 +15,8 @@ use std::alloc::Global;
 pub struct Departures {
     keys: Vec<u64>,
     numbers: Vec<u32>,
+    /// Where the key of each flight stands. What is read here is looked up before it is believed.
+    spots: Vec<u32>,
 }
 
 impl Departures {
@@ -27,7 +29,12 @@ impl Departures {
         let mut keys = origins_of(alloc, flights)?;
         keys.sort_unstable();
         let numbers = numbers_of(alloc, keys.as_slice())?;
-        Ok(Departures { keys, numbers })
+        let spots = spots_of(alloc, numbers.as_slice())?;
+        Ok(Departures {
+            keys,
+            numbers,
+            spots,
+        })
     }
 
     /// The numbers from `lo` to `hi - 1` of the flights that depart from a place, ascending.
@@ -38,8 +45,11 @@ impl Departures {
         if hi <= lo {
             return &[];
         }
-        let first = position(self.keys.as_slice(), packed(place, lo));
-        let end = position(self.keys.as_slice(), packed(place, hi));
+        // most ranges begin and end with flights from the place
+        let begins = spot_of(self.spots.as_slice(), lo);
+        let ends = spot_of(self.spots.as_slice(), hi - 1) + 1;
+        let first = position(self.keys.as_slice(), begins, packed(place, lo));
+        let end = position(self.keys.as_slice(), ends, packed(place, hi));
         let (_, after) = self.numbers.as_slice().split_at(first);
         let (part, _) = after.split_at(end - first);
         part
@@ -69,6 +79,29 @@ fn numbers_of(alloc: Global, keys: &[u64]) -> Result<Vec<u32>, Mem>
     Ok(numbers)
 }
 
+/// Where each of these numbers stands.
+fn spots_of(alloc: Global, numbers: &[u32]) -> Result<Vec<u32>, Mem> {
+    let mut spots = vec![in alloc; 0; numbers.len()]?;
+    let mut at = 0_u32;
+    for number in numbers {
+        if let Some(spot) = spots.get_mut(*number as usize) {
+            *spot = at;
+        }
+        at = at.saturating_add(1);
+    }
+    Ok(spots)
+}
+
+/// Where a number stands, or 0.
+fn spot_of(spots: &[u32], number: u32) -> usize
+    ensures { result < 4294967296 }
+{
+    match spots.get(number as usize) {
+        Some(spot) => *spot as usize,
+        None => 0,
+    }
+}
+
 /// A place and a number as one number, which compares as the two do.
 fn packed(place: Place, number: u32) -> u64
     ensures value { result ≡ packed (place, number) }
@@ -79,11 +112,32 @@ fn packed(place: Place, number: u32) -> u64
     letters * 4294967296 + u64::from(number)
 }
 
-/// How many keys come before a key.
-fn position(keys: &[u64], key: u64) -> usize
+/// How many keys come before a key. A guess is looked at first.
+fn position(keys: &[u64], guess: usize, key: u64) -> usize
     requires { IsSorted nat_cmp keys.now }
     ensures bound { result ≤ length keys.now }
     ensures point { IsPartitionPoint (λ k. is_lt (nat_cmp k key) ≡ true) (λ k. is_lt (nat_cmp k key) ≡ false) keys.now result }
 {
+    if stands_at(keys, guess, key) {
+        return guess;
+    }
     keys.partition_point(|k| *k < key)
+}
+
+/// Whether it can be told at once that so many keys come before a key.
+fn stands_at(keys: &[u64], place: usize, key: u64) -> bool
+    requires { IsSorted nat_cmp keys.now }
+    ensures bound { IsTrue result → place ≤ length keys.now }
+    ensures point { IsTrue result → IsPartitionPoint (λ k. is_lt (nat_cmp k key) ≡ true) (λ k. is_lt (nat_cmp k key) ≡ false) keys.now place }
+{
+    if place == 0 {
+        return false;
+    }
+    if keys.len() <= place {
+        return false;
+    }
+    if key <= keys[place - 1] {
+        return false;
+    }
+    key <= keys[place]
 }
