@@ -6,6 +6,7 @@ ghost use Rattle.cheap_moves.specs.Tails.{AreTailsOver};
 ghost use Rattle.fare_law.specs.Book.{Book as Version};
 ghost use Rattle.fare_law.specs.Lists.{Each};
 ghost use Rattle.flight_paths.specs.Heads.{TailsTo, chosen};
+ghost use Rattle.flight_paths.specs.Marks.{AreMarks};
 ghost use Rattle.flight_paths.specs.Plans.{HasPlan};
 ghost use Rattle.schedule_book.specs.Departures.{DepartsFrom};
 
@@ -64,6 +65,7 @@ pub fn hoped_paths<'a>(
         position,
         tails: SomeTails {
             all: tails,
+            marks: &[],
             numbers: numbers.as_slice(),
         },
     };
@@ -85,6 +87,7 @@ fn add_begun(
     number: u32,
 ) -> Result<(), Mem>
     requires known { opening.now.position.now.slice < length opening.now.request.now.slices }
+    requires marks { AreMarks opening.now.schedule.now.flights opening.now.tails.all.now opening.now.tails.marks.now }
     requires numbers { Each (λ n. n < length opening.now.tails.all.now) opening.now.tails.numbers.now }
     requires tails { (b : Version) → HasPlan b opening.now.schedule.now → TailsTo b opening.now.request.now.slices (opening.now.position.now.slice + 1) (marked ⟦<Place as PartialEq>⟧.eq hopes.now.ends) (chosen opening.now.tails.all.now opening.now.tails.numbers.now) }
     requires range { (opening.now.position.now.lo ≤ number) × (number < opening.now.position.now.hi) }

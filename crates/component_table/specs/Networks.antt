@@ -15,6 +15,7 @@ use Rattle.fare_law.specs.Book.{Book}
 use Rattle.fare_law.specs.Lists.{Each}
 use Rattle.flight_paths.specs.declared.positions.Path.{Path}
 use Rattle.flight_paths.specs.Heads.{AreTails, chosen}
+use Rattle.flight_paths.specs.Marks.{AreMarks}
 
 -- these are the tails of slice i, whichever seats and filings there are over the book's flights
 abbrev pub AreTailsOver : Book → List Slice → ℕ → List Path → Type 0
@@ -27,10 +28,11 @@ pub record AreFareTailsOf (b : Book) (q : Request) (tails : List SliceTails) (t 
   pub within : Each (λ n. n < length among.paths) t.numbers
   pub are : AreTailsFrom b q t.place t.slice (chosen among.paths t.numbers)
 
--- The markets are the book's, the masks are those of its flights, each list of tails is that of its slice, what is known of them holds of their flights, they end where it is said, and each list of numbers is of those of them that its place needs.
+-- The markets are the book's, the masks are those of its flights, each list of tails is that of its slice, their marks and what is known of them hold of their flights, they end where it is said, and each list of numbers is of those of them that its place needs.
 pub record IsNetwork (b : Book) (q : Request) (n : Network) : Type 0 where
   pub markets : AreMarkets b n.markets.kept.items
   pub tails : Each (λ t. AreTailsOver b q.slices t.slice t.paths) n.tails.items
+  pub marks : Each (λ (t : SliceTails). AreMarks b.timetable.flights t.paths t.marks) n.tails.items
   pub masks : AreMasks b q n.masks
   pub kinds : Each (λ (t : SliceTails). AreKinds b q t.paths t.kinds) n.tails.items
   pub ends : Each (λ (t : SliceTails). AreEnds b t.paths t.ends) n.tails.items
@@ -42,8 +44,9 @@ pub record TailsStand (tails : List SliceTails) (slice at : ℕ) : Type 0 where
   pub stands : slice_get tails at ≡ Some kept
   pub slice_is : kept.slice ≡ slice
 
--- These are tails of a slice with what is known of them, and numbers of those that the place needs.
+-- These are tails of a slice with their marks and what is known of them, and numbers of those that the place needs.
 pub record ArePlaceTails (b : Book) (q : Request) (place : Place) (slice : ℕ) (t : PlaceTails) : Type 0 where
   pub within : Each (λ n. n < length t.some.all.now) t.some.numbers.now
   pub are : AreTailsFrom b q place slice (chosen t.some.all.now t.some.numbers.now)
+  pub marks : AreMarks b.timetable.flights t.some.all.now t.some.marks.now
   pub kinds : AreKinds b q t.some.all.now t.kinds.now

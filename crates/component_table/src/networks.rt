@@ -14,7 +14,7 @@ use crate::narrowing::fare_tails;
 use crate::tail_ends::{TailEnds, ends_of};
 use fare_book::Book;
 use fare_law::{List, Mem, Place, Request};
-use flight_paths::{Path, SomeTails, tails};
+use flight_paths::{Path, SomeTails, marks_of, tails};
 use indexmap::IndexMap;
 use std::alloc::Global;
 
@@ -23,6 +23,8 @@ use std::alloc::Global;
 pub struct SliceTails {
     pub slice: u8,
     pub paths: List<Path>,
+    /// The marks of the places where their flights arrive.
+    pub marks: List<u64>,
     /// What is known of them.
     pub kinds: Kinds,
     /// Where they end.
@@ -96,11 +98,13 @@ impl Network {
         }
         let at = self.tails.len();
         let paths = tails(alloc, schedule_of(book), request, slice)?;
+        let marks = marks_of(alloc, schedule_of(book), paths.as_slice())?;
         let kinds = kinds_of(alloc, book, request, &mut self.masks, paths.as_slice())?;
         let ends = ends_of(alloc, book, paths.as_slice())?;
         self.tails.push(SliceTails {
             slice,
             paths,
+            marks,
             kinds,
             ends,
         })?;
@@ -151,6 +155,7 @@ impl Network {
         PlaceTails {
             some: SomeTails {
                 all: slice.paths.as_slice(),
+                marks: slice.marks.as_slice(),
                 numbers: numbered.numbers.as_slice(),
             },
             kinds: &slice.kinds,

@@ -9,6 +9,7 @@ pub mod Orders
 pub mod Extending
 pub mod Levels
 pub mod Places
+pub mod Marking
 pub mod Stepping
 pub mod Between
 pub mod Itineraries

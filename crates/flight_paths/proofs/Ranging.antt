@@ -7,7 +7,7 @@ use Rattle.fare_law.specs.Book.{Book}
 use Rattle.fare_law.specs.Lists.{EachPair, IsIn, OnFirst, Less}
 use Rattle.flight_paths.specs.declared.positions.Path.{Path}
 use Rattle.flight_paths.specs.declared.positions.Position.{Position}
-use Rattle.flight_paths.specs.Heads.{AreRest, AreRestOf, AreSomeTails, Crossing, Follows, IsJoined, stands_before}
+use Rattle.flight_paths.specs.Heads.{AreRest, AreRestOf, AreSomeTails, Crossing, Enters, Follows, IsJoined, stands_before}
 use Rattle.flight_paths.specs.Paths.{Precedes}
 use Rattle.flight_paths.specs.Ranges.{first_of}
 use Rattle.flight_paths.proofs.Apart.{different_more, first_of_all}
@@ -158,6 +158,27 @@ module _ (b : Book) (sl : List Slice) (at : Position) (h : Path) (middle : Posit
           same : stands_before c middle.lo t ≡ false → (length t.flights < c) ⊎ ((length t.flights ≡ c) × (first_of t.flights < middle.hi)) → length t.flights ≡ c
           same n (inl a) = absurd (true_false (tells (length t.flights) (first_of t.flights) c middle.lo (inl a)) n)
           same n (inr a) = a.0
+
+module _ (h : Path) (middle : Position) (ts : List Path) (c from to : ℕ)
+    (p : IsPartitionPoint (λ t. stands_before c middle.lo t ≡ true) (λ t. stands_before c middle.lo t ≡ false) ts from)
+    (q : IsPartitionPoint (λ t. stands_before c middle.hi t ≡ true) (λ t. stands_before c middle.hi t ≡ false) ts to) where
+  -- what stands between is of the range, and has so many flights
+  pub entering : from ≤ to → length h.flights + c ≤ 4 → (t : Path) → 1 ≤ length t.flights → IsIn t (take (to - from) (drop from ts)) → Enters middle h t
+  entering le room t some i =
+      let w = in_part ts from (to - from) t i in
+      let k = w.0 in
+      let no_lo = subst (λ y. stands_before c middle.lo y ≡ false) w.4 (p.1 k t w.1 w.3) in
+      let yes_hi = subst (λ y. stands_before c middle.hi y ≡ true) w.4 (q.0 k t (omega arith) (omega (arith, le, w.2))) in
+      by no_lo (told (length t.flights) (first_of t.flights) c middle.hi yes_hi) (cases_lt (first_of t.flights) middle.lo)
+    where
+      first_in : (ns : List ℕ) → 1 ≤ length ns → middle.lo ≤ first_of ns → first_of ns < middle.hi → OnFirst (λ n. (middle.lo ≤ n) × (n < middle.hi)) ns
+      first_in [] l a b = absurd (omega (arith, l))
+      first_in (n ∷ ns) l a b = (a, b)
+
+      by : stands_before c middle.lo t ≡ false → (length t.flights < c) ⊎ ((length t.flights ≡ c) × (first_of t.flights < middle.hi)) → (first_of t.flights < middle.lo) ⊎ (middle.lo ≤ first_of t.flights) → Enters middle h t
+      by n (inl a) x = absurd (true_false (tells (length t.flights) (first_of t.flights) c middle.lo (inl a)) n)
+      by n (inr a) (inl x) = absurd (true_false (tells (length t.flights) (first_of t.flights) c middle.lo (inr (a.0, x))) n)
+      by n (inr a) (inr x) = record { in_range = first_in t.flights some x a.1; few = omega (arith, room, a.0) }
 
 module _ (b : Book) (sl : List Slice) (at : Position) (h : Path) (ts : List Path) where
   pub too_many : (c : ℕ) → 4 < length h.flights + c → AreRestOf b sl at h ts c []

@@ -1,5 +1,5 @@
--- Whether a tail may follow a head can be told without a call, so that the visitor may be asked first whether it skips the path. Given on to the crates above.
-use Rattle.std.proofs.Common.{◌≡◌, ◌≢◌, ◌⊎◌, ℕ, zero, suc, ◌+◌, ◌≤◌, ◌<◌, Bool, true, false, Decides, List, [], ◌∷◌, length, Some, refl, sym, subst, ◌∙◌, inl, inr, arith}
+-- When a tail may follow a head. That can be told without a call, so that the visitor may be asked first whether it skips the path. Given on to the crates above.
+use Rattle.std.proofs.Common.{◌≡◌, ◌≢◌, ◌⊎◌, ◌↔◌, ℕ, zero, suc, ◌+◌, ◌≤◌, ◌<◌, Bool, true, false, Decides, List, [], ◌∷◌, length, Some, refl, sym, subst, ◌∙◌, inl, inr, arith}
 use Rattle.fare_law.specs.declared.flights.Flight.{Flight}
 use Rattle.fare_law.specs.declared.names.Place.{Place}
 use Rattle.fare_law.specs.declared.requests.Slice.{Slice}
@@ -10,9 +10,9 @@ use Rattle.fare_law.proofs.SameNames.{places_tell}
 use Rattle.fare_law.specs.contracts.names.PlacePartialEq.TheImpl as place
 use Rattle.flight_paths.specs.declared.positions.Path.{Path}
 use Rattle.flight_paths.specs.declared.positions.Position.{Position}
-use Rattle.flight_paths.specs.Heads.{Crossing, Follows, IsTail}
+use Rattle.flight_paths.specs.Heads.{Crossing, Enters, Follows, IsTail}
 use Rattle.flight_paths.specs.Ways.{arrivals_of}
-use Rattle.flight_paths.proofs.Apart.{flights_one}
+use Rattle.flight_paths.proofs.Apart.{flights_one, turned as from_heads, turned_back as from_tails}
 use Rattle.flight_paths.proofs.Joining.{head_flights, tail_flights}
 
 -- it holds, or it doesn't
@@ -87,3 +87,23 @@ module _ (b : Book) (sl : List Slice) (at : Position) (h t : Path) where
           let same = flights_one b.timetable.flights t.flights f.flights fs (tail_flights b sl at _ t.flights f.flights t.after f.is_tail) (tail_flights b sl at _ t.flights fs t.after tail) in
           let heads = flights_one b.timetable.flights h.flights f.crossing.flights c.flights (head_flights b sl at h.flights f.crossing.flights (Some f.middle) f.crossing.is_head) (head_flights b sl at h.flights c.flights (Some m) c.is_head) in
           subst (λ xs. Each (λ p. Each (λ q. p ≢ q) (arrivals_of fs)) (calls at.place xs)) heads (subst (λ xs. Each (λ p. Each (λ q. p ≢ q) (arrivals_of xs)) (calls at.place f.crossing.flights)) same f.apart)
+
+  -- a tail that enters follows where it is apart from the head's places
+  pub follows_where : (m : Position) → (c : Crossing b sl at h m) → (fs : List Flight) → IsTail b sl (suc at.slice) t.flights fs t.after → Enters m h t → (places : List Place) → places ≡ arrivals_of c.flights
+      → Each (λ q. Each (λ p. q ≢ p) (at.place ∷ places)) (arrivals_of fs) ↔ Follows b sl at h t
+  follows_where m c fs tail n places is = (
+    λ e. record {
+      middle = m;
+      crossing = c;
+      flights = fs;
+      is_tail = tail;
+      in_range = n.in_range;
+      few = n.few;
+      apart = from_heads (calls at.place c.flights) (arrivals_of fs) (subst (λ ps. Each (λ q. Each (λ p. q ≢ p) (at.place ∷ ps)) (arrivals_of fs)) is e);
+    },
+    λ f.
+        let same = flights_one b.timetable.flights t.flights f.flights fs (tail_flights b sl at _ t.flights f.flights t.after f.is_tail) (tail_flights b sl at _ t.flights fs t.after tail) in
+        let heads = flights_one b.timetable.flights h.flights f.crossing.flights c.flights (head_flights b sl at h.flights f.crossing.flights (Some f.middle) f.crossing.is_head) (head_flights b sl at h.flights c.flights (Some m) c.is_head) in
+        let far = subst (λ xs. Each (λ p. Each (λ q. p ≢ q) (arrivals_of fs)) (calls at.place xs)) heads (subst (λ xs. Each (λ p. Each (λ q. p ≢ q) (arrivals_of xs)) (calls at.place f.crossing.flights)) same f.apart) in
+        subst (λ ps. Each (λ q. Each (λ p. q ≢ p) (at.place ∷ ps)) (arrivals_of fs)) (sym is) (from_tails (calls at.place c.flights) (arrivals_of fs) far),
+  )

@@ -6,6 +6,7 @@
 
 mod ends;
 mod laws;
+mod marks;
 mod parts;
 mod paths;
 mod positions;
@@ -17,6 +18,7 @@ mod ways;
 
 pub use ends::{Ends, tails_to};
 pub use laws::{crosses_in_time, heads_and_tails, heads_are_short};
+pub use marks::marks_of;
 pub use parts::{heads, tails};
 pub use paths::{component_paths, root_position, slice_paths};
 pub use positions::{Path, Position, SomeTails};

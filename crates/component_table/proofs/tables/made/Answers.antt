@@ -4,10 +4,16 @@ use Rattle.component_table.specs.Masks.{AreMasks}
 use Rattle.component_table.specs.Tables.{IsTable, PutsIn}
 use Rattle.component_table.proofs.PathFacts.{table_for}
 use Rattle.flight_paths.specs.Heads.{AreReached, Saw}
+use Rattle.flight_paths.specs.Marks.{AreMarks}
 use Rattle.component_table.proofs.tables.made.Goals as goal
 
 pub visit_paths-requires-clause-tails : goal.visit_paths-requires-clause-tails
 visit_paths-requires-clause-tails g c = λ x plan. (c.requires.tails.are.tails_to x (record { places = plan.places ∙ sym c.schedule_of.ensures.places; flights = plan.flights ∙ sym c.schedule_of.ensures.flights })).are
+
+pub visit_paths-requires-clause-marks : goal.visit_paths-requires-clause-marks
+visit_paths-requires-clause-marks g c =
+    let some = c.args.tails.now.some in
+    subst (λ fs. AreMarks fs some.all.now some.marks.now) c.schedule_of.ensures.flights c.requires.tails.marks
 
 pub returns-clause-table : goal.returns-clause-table
 returns-clause-table g c =

@@ -1,8 +1,10 @@
-use Rattle.std.proofs.Common.{◌-◌, ◌<◌, ◌≤◌, length, suc, take, drop, subst, arith}
+use Rattle.std.proofs.Common.{◌+◌, ◌-◌, ◌<◌, ◌≤◌, length, suc, take, drop, subst, arith}
+use Rattle.fare_law.specs.Lists.{IsIn}
 use Rattle.flight_paths.specs.Heads.{AreRest, AreRestOf, Saw, chosen}
 use Rattle.flight_paths.specs.Plans.{plan_book}
+use Rattle.flight_paths.proofs.Joining.{tail_count}
 use Rattle.flight_paths.proofs.Seeing.{on_ok, saw_like, saw_none}
-use Rattle.flight_paths.proofs.Ranging.{all_between, none_between}
+use Rattle.flight_paths.proofs.Ranging.{all_between, entering, none_between, part_of}
 use Rattle.flight_paths.proofs.Running.{part_tails}
 use Rattle.flight_paths.proofs.Choosing.{chosen_part, each_drop, each_take}
 use Rattle.flight_paths.proofs.visits.visit_count.Goals as goal
@@ -27,6 +29,23 @@ pub visit_each-requires-clause-tails : goal.visit_each-requires-clause-tails
 visit_each-requires-clause-tails g c =
     let from = c.place_of-from.result in
     part_tails (plan_book c.args.junction.now.schedule.now) c.args.junction.now.slices.now (suc c.args.junction.now.start.now.slice) c.args.tails.now.all.now c.args.tails.now.numbers.now from (c.place_of-to.result - from) c.requires.numbers c.requires.tails
+
+pub visit_each-requires-clause-near : goal.visit_each-requires-clause-near
+visit_each-requires-clause-near g c = λ t i.
+    let b = plan_book c.args.junction.now.schedule.now in
+    let sl = c.args.junction.now.slices.now in
+    let at = c.args.junction.now.start.now in
+    let h = c.args.junction.now.head.now in
+    let all = c.args.tails.now.all.now in
+    let ns = c.args.tails.now.numbers.now in
+    let ts = chosen all ns in
+    let from = c.place_of-from.result in
+    let to = c.place_of-to.result in
+    let le : from ≤ to = omega (arith, c.if-to-from.false) in
+    let room : length h.flights + c.args.count ≤ 4 = omega (arith, c.if-len-count-gt4.false, c.len.ensures.value) in
+    let there : IsIn t (take (to - from) (drop from ts)) = subst (IsIn t) (chosen_part all ns from (to - from) c.requires.numbers) i in
+    let some = (tail_count b sl at (suc at.slice) ts c.requires.tails t (part_of ts from (to - from) t there)).0 in
+    entering h c.args.junction.now.middle ts c.args.count from to c.place_of-from.ensures.point c.place_of-to.ensures.point le room t some there
 
 pub returns : goal.returns
 returns g c =

@@ -1,8 +1,10 @@
-use Rattle.std.proofs.Common.{◌≡◌, ◌++◌, ◌∷◌, [], refl, sym, subst}
+use Rattle.std.proofs.Common.{◌≡◌, ◌++◌, ◌∷◌, [], bit_or, refl, sym, subst}
 use Rattle.flight_paths.specs.Heads.{AreFrom, AreRest, Saw, chosen}
+use Rattle.flight_paths.specs.Marks.{HasBits}
 use Rattle.flight_paths.specs.Plans.{plan_book}
 use Rattle.flight_paths.specs.Ways.{AreFlightsOf}
 use Rattle.flight_paths.proofs.Joining.{head_flights}
+use Rattle.flight_paths.proofs.Marking.{first_bit_more}
 use Rattle.flight_paths.proofs.Seeing.{from_alone, from_rest, on_ok, saw_more, saw_one}
 use Rattle.flight_paths.proofs.visits.visit_head.Goals as goal
 
@@ -40,3 +42,10 @@ arrivals-places-requires-clause-known g c =
 pub visit_tails-requires-clause-places : goal.visit_tails-requires-clause-places
 visit_tails-requires-clause-places g c = λ fs known.
     c.arrivals-places.ensures fs (subst (λ ns. AreFlightsOf c.flights.result.now ns fs) (sym c.as_slice.ensures.items) (subst (λ xs. AreFlightsOf xs c.args.head.now.flights fs) (sym c.flights.ensures.flights) known))
+
+pub visit_tails-requires-clause-mark : goal.visit_tails-requires-clause-mark
+visit_tails-requires-clause-mark g c =
+    let at = c.args.start.now.place in
+    let ps = c.arrivals-places.result in
+    let rest : HasBits c.mark_of.result ps = subst (HasBits c.mark_of.result) c.as_slice-in-Some.ensures.items c.mark_of.ensures in
+    subst (λ bit. HasBits (bit_or bit c.mark_of.result) (at ∷ ps)) (sym c.bit_of.ensures) (first_bit_more c.mark_of.result at ps rest)

@@ -11,7 +11,7 @@ use Rattle.flight_paths.proofs.visits.visit_run.Goals as goal
 
 pub visit_joined-requires-clause-number : goal.visit_joined-requires-clause-number
 visit_joined-requires-clause-number g c =
-    let all = c.args.all.now in
+    let all = c.args.tails.now.all.now in
     let ns = c.args.numbers.now in
     let k = c.skips-skipped.result in
     let n = c.in-Some.number.now in
@@ -20,13 +20,23 @@ visit_joined-requires-clause-number g c =
 
 pub visit_joined-requires-clause-tails : goal.visit_joined-requires-clause-tails
 visit_joined-requires-clause-tails g c = λ t there.
-    let all = c.args.all.now in
+    let all = c.args.tails.now.all.now in
     let ns = c.args.numbers.now in
     let k = c.skips-skipped.result in
     let n = c.in-Some.number.now in
     let found = c.in-Some.ensures.lookup in
     let here : slice_get ns k ≡ Some n = got_read ns k n found.3.0 ∙ ap Some (sym found.1) in
     c.requires.tails.each t (in_chosen all ns k n t here there)
+
+pub visit_joined-requires-clause-near : goal.visit_joined-requires-clause-near
+visit_joined-requires-clause-near g c = λ t there.
+    let all = c.args.tails.now.all.now in
+    let ns = c.args.numbers.now in
+    let k = c.skips-skipped.result in
+    let n = c.in-Some.number.now in
+    let found = c.in-Some.ensures.lookup in
+    let here : slice_get ns k ≡ Some n = got_read ns k n found.3.0 ∙ ap Some (sym found.1) in
+    c.requires.near t (in_chosen all ns k n t here there)
 
 pub returns-in_ok-visit_joined-in-Some-clause-saw :
     goal.returns-in_ok-visit_joined-in-Some-clause-saw
@@ -35,7 +45,7 @@ returns-in_ok-visit_joined-in-Some-clause-saw g c =
     let sl = c.args.junction.now.slices.now in
     let at = c.args.junction.now.start.now in
     let h = c.args.junction.now.head.now in
-    let all = c.args.all.now in
+    let all = c.args.tails.now.all.now in
     let ns = c.args.numbers.now in
     let k = c.skips-skipped.result in
     let n = c.in-Some.number.now in
@@ -56,7 +66,7 @@ returns-in-None-clause-saw g c =
     let sl = c.args.junction.now.slices.now in
     let at = c.args.junction.now.start.now in
     let h = c.args.junction.now.head.now in
-    let all = c.args.all.now in
+    let all = c.args.tails.now.all.now in
     let ns = c.args.numbers.now in
     let k = c.skips-skipped.result in
     let old = g.V.PathVisitor.told c.args.visitor.now in

@@ -1,4 +1,5 @@
 use Rattle.std.proofs.Common.{◌≡◌, ◌+◌, [], refl, subst, sym, ◌∙◌}
+use Rattle.flight_paths.specs.Marks.{AreMarks}
 use Rattle.search_steps.specs.Settling.{AreServed}
 use Rattle.search_steps.proofs.ServedPaths.{served}
 use Rattle.search_steps.proofs.served.served_paths.Goals as goal
@@ -10,6 +11,12 @@ visit_paths-requires-clause-tails c = λ x plan.
     let at = c.args.at.now in
     let from = (c.tails_at-tails.ensures at.place (at.slice + 1) c.in_ok-place.ensures.tails).are in
     (from.tails_to x (record { places = plan.places ∙ sym c.schedule.ensures.places; flights = plan.flights ∙ sym c.schedule.ensures.flights })).are
+
+pub visit_paths-requires-clause-marks : goal.visit_paths-requires-clause-marks
+visit_paths-requires-clause-marks c =
+    let at = c.args.at.now in
+    let some = c.tails_at-tails.result.some in
+    subst (λ fs. AreMarks fs some.all.now some.marks.now) c.schedule.ensures.flights (c.tails_at-tails.ensures at.place (at.slice + 1) c.in_ok-place.ensures.tails).marks
 
 pub returns-clause-paths : goal.returns-clause-paths
 returns-clause-paths c =

@@ -39,6 +39,7 @@ returns-clause-network c =
       tails = n.tails;
       ends = n.ends;
       masks = n.masks;
+      marks = n.marks;
       kinds = n.kinds;
       fare_tails = subst (Each (AreFareTailsOf b q ts)) (sym c.in_ok-push.ensures.items) (each_more (AreFareTailsOf b q ts) c.find_tails.new.self.fare_tails.items t n.fare_tails own);
     }
