@@ -1,5 +1,5 @@
 -- Rows of keys, and how they are found: those whose keys share a spot are chained, each to the one before it.
-use Rattle.std.specs.Prelude.{◌≡◌, ◌≢◌, ℕ, suc, ◌-◌, ◌<◌, ◌≤◌, ◌^◌, Bool, true, false, List, map, length, slice_index, slice_index_or, bit_and, Option}
+use Rattle.std.specs.Prelude.{◌≡◌, ◌≢◌, ℕ, suc, ◌-◌, ◌/◌, ◌%◌, ◌<◌, ◌≤◌, ◌^◌, Bool, true, false, List, map, length, slice_index, slice_index_or, bit_and, Option}
 use Rattle.std.specs.List.{IsDistinct}
 use Rattle.std.specs.Map.{keys_of}
 
@@ -22,6 +22,14 @@ spot_of count number = bit_and number (count - 1)
 -- the spots of the keys of rows
 abbrev pub spots_of : {K : Type 0} → (K → ℕ) → ℕ → List (K × Option ℕ) → List ℕ
 spots_of number count rows = map (λ row. spot_of count (number row.0)) rows
+
+-- the mark of a number: some of its digits
+abbrev pub mark_of : ℕ → ℕ
+mark_of number = (number / 65536) % 65536
+
+-- the marks of the keys of rows
+abbrev pub marks_of : {K : Type 0} → (K → ℕ) → List (K × Option ℕ) → List ℕ
+marks_of number rows = map (λ row. mark_of (number row.0)) rows
 
 -- One more than the last place before this one that has the spot, or 0 where none has it.
 pub record IsLast (spots : List ℕ) (before spot last : ℕ) : Type 0 where

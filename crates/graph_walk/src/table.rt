@@ -1,9 +1,9 @@
 //! Rows of keys, each with a bound or with none, and where the row of a key stands.
-ghost use Rattle.std.specs.Prelude.{◌≡◌, ◌+◌, ◌<◌, ◌^◌, ◌∷◌, ◌++◌, [], ℕ, Some, None, true, IfNone, IfOk, IfSome, IsPermutation, List as Items, OnOk, length, position, slice_index};
+ghost use Rattle.std.specs.Prelude.{◌≡◌, ◌+◌, ◌<◌, ◌^◌, ◌∷◌, ◌++◌, [], ℕ, Some, None, true, IfNone, IfOk, IfSome, IsPermutation, List as Items, OnOk, length, position, slice_index, slice_index_or};
 ghost use Rattle.std.specs.List.{IsDistinct};
 ghost use Rattle.std.specs.Map.{keys_of, lookup};
 ghost use Rattle.indexmap.specs.IndexMap.{insert_entry};
-ghost use Rattle.graph_walk.specs.Rows.{AreChained, IsAt, IsNowhere, spot_of, spots_of};
+ghost use Rattle.graph_walk.specs.Rows.{AreChained, IsAt, IsNowhere, mark_of, marks_of, spot_of, spots_of};
 
 use std::alloc::{AllocError, Global};
 use std::marker::{Model, PhantomData};
@@ -30,6 +30,8 @@ pub trait Spread<K: Eq> {
 #[derive(Drop)]
 pub struct Rows<K: Eq, N: Spread<K>> {
     entries: Vec<(K, Option<u64>)>,
+    /// By place, the mark of the row's key: most keys are told apart by it, without a look at the row.
+    marks: Vec<u16>,
     /// By place, one more than the place of the row before it that shares its spot; 0 where there is none.
     links: Vec<u32>,
     /// By spot, one more than the place of the last row of it; 0 where there is none.
@@ -38,13 +40,14 @@ pub struct Rows<K: Eq, N: Spread<K>> {
 }
 
 impl<K: Eq, N: Spread<K>> Model for Rows<K, N> {
-    ghost use Rattle.graph_walk.specs.Rows.{IsTable, Table};
+    ghost use Rattle.std.specs.Prelude.{◌≡◌};
+    ghost use Rattle.graph_walk.specs.Rows.{IsTable, Table, marks_of};
 
     ghost Value = { Table K };
 
     ghost view = { λ r. record { entries = r.entries.items } };
 
-    ghost invariant = { λ r. IsTable K.eq N.number r.entries.items r.links.items r.heads.items };
+    ghost invariant = { λ r. IsTable K.eq N.number r.entries.items r.links.items r.heads.items × (r.marks.items ≡ marks_of N.number r.entries.items) };
 }
 
 impl<K: Eq + Copy, N: Spread<K>> Rows<K, N> {
@@ -54,6 +57,7 @@ impl<K: Eq + Copy, N: Spread<K>> Rows<K, N> {
     {
         Ok(Rows {
             entries: Vec::new(alloc),
+            marks: Vec::new(alloc),
             links: Vec::new(alloc),
             heads: Vec::from_elem(alloc, 0, FEWEST)?,
             by: PhantomData,
@@ -126,10 +130,13 @@ impl<K: Eq + Copy, N: Spread<K>> Rows<K, N> {
         ensures { OnOk result (self.new.entries ≡ self.old.entries ++ (key, bound) ∷ []) }
     {
         self.links.reserve(1)?;
+        self.marks.reserve(1)?;
         self.entries.reserve(1)?;
         let place = self.entries.len();
-        let spot = spot_of(N::number(&key), self.heads.len());
+        let number = N::number(&key);
+        let spot = spot_of(number, self.heads.len());
         self.links.push_reserved(0);
+        self.marks.push_reserved(mark_of(number));
         self.entries.push_reserved((key, bound));
         link(&mut self.links, &mut self.heads, place, spot);
         Ok(())
@@ -154,6 +161,7 @@ impl<K: Eq + Copy, N: Spread<K>> Rows<K, N> {
         self.entries.shrink_to_fit();
         self.heads.fill(0);
         chain::<K, N>(entries.as_slice(), &mut self.links, &mut self.heads);
+        mark::<K, N>(entries.as_slice(), &mut self.marks);
         self.entries = entries;
     }
 
@@ -163,15 +171,36 @@ impl<K: Eq + Copy, N: Spread<K>> Rows<K, N> {
         ensures absent { IfNone result (IsNowhere K.eq key.now self.now.entries) }
         ensures differ { IsDistinct K.eq (keys_of self.now.entries) }
     {
-        let mut end = self.heads[spot_of(N::number(key), self.heads.len())];
+        let number = N::number(key);
+        let mark = mark_of(number);
+        let mut end = self.heads[spot_of(number, self.heads.len())];
         while end != 0 {
             let place = (end - 1) as usize;
-            if *key == self.entries[place].0 {
+            if self.has_key(place, key, mark) {
                 return Some(place);
             }
             end = self.links[place];
         }
         None
+    }
+
+    /// Whether the row at a place has a key of this mark.
+    fn has_key(&self, place: usize, key: &K, mark: u16) -> bool
+        requires within { place < length self.now.entries }
+        requires mark { mark ≡ mark_of (N.number key.now) }
+        ensures { result ≡ K.eq key.now (slice_index_or (keys_of self.now.entries) place key.now) }
+    {
+        self.marks[place] == mark && *key == self.entries[place].0
+    }
+}
+
+/// Gives each place the mark of its row's key.
+fn mark<K: Eq + Copy, N: Spread<K>>(rows: &[(K, Option<u64>)], marks: &mut Vec<u16>)
+    requires { length marks.old.items ≡ length rows.now }
+    ensures { marks.new.items ≡ marks_of N.number rows.now }
+{
+    for place in 0..rows.len() {
+        marks[place] = mark_of(N::number(&rows[place].0));
     }
 }
 
@@ -215,4 +244,11 @@ fn spot_of(number: u64, count: usize) -> usize
     ensures within { result < count }
 {
     number as usize & (count - 1)
+}
+
+/// The mark of a number: some of its digits, which are mostly not those of its spot.
+fn mark_of(number: u64) -> u16
+    ensures { result ≡ mark_of number }
+{
+    (number / 65536 % 65536) as u16
 }
