@@ -1,6 +1,8 @@
 //! The least moves of a residual.
 ghost use Rattle.std.specs.Prelude.{◌≡◌, ◌≤◌, length, IfOk, map};
+ghost use Rattle.std.specs.Cmp.Lexicographic.{slice_cmp};
 ghost use Rattle.std.specs.List.Sorted.{IsPermutation};
+ghost use Rattle.std.specs.Ordering.{nat_cmp, ordering_then};
 ghost use Rattle.fare_law.specs.Lists.{AllDifferent, EachPair, IsIn, KLeast};
 ghost use Rattle.fare_law.specs.Codes.{move_code};
 ghost use Rattle.search_steps.specs.LeastMoves.{IsSooner, counted_in, counted_of};
@@ -9,6 +11,7 @@ use cheap_moves::ResidualBounds;
 use fare_law::{List, Mem, Move};
 use residual_keys::{Chosen, Next, Residual};
 use std::alloc::Global;
+use std::cmp::Ordering;
 use ticket_order::{move_code, order_laws};
 
 /// A move of a residual that counts under bounds.
@@ -75,5 +78,15 @@ fn put_in_order(counted: &mut [LeastMove<Residual>])
     ensures same { IsPermutation counted.old counted.new }
 {
     order_laws();
-    counted.sort_unstable_by_key(|least| (least.total, move_code(&least.mv)));
+    counted.sort_unstable_by(|one, other| compared(one, other));
+}
+
+/// How two moves compare. Codes are made only where the totals are the same.
+fn compared(one: &LeastMove<Residual>, other: &LeastMove<Residual>) -> Ordering
+    ensures { result ≡ ordering_then (nat_cmp one.now.total other.now.total) (slice_cmp nat_cmp (move_code one.now.mv) (move_code other.now.mv)) }
+{
+    if one.total != other.total {
+        return one.total.cmp(&other.total);
+    }
+    move_code(&one.mv).cmp(&move_code(&other.mv))
 }
