@@ -51,6 +51,17 @@ impl Guesses {
         (spread as usize).wrapping_add(number) & self.places.len().saturating_sub(1)
     }
 
+    /// The spot to look at after this one for a number in a group: far off, so that groups part which met.
+    pub fn far_spot(&self, group: u32, spot: usize) -> usize {
+        let stride = u64::from(group).wrapping_mul(0xd1342543de82ef95) >> 32 | 1;
+        spot.wrapping_add(stride as usize) & self.places.len().saturating_sub(1)
+    }
+
+    /// How many spots there are.
+    pub fn len(&self) -> usize {
+        self.places.len()
+    }
+
     /// The spot to look at after this one.
     pub fn next_spot(&self, spot: usize) -> usize {
         spot.wrapping_add(1) & self.places.len().saturating_sub(1)

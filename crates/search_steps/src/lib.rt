@@ -26,6 +26,7 @@ mod stepping;
 mod steps;
 mod tables;
 mod taking;
+mod unit_spots;
 mod walking;
 mod within;
 

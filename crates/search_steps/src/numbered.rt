@@ -4,7 +4,6 @@ ghost use Rattle.residual_table.specs.Keys.{no_tables};
 
 use crate::guesses::Guesses;
 use fare_law::{Carrier, EndOnEnd};
-use indexmap::IndexMap;
 use residual_table::ResidualParts;
 use std::alloc::Global;
 
@@ -41,7 +40,7 @@ pub struct UnitSteps {
 }
 
 /// What the list of an open unit is looked up by.
-#[derive(Clone, Copy, PartialEq, Eq, Hash, Debug)]
+#[derive(Clone, Copy, Debug)]
 pub struct UnitSlot {
     pub place: usize,
     pub slot: u32,
@@ -55,10 +54,8 @@ pub struct StepLists {
     /// Where the lists of a position may stand, by its number.
     pub places: Guesses,
     pub units: Vec<UnitSteps>,
-    /// Where the list of an open unit may stand.
-    pub unit_places: IndexMap<UnitSlot, usize>,
-    /// The same of those that were asked for last, which spares most look-ups.
-    pub recent: Guesses,
+    /// Where the list of an open unit stands, by the spots of its slot.
+    pub unit_places: Guesses,
 }
 
 impl StepLists {
@@ -73,8 +70,7 @@ impl StepLists {
             positions: Vec::new(alloc),
             places: Guesses::new(alloc),
             units: Vec::new(alloc),
-            unit_places: IndexMap::new(alloc),
-            recent: Guesses::new(alloc),
+            unit_places: Guesses::new(alloc),
         }
     }
 
@@ -89,8 +85,7 @@ impl StepLists {
             positions: Vec::new(alloc),
             places: Guesses::new(alloc),
             units: Vec::new(alloc),
-            unit_places: IndexMap::new(alloc),
-            recent: Guesses::new(alloc),
+            unit_places: Guesses::new(alloc),
         }
     }
 
@@ -103,7 +98,6 @@ impl StepLists {
         self.positions = Vec::new(alloc);
         self.places = Guesses::new(alloc);
         self.units = Vec::new(alloc);
-        self.unit_places = IndexMap::new(alloc);
-        self.recent = Guesses::new(alloc);
+        self.unit_places = Guesses::new(alloc);
     }
 }

@@ -10,6 +10,7 @@ use crate::Case;
 use crate::numbered::{PositionSteps, StepLists, UnitSlot, UnitSteps};
 use crate::stepping::steps_of;
 use crate::tables::Tables;
+use crate::unit_spots::{add_place, find_unit_steps, unit_at};
 use fare_law::Mem;
 use open_unit::OpenUnit;
 use outlines::{alone_list, opening_list, unit_list};
@@ -68,17 +69,17 @@ impl StepLists {
         if key.slot == 0 {
             return Ok(None);
         }
-        let spot = self.recent.near_spot(key.slot, key.place);
-        let guess = self.recent.get(spot);
+        let spot = self.unit_places.near_spot(key.slot, key.place);
+        let guess = self.unit_places.get(spot);
         if let Some(at) = unit_at(self.units.as_slice(), guess, &key) {
             return Ok(Some(at));
         }
-        let at = self.find_elsewhere(alloc, case, tables, key, spot)?;
+        let at = self.find_elsewhere(alloc, case, tables, key)?;
         Ok(Some(at))
     }
 
-    /// Where the list of an open unit stands, which isn't where the spot of its key guesses. It is made where it isn't
-    /// known. Apart, so that a good guess costs little.
+    /// Where the list of an open unit stands, which isn't at the first spot of its key. It is made where it isn't known.
+    /// Apart, so that what stands at its first spot costs little.
     #[inline(never)]
     fn find_elsewhere(
         &mut self,
@@ -86,7 +87,6 @@ impl StepLists {
         case: &Case,
         tables: &Tables,
         key: UnitSlot,
-        spot: usize,
     ) -> Result<usize, Mem>
         requires request { IsRequest case.now.request.now }
         requires slot { HasSlot self.old.numbers.units key.slot }
@@ -100,18 +100,13 @@ impl StepLists {
         ensures stays { KeepsNumbers self.old.units.items self.new.units.items }
         ensures found { IfOk result (UnitStandsAt self.new.units.items key.place key.slot) }
     {
-        let known = self.unit_places.get(&key).copied();
-        if let Some(at) = unit_at(self.units.as_slice(), known, &key) {
-            self.recent.put(spot, at);
+        let known = find_unit_steps(self.units.as_slice(), &self.unit_places, &key);
+        if let Some(at) = known {
             return Ok(at);
         }
         let steps = self.made_unit(alloc, case, tables, key)?;
         let at = self.units.len();
-        self.unit_places.insert(key, at)?;
-        // Few share a spot where there are four times as many.
-        self.recent.widen(at.saturating_mul(4))?;
-        let spot = self.recent.near_spot(key.slot, key.place);
-        self.recent.put(spot, at);
+        add_place(alloc, &mut self.unit_places, self.units.as_slice(), &key)?;
         self.units.push(steps)?;
         Ok(at)
     }
@@ -264,20 +259,6 @@ fn position_at(positions: &[PositionSteps], at: Option<usize>, position: u32) ->
     let at = at?;
     let steps = positions.get(at)?;
     if steps.position == position {
-        Some(at)
-    } else {
-        None
-    }
-}
-
-/// The place, if the list of the open unit stands there.
-fn unit_at(units: &[UnitSteps], at: Option<usize>, key: &UnitSlot) -> Option<usize>
-    requires { key.now.slot ≢ 0 }
-    ensures { IfSome result (UnitStandsAt units.now key.now.place key.now.slot) }
-{
-    let at = at?;
-    let steps = units.get(at)?;
-    if steps.place == key.place && steps.slot == key.slot {
         Some(at)
     } else {
         None

@@ -22,6 +22,9 @@ pub fn steps_of(
     ensures steps { IfOk result (λ v. HasSteps numbers.new list.now v.items) }
     ensures grows { Grows numbers.old numbers.new }
 {
+    if list.is_empty() {
+        return Ok(Vec::new(alloc));
+    }
     let steps = all_steps(alloc, numbers, list)?;
     shortened(alloc, steps.as_slice())
 }

@@ -1,6 +1,6 @@
 use Rattle.std.proofs.Common.{length, refl}
 use Rattle.std.proofs.lemmas.Option.{slice_get_read}
-use Rattle.search_steps.proofs.step_lists.unit_at.Goals as goal
+use Rattle.search_steps.proofs.unit_spots.unit_at.Goals as goal
 
 pub returns-then-steps-key-2 : goal.returns-then-steps-key-2
 returns-then-steps-key-2 c =
