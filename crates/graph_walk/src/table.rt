@@ -99,7 +99,7 @@ impl<K: Eq + Copy, N: Spread<K>> Rows<K, N> {
     }
 
     /// Adds a row for a key that has none.
-    pub fn add(&mut self, alloc: Global, key: K, bound: Option<u64>) -> Result<(), AllocError>
+    pub fn add(&mut self, key: K, bound: Option<u64>) -> Result<(), AllocError>
         requires { lookup (K.eq key) self.old.entries ≡ None }
         ensures { OnOk result (self.new.entries ≡ self.old.entries ++ (key, bound) ∷ []) }
     {
@@ -107,19 +107,19 @@ impl<K: Eq + Copy, N: Spread<K>> Rows<K, N> {
             return Err(AllocError);
         }
         if self.entries.len() >= self.heads.len() / 2 {
-            self.widen(alloc)?;
+            self.widen()?;
         }
         self.push(key, bound)
     }
 
     /// Has twice as many spots, so that few keys share one.
-    fn widen(&mut self, alloc: Global) -> Result<(), AllocError>
+    fn widen(&mut self) -> Result<(), AllocError>
         ensures { self.new.entries ≡ self.old.entries }
     {
         let wide = self.heads.len().saturating_mul(2);
-        let mut heads = Vec::from_elem(alloc, 0, wide)?;
-        chain::<K, N>(self.entries.as_slice(), &mut self.links, &mut heads);
-        self.heads = heads;
+        self.heads.resize(wide, 0)?;
+        self.heads.fill(0);
+        chain::<K, N>(self.entries.as_slice(), &mut self.links, &mut self.heads);
         Ok(())
     }
 

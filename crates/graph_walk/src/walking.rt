@@ -105,7 +105,7 @@ fn least_of_new<K: Eq + Copy, C, S: Steps<K, C>, N: Spread<K>>(
     ensures large { IfErr result (ExceedsIf (λ x. IsIn x (states (rows_of (S.state steps.old) rows.old.entries)) ⊎ Reached (S.leads context.now) (S.state steps.old key) x) budget) }
 {
     let place = rows.len();
-    rows.add(alloc, key, None)?;
+    rows.add(key, None)?;
     let outcomes = steps.outcomes(alloc, context, key)?;
     let mut least = None;
     for outcome in outcomes.as_slice() {
@@ -115,6 +115,6 @@ fn least_of_new<K: Eq + Copy, C, S: Steps<K, C>, N: Spread<K>>(
         };
         least = lesser(least, rest, outcome.price);
     }
-    put(alloc, rows, place, key, least)?;
+    put(rows, place, key, least)?;
     Ok(least)
 }
