@@ -154,8 +154,33 @@ impl<'a> NumberedCase<'a> {
         outcomes_of_key(alloc, &case, &mut self.tables, &mut self.lists, key)
     }
 
-    /// All residuals that are reached from that of a key, each once, with the least price of a run from it.
+    /// All residuals that are reached from that of a key, each once, with the least price of a run from it. The lists
+    /// are let go then: the walk alone needs them.
     pub fn reached(
+        &mut self,
+        alloc: Global,
+        root: ResidualKey,
+        budget: u32,
+    ) -> Result<ResidualRows, WalkFault>
+        requires request { IsRequest self.old.request.now }
+        requires live { IsLive self.old.numbers root }
+        requires short { IsShort (leads_of self.old.book.now self.old.request.now) level_of (residual_at self.old.numbers root) }
+        ensures book { self.new.book ≡ self.old.book }
+        ensures request { self.new.request ≡ self.old.request }
+        ensures grows { Grows self.old.numbers self.new.numbers }
+        ensures reached { IfOk result (λ rows. AreReached (leads_of self.old.book.now self.old.request.now) (residual_at self.old.numbers root) (states (rows_of (residual_at self.new.numbers) rows.entries))) }
+        ensures least { IfOk result (λ rows. AreLeast (leads_of self.old.book.now self.old.request.now) (rows_of (residual_at self.new.numbers) rows.entries)) }
+        ensures few { IfOk result (λ rows. length rows.entries ≤ budget) }
+        ensures alive { IfOk result (λ rows. AreLive (IsLive self.new.numbers) rows.entries) }
+        ensures large { IfErr result (ExceedsIf (Reached (leads_of self.old.book.now self.old.request.now) (residual_at self.old.numbers root)) budget) }
+    {
+        let rows = self.walked(alloc, root, budget);
+        self.let_go_lists(alloc);
+        rows
+    }
+
+    /// The same, with the lists that the walk needs.
+    fn walked(
         &mut self,
         alloc: Global,
         root: ResidualKey,
@@ -176,6 +201,13 @@ impl<'a> NumberedCase<'a> {
         self.keys_tell();
         let case = self.case();
         walk(alloc, &case, root, budget, self)
+    }
+
+    /// Lets go the lists.
+    fn let_go_lists(&mut self, alloc: Global)
+        ensures { self.new ≡ self.old }
+    {
+        self.lists.let_go(alloc);
     }
 
     /// Puts rows into the order of their residuals.

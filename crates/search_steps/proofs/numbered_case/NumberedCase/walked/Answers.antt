@@ -8,7 +8,7 @@ use Rattle.graph_walk.specs.Walks.{AreLeast, AreReached, IsShort, Reached, state
 use Rattle.residual_table.specs.Keys.{residual_at}
 use Rattle.search_steps.specs.Leads.{leads_of, level_of}
 use Rattle.search_steps.proofs.RowsByNumber.{said}
-use Rattle.search_steps.proofs.numbered_case.NumberedCase.reached.Goals as goal
+use Rattle.search_steps.proofs.numbered_case.NumberedCase.walked.Goals as goal
 
 pub walk-requires-clause-short : goal.walk-requires-clause-short
 walk-requires-clause-short c =
