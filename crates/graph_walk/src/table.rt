@@ -119,7 +119,12 @@ impl<K: Eq + Copy, N: Spread<K>> Rows<K, N> {
         let wide = self.heads.len().saturating_mul(2);
         self.heads.resize(wide, 0)?;
         self.heads.fill(0);
-        chain::<K, N>(self.entries.as_slice(), &mut self.links, &mut self.heads);
+        chain::<K, N>(
+            self.entries.as_slice(),
+            &mut self.marks,
+            &mut self.links,
+            &mut self.heads,
+        );
         Ok(())
     }
 
@@ -160,8 +165,12 @@ impl<K: Eq + Copy, N: Spread<K>> Rows<K, N> {
         // An allocator may go on to keep blocks as large as the largest that is let go.
         self.entries.shrink_to_fit();
         self.heads.fill(0);
-        chain::<K, N>(entries.as_slice(), &mut self.links, &mut self.heads);
-        mark::<K, N>(entries.as_slice(), &mut self.marks);
+        chain::<K, N>(
+            entries.as_slice(),
+            &mut self.marks,
+            &mut self.links,
+            &mut self.heads,
+        );
         self.entries = entries;
     }
 
@@ -194,32 +203,27 @@ impl<K: Eq + Copy, N: Spread<K>> Rows<K, N> {
     }
 }
 
-/// Gives each place the mark of its row's key.
-fn mark<K: Eq + Copy, N: Spread<K>>(rows: &[(K, Option<u64>)], marks: &mut Vec<u16>)
-    requires { length marks.old.items ≡ length rows.now }
-    ensures { marks.new.items ≡ marks_of N.number rows.now }
-{
-    for place in 0..rows.len() {
-        marks[place] = mark_of(N::number(&rows[place].0));
-    }
-}
-
-/// Chains all rows, where no head stands yet.
+/// Chains all rows, where no head stands yet, and gives each place the mark of its row's key.
 fn chain<K: Eq + Copy, N: Spread<K>>(
     rows: &[(K, Option<u64>)],
+    marks: &mut Vec<u16>,
     links: &mut Vec<u32>,
     heads: &mut Vec<u32>,
 )
+    requires each { length marks.old.items ≡ length rows.now }
     requires as_many { length links.old.items ≡ length rows.now }
     requires room { 0 < length heads.old.items }
     requires few { length rows.now < 2 ^ 32 }
     requires none { AreChained (spots_of N.number (length heads.old.items) rows.now) 0 links.old.items heads.old.items }
+    ensures marks { marks.new.items ≡ marks_of N.number rows.now }
     ensures as_many { length links.new.items ≡ length links.old.items }
     ensures spots { length heads.new.items ≡ length heads.old.items }
     ensures all { AreChained (spots_of N.number (length heads.new.items) rows.now) (length rows.now) links.new.items heads.new.items }
 {
     for place in 0..rows.len() {
-        let spot = spot_of(N::number(&rows[place].0), heads.len());
+        let number = N::number(&rows[place].0);
+        marks[place] = mark_of(number);
+        let spot = spot_of(number, heads.len());
         link(links, heads, place, spot);
     }
 }

@@ -24,11 +24,11 @@ chain-requires-clause-few g c =
     let few = c.self.invariant.0.few in
     omega (arith, same, many, here, few)
 
-pub mark-requires : goal.mark-requires
-mark-requires g c =
+pub chain-requires-clause-each : goal.chain-requires-clause-each
+chain-requires-clause-each g c =
     let same = ap (λ t. length t.entries) c.self.view_is in
     let moved = length_permutation c.args.self.now.entries c.args.entries.items c.requires in
-    let here = ap length c.as_slice-2.ensures.value in
+    let here = ap length c.as_slice.ensures.value in
     let many = ap length c.self.invariant.1 in
     let marked = marks_length g.N.Spread.number c.self.inside.entries.items in
     omega (arith, same, moved, here, many, marked)
@@ -44,7 +44,7 @@ invariant_of-self g c =
     let filled = length-replicate {A = ℕ} (vec_len c.self.inside.heads) 0 in
     let spots : length c.fill.new.self.items ≡ length c.self.inside.heads.items = omega (arith, long, filled, c.self.inside.heads.ok) in
     let all = subst (λ rs. AreChained (spots_of g.N.Spread.number (length c.chain.new.heads.items) rs) (length rs) c.chain.new.links.items c.chain.new.heads.items) c.as_slice.ensures.value c.chain.ensures.all in
-    (reordered_table g.K.PartialEq.eq g.met.K.Eq.laws g.N.Spread.number rows new c.self.inside.links.items c.self.inside.heads.items c.chain.new.links.items c.chain.new.heads.items c.self.invariant.0 moves c.chain.ensures.as_many (c.chain.ensures.spots ∙ spots) all, c.mark.ensures ∙ ap (marks_of g.N.Spread.number) c.as_slice-2.ensures.value)
+    (reordered_table g.K.PartialEq.eq g.met.K.Eq.laws g.N.Spread.number rows new c.self.inside.links.items c.self.inside.heads.items c.chain.new.links.items c.chain.new.heads.items c.self.invariant.0 moves c.chain.ensures.as_many (c.chain.ensures.spots ∙ spots) all, c.chain.ensures.marks ∙ ap (marks_of g.N.Spread.number) c.as_slice.ensures.value)
 
 pub returns-clause-found : goal.returns-clause-found
 returns-clause-found g c =
