@@ -106,7 +106,7 @@ impl<K: Eq + Copy, N: Spread<K>> Rows<K, N> {
         if self.entries.len() >= MOST {
             return Err(AllocError);
         }
-        if self.entries.len() >= self.heads.len() / 2 {
+        if self.entries.len() >= self.heads.len() {
             self.widen()?;
         }
         self.push(key, bound)
