@@ -7,6 +7,7 @@ pub mod Served
 pub mod Collected
 pub mod MaskFacts
 pub mod SomeLegs
+pub mod FareFacts
 pub mod SettledFacts
 pub mod BlockFacts
 pub mod Halves

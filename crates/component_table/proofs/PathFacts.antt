@@ -4,6 +4,7 @@ use Rattle.component_table.specs.declared.markets.Market.{Market}
 use Rattle.component_table.specs.declared.markets.MarketKey.{MarketKey}
 use Rattle.component_table.specs.declared.ways.Flown.{Flown}
 use Rattle.component_table.specs.Markets.{StandsAt}
+use Rattle.component_table.specs.Reaches.{end_from, end_to}
 use Rattle.component_table.specs.Tails.{HasNoFares}
 use Rattle.component_table.specs.Tables.{HasPut, IsDone, IsEntry, IsOfPath, IsOver, IsPathFrom, IsPathOver, IsTable, MarketDone, PathAdded, PutsIn, WayDone}
 use Rattle.component_table.proofs.GroupFacts.{path_some}
@@ -33,15 +34,6 @@ use Rattle.law_lemmas.proofs.EachOne.{each_from, each_in}
 use Rattle.law_lemmas.proofs.LawFacts.{numbers_one, on_last_to}
 use Rattle.law_lemmas.proofs.Lists.{front_read}
 use Rattle.law_lemmas.proofs.Members.{in_either, in_left, in_one, in_right}
-
--- the ends of the market between two places, this way
-abbrev pub end_from : Bool → Place → Place → Place
-end_from true from to = to
-end_from false from to = from
-
-abbrev pub end_to : Bool → Place → Place → Place
-end_to true from to = from
-end_to false from to = to
 
 -- what holds of each that was seen, and of one more
 seen_more : {X : Type 0} (P : X → Type 0) (xs : List X) (i : ℕ) (d x : X) → i < length xs → x ≡ get_or xs i d → ((y : X) → IsIn y (take i xs) → P y) → P x → (y : X) → IsIn y (take (i + 1) xs) → P y

@@ -6,9 +6,8 @@ use Rattle.component_table.specs.declared.ends.End.{End}
 use Rattle.component_table.specs.declared.ends.EndKey.{EndKey}
 use Rattle.component_table.specs.declared.filed.Filed.{Filed}
 use Rattle.component_table.specs.Markets.{StandsAt}
-use Rattle.component_table.proofs.PathFacts.{end_from, end_to}
 use Rattle.fare_book.specs.Keeping.{NoFare}
-use Rattle.component_table.specs.Reaches.{EndStands, FiledAt, IsEnd, IsEndAt, IsKnown, filed_of}
+use Rattle.component_table.specs.Reaches.{EndStands, FiledAt, IsEnd, IsEndAt, IsKnown, end_from, end_to, filed_of}
 use Rattle.fare_law.specs.declared.names.Carrier.{Carrier}
 use Rattle.fare_law.specs.declared.names.Place.{Place}
 use Rattle.fare_law.specs.Book.{Book}

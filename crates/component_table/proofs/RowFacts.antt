@@ -14,19 +14,19 @@ use Rattle.component_table.specs.declared.rows.Row.{Row}
 use Rattle.component_table.specs.declared.rows.Rows.{Rows}
 use Rattle.component_table.specs.declared.ways.Joint.{Joint}
 use Rattle.component_table.specs.declared.ways.Landed.{Landed}
-use Rattle.component_table.specs.Classes.{AreAmong, ClassDone, IsOfClass, LandsBy}
+use Rattle.component_table.specs.Classes.{AreAmong, ClassDone, IsFiled, IsOfClass, LandsBy}
 use Rattle.component_table.specs.Joints.{IsJoint, IsJointOf, Joins}
 use Rattle.component_table.specs.Kinds.{AreKindsOf, IsKindOf, joined_class}
 use Rattle.component_table.specs.Markets.{AreMarkets}
-use Rattle.component_table.specs.Masks.{PutsMask}
 use Rattle.component_table.specs.Reaches.{IsEnd, IsUnserved, filed_of}
-use Rattle.component_table.specs.Rows.{AreRows, HasRows, IsHeadOf, IsKnownTail, IsMet, IsRow, IsRowAt, TailAddsNothing}
+use Rattle.component_table.specs.Rows.{AddsMask, AreRows, HasRows, IsHeadOf, IsKnownTail, IsMet, IsRow, IsRowAt, TailAddsNothing, with_more}
 use Rattle.component_table.specs.Tables.{AddsNothing, AreLimited, Covers, HasLegs}
 use Rattle.component_table.proofs.Collected.{numbers_long}
+use Rattle.component_table.proofs.FareFacts.{class_both, class_on, fares_done}
 use Rattle.component_table.proofs.Halves.{joint_class, joint_legs}
 use Rattle.component_table.proofs.Lower.{set_only}
-use Rattle.component_table.proofs.Served.{ReachesEnd, served_done, unserved_none}
-use Rattle.component_table.proofs.SettledFacts.{class_on, reaches_end, settled_added}
+use Rattle.component_table.proofs.Served.{unserved_none}
+use Rattle.component_table.proofs.SettledFacts.{settled_added}
 use Rattle.component_table.proofs.SomeLegs.{no_class}
 use Rattle.fare_book.specs.Keeping.{Limited}
 use Rattle.fare_law.specs.declared.flights.Flight.{Flight}
@@ -83,13 +83,16 @@ module _ (b : Book) (q : Request) (at : Position) where
   ]
 
   module _ (class : PathClass) (ms : List Market) (e : End) (are : AreMarkets b ms) (limited : Limited b) (key : e.key ≡ record { place = class.end; carrier = class.carrier }) (end : IsEnd b at.place ms e) where
-    reaches : (after : Option Position) (fs : List Flight) → IsOfClass class after fs → ReachesEnd e fs
-    reaches after fs of = reaches_end class e after fs (sym (ap (λ (x : EndKey). x.place) key)) (sym (ap (λ (x : EndKey). x.carrier) key)) of
+    filed : IsFiled b at.place class
+    filed = record { markets = ms; are = are; end = e; is = end; place_is = sym (ap (λ (x : EndKey). x.place) key); carrier_is = sym (ap (λ (x : EndKey). x.carrier) key); limited = limited }
 
     -- where the carrier has no fare to its end or from it
     pub unserved_class : (mask : ℕ) (table : List Entry) → IsUnserved e.there → IsUnserved e.back → ClassDone b q at (record { class = class; classes = mask }) table
-    unserved_class mask table there back path fs is of classes legs among r =
-        served_done b q at path ms e are limited end classes fs table is legs (reaches path.after fs of) r (λ f found m stands i g got low high. absurd (unserved_none (filed_of e r) f i found (both r) low high))
+    unfolding filed
+    unserved_class mask table there back = record {
+      filed = filed;
+      fares = fares_done b q at ms e (record { class = class; classes = mask }) table are end (sym (ap (λ (x : EndKey). x.place) key)) (sym (ap (λ (x : EndKey). x.carrier) key)) (λ r f found m stands i g got low high. absurd (unserved_none (filed_of e r) f i found (both r) low high));
+    }
       where
         both : (r : Bool) → IsUnserved (filed_of e r)
         both true = back
@@ -97,8 +100,8 @@ module _ (b : Book) (q : Request) (at : Position) where
 
     -- where no class of seats is open
     pub closed_class : (table : List Entry) → ClassDone b q at (record { class = class; classes = 0 }) table
-    closed_class table path fs is of classes legs among r =
-        served_done b q at path ms e are limited end classes fs table is legs (reaches path.after fs of) r (λ f found m stands i g got low high rule live permits least cheap. absurd (no_class 0 cheap.fare.class refl (among cheap.fare.class cheap.open_class)))
+    unfolding filed
+    closed_class table = record { filed = filed; fares = λ path fs is of r row live open_class permits. absurd (no_class 0 row.fare.class refl open_class) }
 
   -- a row stays right as the table grows
   pub rows_on : (classes : List TailClass) (old new : List Entry) (rows : List Row) → Covers old new → AreRows b q at classes old rows → AreRows b q at classes new rows
@@ -131,7 +134,7 @@ module _ (rows : List Row) (i : ℕ) (old new : Row) (stands : slice_get rows i 
   met_set b q (Some x) h = record { known = h.known; row = row_at_set x.kind.class x.kind.row h.row }
 
   -- a row in which one more is known
-  pub rows_put : (b : Book) (q : Request) (at : Position) (classes : List TailClass) (table : List Entry) (class mask : ℕ) (c : TailClass) → PutsMask class mask old.masks.items new.masks.items → slice_get classes class ≡ Some c
+  pub rows_put : (b : Book) (q : Request) (at : Position) (classes : List TailClass) (table : List Entry) (class mask : ℕ) (c : TailClass) → AddsMask class mask old.masks.items new.masks.items → slice_get classes class ≡ Some c
       → ClassDone b q at (record { class = joined_class old.class c; classes = mask }) table → AreRows b q at classes table rows → AreRows b q at classes table (set rows i new)
   rows_put b q at classes table class mask c puts known done h =
       each_from (IsRow b q at classes table) (set rows i new) (λ row within. elim (set_only rows i new row within) [
@@ -148,12 +151,16 @@ module _ (rows : List Row) (i : ℕ) (old new : Row) (stands : slice_get rows i 
       now_for : (k : TailClass) (m : ℕ) → DoneFor old.class k m → DoneFor new.class k m
       now_for k m d = subst (λ x. DoneFor x k m) (sym class_same) d
 
+      with_known : (n : ℕ) (k : TailClass) (had : Option ℕ) → slice_get old.masks.items n ≡ Some had → slice_get classes n ≡ Some k → DoneFor old.class k mask → DoneFor old.class k (with_more had mask)
+      with_known n k None got at_n d = d
+      with_known n k (Some m) got at_n d = class_both b q at (joined_class old.class k) m mask table (was n m k got at_n) d
+
       own : IsRow b q at classes table new
       own n m k got at_n = elim (puts n m got) [
         | inl e ↦ now_for k m (was n m k e at_n)
         | inr e ↦
             let same = some_one (slice_get classes class) c k known (ap (slice_get classes) (sym e.0) ∙ at_n) in
-            now_for k m (subst (λ x. DoneFor old.class x m) same (subst (λ x. DoneFor old.class c x) (sym e.1) done))
+            now_for k m (subst (DoneFor old.class k) (sym e.1.2) (with_known n k e.1.0 e.1.1 at_n (subst (λ x. DoneFor old.class x mask) same done)))
       ]
 
 -- one row more, in which nothing is known

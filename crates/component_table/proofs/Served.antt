@@ -7,11 +7,11 @@ use Rattle.component_table.specs.declared.filed.Filed.{Filed}
 use Rattle.component_table.specs.declared.markets.Market.{Market}
 use Rattle.component_table.specs.declared.ways.Flown.{Flown}
 use Rattle.component_table.specs.Markets.{AreMarkets, IsMarket}
-use Rattle.component_table.specs.Reaches.{FiledAt, IsEnd, IsUnserved, StandBetween, filed_of}
+use Rattle.component_table.specs.Reaches.{FiledAt, IsEnd, IsUnserved, StandBetween, end_from, end_to, filed_of}
 use Rattle.component_table.specs.Tables.{GoesOn, GroupDone, HasGroup, HasLegs, PathAdded}
 use Rattle.component_table.proofs.GroupFacts.{path_some, some_counted}
 use Rattle.component_table.proofs.Lower.{goes_on, goes_self, has_group_on}
-use Rattle.component_table.proofs.PathFacts.{end_from, end_to, path_numbers, path_over}
+use Rattle.component_table.proofs.PathFacts.{path_numbers, path_over}
 use Rattle.component_table.proofs.ReachFacts.{end_found}
 use Rattle.component_table.proofs.SomeLegs.{no_class, some_legs}
 use Rattle.fare_book.specs.Keeping.{Limited, NoFare}
@@ -43,7 +43,7 @@ first_of_all P [] some h = absurd (omega arith)
 first_of_all P (f ∷ fs) some h = All-head P f fs h
 
 -- the fare's carrier is the first flight's
-permits_first : (rule : Rule) (carrier : Carrier) (fs : List Flight) → 1 ≤ length fs → Permits rule carrier fs → OnFirst (λ f. f.carrier ≡ carrier) fs
+pub permits_first : (rule : Rule) (carrier : Carrier) (fs : List Flight) → 1 ≤ length fs → Permits rule carrier fs → OnFirst (λ f. f.carrier ≡ carrier) fs
 permits_first rule carrier fs some p = go rule.cat9 p.transfers
   where
     by_form : (b : Bool) → MatchBool b (All (λ f. f.carrier ≡ carrier) fs) (OnFirst (λ f. f.carrier ≡ carrier) fs) → OnFirst (λ f. f.carrier ≡ carrier) fs
@@ -54,7 +54,7 @@ permits_first rule carrier fs some p = go rule.cat9 p.transfers
     go None h = h
     go (Some c) h = by_form c.online h.1
 
-carriers_same : (fs : List Flight) (x y : Carrier) → OnFirst (λ f. f.carrier ≡ x) fs → OnFirst (λ f. f.carrier ≡ y) fs → x ≡ y
+pub carriers_same : (fs : List Flight) (x y : Carrier) → OnFirst (λ f. f.carrier ≡ x) fs → OnFirst (λ f. f.carrier ≡ y) fs → x ≡ y
 carriers_same [] x y h k = absurd h
 carriers_same (f ∷ fs) x y h k = sym h ∙ k
 

@@ -1,5 +1,5 @@
 -- Classes of paths that are settled: when one is, and that it stays so as the table grows.
-use Rattle.std.proofs.Common.{◌≡◌, ◌⊎◌, ℕ, ◌+◌, ◌<◌, ◌≤◌, All, Bool, true, false, List, [], ◌∷◌, length, get_or, slice_get, Option, Some, None, IsBitSet, bit_and, refl, sym, ap, subst, ◌∙◌, inl, inr, arith}
+use Rattle.std.proofs.Common.{◌≡◌, ◌⊎◌, ℕ, ◌+◌, ◌<◌, ◌≤◌, All, Bool, true, false, List, [], ◌∷◌, length, get_or, slice_get, Option, Some, None, IsBitSet, bit_and, sym, ap, subst, ◌∙◌, inl, inr, arith}
 use Rattle.std.specs.Int.{IsInRange}
 use Rattle.component_table.specs.declared.classes.PathClass.{PathClass}
 use Rattle.component_table.specs.declared.ends.End.{End}
@@ -13,9 +13,10 @@ use Rattle.component_table.specs.Markets.{AreMarkets}
 use Rattle.component_table.specs.Reaches.{filed_of}
 use Rattle.component_table.specs.Tables.{AreLimited, Covers, HasLegs, IsFlown, PathAdded}
 use Rattle.component_table.proofs.Collected.{numbers_long}
-use Rattle.component_table.proofs.Lower.{goes_self, path_done_on}
+use Rattle.component_table.proofs.FareFacts.{class_on, class_some, fares_done, path_of_class_done}
+use Rattle.component_table.proofs.Lower.{goes_self}
 use Rattle.component_table.proofs.PathFacts.{path_numbers}
-use Rattle.component_table.proofs.Served.{ReachesEnd, not_between, served_done}
+use Rattle.component_table.proofs.Served.{not_between}
 use Rattle.fare_book.specs.Keeping.{Limited}
 use Rattle.fare_groups.specs.declared.group.FareGroup.{FareGroup}
 use Rattle.fare_groups.specs.Groups.{extra_of}
@@ -37,15 +38,6 @@ use Rattle.law_lemmas.proofs.Lists.{read_got}
 use Rattle.law_lemmas.proofs.Numbers.{here_or_before, le_on}
 use Rattle.law_lemmas.proofs.Options.{some_one}
 
--- a path of a class reaches the class's end
-first_carrier : (c : PathClass) (e : End) (fs : List Flight) → c.carrier ≡ e.key.carrier → OnFirst (λ f. (f.day ≡ c.first) × (f.carrier ≡ c.carrier)) fs → OnFirst (λ f. f.carrier ≡ e.key.carrier) fs
-first_carrier c e [] same k = absurd k
-first_carrier c e (f ∷ fs) same k = k.1 ∙ same
-
-class_some : (c : PathClass) (after : Option Position) (fs : List Flight) → IsOfClass c after fs → 1 ≤ length fs
-class_some c after [] is = absurd is.first
-class_some c after (f ∷ fs) is = omega arith
-
 -- what is known of flights that land, once their block is
 pub lands_flown : (b : Book) (q : Request) (at : Position) (ms : List Market) (l : Landed) (fs : List Flight) (flown : Flown) → LandsBy b q at ms l fs → flown.flights.now ≡ fs → flown.classes ≡ l.classes → IsFlown b q flown
 lands_flown b q at ms l fs flown is same classes = record {
@@ -53,9 +45,6 @@ lands_flown b q at ms l fs flown is same classes = record {
   limits = subst (λ gs. All IsFlight gs) (sym same) is.limits;
   legs = subst (λ n. HasLegs b q flown.flights.now n) (sym classes) (subst (λ gs. HasLegs b q gs l.classes) (sym same) is.legs);
 }
-
-pub class_itself : (c : PathClass) (after : Option Position) (fs : List Flight) → IsOfClass c after fs → IsOfClass c c.after fs
-class_itself c after fs is = record { after_is = refl; first = is.first; last = is.last; stops = is.stops }
 
 -- the flights of a path's numbers land, if they are so
 pub landed_lands : (b : Book) (q : Request) (at : Position) (ms : List Market) (ns : List ℕ) (l : Landed) (fs : List Flight) → IsLanded b q at ms ns l → length ns ≤ 4 → AreLimited b → Numbers b ns fs → LandsBy b q at ms l fs
@@ -73,34 +62,24 @@ landed_lands b q at ms ns l fs is few limited numbers = record {
 pub class_leads : (c : PathClass) (after : Option Position) (fs : List Flight) → after ≡ c.after → IsOfClass c c.after fs → IsOfClass c after fs
 class_leads c after fs e is = record { after_is = e; first = is.first; last = is.last; stops = is.stops }
 
-pub reaches_end : (c : PathClass) (e : End) (after : Option Position) (fs : List Flight) → c.end ≡ e.key.place → c.carrier ≡ e.key.carrier → IsOfClass c after fs → ReachesEnd e fs
-reaches_end c e after fs place carrier is = record {
-  ends = on_last_to (λ f. (f.to ≡ c.end) × (f.day ≡ c.last)) (λ f. f.to ≡ e.key.place) fs (λ f k. k.0 ∙ place) is.last;
-  begins = first_carrier c e fs carrier is.first;
-}
-
--- where the groups of a class are settled, each path of it is done
+-- where the groups of a class are settled, the class is done
 pub class_done : (b : Book) (q : Request) (at : Position) (ms : List Market) (l : Landed) (fs : List Flight) (table : List Entry) → AreMarkets b ms → Limited b → LandsBy b q at ms l fs → BothSettled b ms l table → ClassDone b q at (class_landed l) table
-class_done b q at ms l fs table are limited is both path gs path_is of classes legs among r =
-    served_done b q at path ms l.end.now are limited is.end classes gs table path_is legs (reaches_end l.class l.end.now path.after gs is.place_is is.carrier_is of) r
-    (λ f found m stands i g got low high rule live permits least cheap.
-    let x = both r f found m stands i g got low high rule live gs (class_itself l.class path.after gs of) permits cheap.fare cheap.within (among cheap.fare.class cheap.open_class) in
-    (x.0, x.1, subst (λ (p : Option Position). OutlineOver x.0.outline p gs g.key r) (sym of.after_is) x.2, subst (λ n. x.0.price ≤ n + extra_of rule gs) cheap.costs x.3))
+class_done b q at ms l fs table are limited is both = record {
+  filed = record { markets = ms; are = are; end = l.end.now; is = is.end; place_is = is.place_is; carrier_is = is.carrier_is; limited = limited };
+  fares = fares_done b q at ms l.end.now (class_landed l) table are is.end is.place_is is.carrier_is both;
+}
 
 -- a path of a settled class is put in by leaving the table as it is
 pub settled_added : (b : Book) (q : Request) (at : Position) (path : Path) (s : SettledClass) (classes : ℕ) (old : List Entry) → ClassDone b q at s old → ((fs : List Flight) → Numbers b path.flights fs → IsOfClass s.class path.after fs) → ((fs : List Flight) → Numbers b path.flights fs → HasLegs b q fs classes)
     → AreAmong classes s.classes → PathAdded b q at path old old
 settled_added b q at path s classes old done class legs among = record {
   goes = goes_self b q at old;
-  done = λ fs is r. let own = path_numbers b q at path.flights fs path.after is in done path fs is (class fs own) classes (legs fs own) among r;
+  done = λ fs is r. let own = path_numbers b q at path.flights fs path.after is in path_of_class_done b q at s old done path fs is (class fs own) classes among r (legs fs own);
 }
 
 module _ (b : Book) (q : Request) (at : Position) where
-  pub class_on : (s : SettledClass) (old new : List Entry) → Covers old new → ClassDone b q at s old → ClassDone b q at s new
-  class_on s old new c done path fs is of classes legs among r = path_done_on b q at path fs r old new c (done path fs is of classes legs among r)
-
   pub settled_on : (kept : List SettledClass) (old new : List Entry) → Covers old new → AreSettled b q at kept old → AreSettled b q at kept new
-  settled_on kept old new c h = each_from (λ s. ClassDone b q at s new) kept (λ s i. class_on s old new c (each_in (λ s. ClassDone b q at s old) kept s h i))
+  settled_on kept old new c h = each_from (λ s. ClassDone b q at s new) kept (λ s i. class_on b q at s old new c (each_in (λ s. ClassDone b q at s old) kept s h i))
 
   -- with one more, or one in the place of another
   pub settled_more : (old new : List SettledClass) (one : SettledClass) (table : List Entry) → AreSettled b q at old table → ClassDone b q at one table → ((s : SettledClass) → IsIn s new → IsIn s old ⊎ (s ≡ one)) → AreSettled b q at new table

@@ -7,23 +7,28 @@ use Rattle.component_table.specs.declared.markets.Market.{Market}
 use Rattle.component_table.specs.declared.settled.SettledClass.{SettledClass}
 use Rattle.component_table.specs.declared.ways.Flown.{Flown}
 use Rattle.component_table.specs.declared.ways.Landed.{Landed}
-use Rattle.component_table.specs.Reaches.{IsEnd, filed_of}
+use Rattle.component_table.specs.Markets.{AreMarkets}
+use Rattle.component_table.specs.Reaches.{IsEnd, end_from, end_to, filed_of}
 use Rattle.component_table.specs.Tables.{HasLegs}
+use Rattle.fare_book.specs.Keeping.{Limited}
 use Rattle.fare_groups.specs.declared.group.FareGroup.{FareGroup}
 use Rattle.fare_groups.specs.declared.group.GroupedFare.{GroupedFare}
-use Rattle.fare_groups.specs.Groups.{Permits, extra_of}
+use Rattle.fare_groups.specs.Groups.{Permits, extra_of, group_of, share_of}
 use Rattle.fare_law.specs.declared.flights.Flight.{Flight}
 use Rattle.fare_law.specs.declared.requests.Request.{Request}
+use Rattle.fare_law.specs.declared.names.Place.{Place}
 use Rattle.fare_law.specs.declared.rules.Rule.{Rule}
+use Rattle.fare_law.specs.declared.sheets.SheetRow.{SheetRow}
 use Rattle.fare_law.specs.Book.{Book, live_rule}
 use Rattle.fare_law.specs.Limits.{IsFlight}
 use Rattle.fare_law.specs.Lists.{Each, IsIn, OnFirst, OnLast}
 use Rattle.fare_law.specs.Parts.{Numbers, stopovers}
+use Rattle.fare_law.specs.Sheets.{IsLiveRow}
 use Rattle.flight_paths.specs.declared.positions.Path.{Path}
 use Rattle.flight_paths.specs.declared.positions.Position.{Position}
 use Rattle.flight_paths.specs.Positions.{IsPath}
 use Rattle.outlines.specs.declared.outline.Entry.{Entry}
-use Rattle.outlines.specs.ByGroups.{OutlineOver, PathDone}
+use Rattle.outlines.specs.ByGroups.{OutlineOver}
 
 -- A path on these flights that leads there is one of the class.
 pub record IsOfClass (c : PathClass) (after : Option Position) (fs : List Flight) : Type 0 where
@@ -36,9 +41,29 @@ pub record IsOfClass (c : PathClass) (after : Option Position) (fs : List Flight
 abbrev pub AreAmong : ℕ → ℕ → Type 0
 AreAmong classes others = (class : ℕ) → IsBitSet classes class → IsBitSet others class
 
--- each path of the class on which none but these classes of seats are open is done
-abbrev pub ClassDone : Book → Request → Position → SettledClass → List Entry → Type 0
-ClassDone b q at s table = (path : Path) (fs : List Flight) → IsPath b q.slices at path.flights fs path.after → IsOfClass s.class path.after fs → (classes : ℕ) → HasLegs b q fs classes → AreAmong classes s.classes → (reverse : Bool) → PathDone b q at path fs reverse table
+-- What is filed between a place and the end of a class by its carrier, both ways, is known.
+pub record IsFiled (b : Book) (from : Place) (c : PathClass) : Type 0 where
+  pub markets : List Market
+  pub are : AreMarkets b markets
+  pub end : End
+  pub is : IsEnd b from markets end
+  pub place_is : c.end ≡ end.key.place
+  pub carrier_is : c.carrier ≡ end.key.carrier
+  pub limited : Limited b
+
+-- The table has the outline of a row's group on these flights at no more than the row's share and the charges of its rule.
+abbrev pub HasFare : List Entry → Option Position → List Flight → Bool → SheetRow → Type 0
+HasFare table after fs reverse row = (e : Entry) × IsIn e table × OutlineOver e.outline after fs (group_of row) reverse × (e.price ≤ share_of row + extra_of row.rule fs)
+
+-- On each path of the class the table has each live fare of these classes of seats that is filed over it and whose rule permits it.
+abbrev pub FaresDone : Book → Request → Position → SettledClass → List Entry → Type 0
+FaresDone b q at s table = (path : Path) (fs : List Flight) → IsPath b q.slices at path.flights fs path.after → IsOfClass s.class path.after fs → (reverse : Bool) (row : SheetRow) → IsLiveRow b (end_from reverse at.place s.class.end) (end_to reverse at.place s.class.end) row
+    → IsBitSet s.classes row.fare.class → Permits row.rule row.fare.key.carrier fs → HasFare table path.after fs reverse row
+
+-- So each path of the class on which none but these classes of seats are open is done.
+pub record ClassDone (b : Book) (q : Request) (at : Position) (s : SettledClass) (table : List Entry) : Type 0 where
+  pub filed : IsFiled b at.place s.class
+  pub fares : FaresDone b q at s table
 
 -- each of these classes is done as the table stands
 abbrev pub AreSettled : Book → Request → Position → List SettledClass → List Entry → Type 0

@@ -34,6 +34,16 @@ abbrev pub filed_of : End → Bool → Option Filed
 filed_of e true = e.back
 filed_of e false = e.there
 
+-- the place from which fares are filed this way between a place and an end
+abbrev pub end_from : Bool → Place → Place → Place
+end_from true from to = to
+end_from false from to = from
+
+-- and the place to which
+abbrev pub end_to : Bool → Place → Place → Place
+end_to true from to = from
+end_to false from to = to
+
 -- no group stands there
 abbrev pub IsUnserved : Option Filed → Type 0
 IsUnserved filed = IfSome filed (λ f. f.to ≤ f.from)

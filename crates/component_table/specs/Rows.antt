@@ -1,5 +1,5 @@
 -- What is known of the paths that begin with a head and go on by a tail, class by class.
-use Rattle.std.specs.Prelude.{◌≡◌, ◌≤ℤ◌, ◌+ℤ◌, pos, ℕ, List, ◌++◌, Option, Some, bit_and, IfSome, slice_get}
+use Rattle.std.specs.Prelude.{◌≡◌, ◌⊎◌, ◌≤ℤ◌, ◌+ℤ◌, pos, ℕ, List, ◌++◌, Option, Some, None, bit_and, bit_or, IfSome, slice_get}
 use Rattle.component_table.specs.declared.kinds.TailClass.{TailClass}
 use Rattle.component_table.specs.declared.kinds.TailKind.{TailKind}
 use Rattle.component_table.specs.declared.rows.HeadClass.{HeadClass}
@@ -51,6 +51,15 @@ pub record IsMet (b : Book) (q : Request) (rows : List Row) (h : MetHead) : Type
 pub record HasRows (b : Book) (q : Request) (at : Position) (classes : List TailClass) (table : List Entry) (r : Rows) : Type 0 where
   pub each : AreRows b q at classes table r.kept.items
   pub head : IfSome r.head (IsMet b q r.kept.items)
+
+-- more classes of seats beside those that are known
+abbrev pub with_more : Option ℕ → ℕ → ℕ
+with_more None more = more
+with_more (Some had) more = bit_or had more
+
+-- each mask that is known was known before, or has these classes of seats more, at their place
+abbrev pub AddsMask : ℕ → ℕ → List (Option ℕ) → List (Option ℕ) → Type 0
+AddsMask at more old new = (n mask : ℕ) → slice_get new n ≡ Some (Some mask) → (slice_get old n ≡ Some (Some mask)) ⊎ ((n ≡ at) × ((had : Option ℕ) × (slice_get old n ≡ Some had) × (mask ≡ with_more had more)))
 
 -- Enough classes of seats stand in a row for the class of the tail of this number, where these are open in the head.
 pub record IsKnownTail (kinds : List TailKind) (masks : List (Option ℕ)) (classes number : ℕ) : Type 0 where

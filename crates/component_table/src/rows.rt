@@ -7,9 +7,9 @@ ghost use Rattle.component_table.specs.declared.rows.MetHead.{MetHead as OneHead
 ghost use Rattle.component_table.specs.declared.rows.Row.{Row as OneRow};
 ghost use Rattle.component_table.specs.Classes.{ClassDone};
 ghost use Rattle.component_table.specs.Joints.{Joins};
-ghost use Rattle.component_table.specs.Masks.{AreMasks, PutsMask};
+ghost use Rattle.component_table.specs.Masks.{AreMasks};
 ghost use Rattle.component_table.specs.Kinds.{joined_class};
-ghost use Rattle.component_table.specs.Rows.{AreRows, HasRows, IsMet, IsRowAt};
+ghost use Rattle.component_table.specs.Rows.{AddsMask, AreRows, HasRows, IsMet, IsRowAt, with_more};
 ghost use Rattle.fare_law.specs.declared.requests.Request.{Request as Asked};
 ghost use Rattle.fare_law.specs.Book.{Book as Version};
 ghost use Rattle.flight_paths.specs.declared.positions.Position.{Position as At};
@@ -216,7 +216,7 @@ impl Rows {
         }
     }
 
-    /// Keeps in a row for which classes of seats a class of tails is known.
+    /// Keeps in a row that a class of tails is known for some classes of seats, beside those for which it was known before.
     pub fn put(&mut self, row: usize, class: usize, mask: u32)
         ensures rows { (b : Version) (q : Asked) (at : At) (classes : Items OneClass) (table : Items OneEntry) (c : OneClass) → slice_get classes class ≡ Some c → ((one : OneRow) → slice_get self.old.kept.items row ≡ Some one → ClassDone b q at (record { class = joined_class one.class c; classes = mask }) table) → HasRows b q at classes table self.old → HasRows b q at classes table self.new }
         ensures stays { (head : OneHeadClass) (n : ℕ) → IsRowAt self.old.kept.items head n → IsRowAt self.new.kept.items head n }
@@ -227,13 +227,23 @@ impl Rows {
     }
 }
 
-/// Keeps in a row for which classes of seats a class of tails is known.
+/// Keeps in a row that a class of tails is known for some classes of seats, beside those for which it was known before.
 fn put_in(row: &mut Row, class: usize, mask: u32)
     ensures class { row.new.class ≡ row.old.class }
-    ensures masks { PutsMask class mask row.old.masks.items row.new.masks.items }
+    ensures masks { AddsMask class mask row.old.masks.items row.new.masks.items }
 {
     if class < row.masks.len() {
-        row.masks[class] = Some(mask);
+        row.masks[class] = Some(with_more(row.masks[class], mask));
+    }
+}
+
+/// More classes of seats beside those that are known.
+fn with_more(known: Option<u32>, more: u32) -> u32
+    ensures { result ≡ with_more known more }
+{
+    match known {
+        Some(had) => had | more,
+        None => more,
     }
 }
 

@@ -4,7 +4,8 @@ use Rattle.component_table.specs.Classes.{class_landed}
 use Rattle.component_table.specs.Tables.{Covers, IsOfPath, PathAdded}
 use Rattle.component_table.proofs.Lower.{covers_on}
 use Rattle.component_table.proofs.PathFacts.{path_added}
-use Rattle.component_table.proofs.SettledFacts.{both_ways, lands_flown, reaches_end, way_on}
+use Rattle.component_table.proofs.FareFacts.{reaches_end}
+use Rattle.component_table.proofs.SettledFacts.{both_ways, lands_flown, way_on}
 use Rattle.component_table.proofs.adding.add_both.Goals as goal
 
 pub add_way-requires-clause-flown : goal.add_way-requires-clause-flown

@@ -5,7 +5,8 @@ use Rattle.component_table.specs.Reaches.{IsEnd}
 use Rattle.component_table.proofs.PathFacts.{path_numbers}
 use Rattle.component_table.proofs.ReachFacts.{end_stands}
 use Rattle.component_table.proofs.Served.{closed_added, reaches_as, unserved_added}
-use Rattle.component_table.proofs.SettledFacts.{class_itself, of_class}
+use Rattle.component_table.proofs.FareFacts.{class_itself}
+use Rattle.component_table.proofs.SettledFacts.{of_class}
 use Rattle.fare_law.specs.Parts.{Numbers}
 use Rattle.law_lemmas.proofs.Lists.{got_within}
 use Rattle.law_lemmas.proofs.Options.{on_ok}

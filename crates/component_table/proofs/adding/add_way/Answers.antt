@@ -1,9 +1,9 @@
 use Rattle.std.proofs.Common.{slice_get, MatchOption, subst, sym, ◌∙◌}
 use Rattle.component_table.specs.declared.markets.Market.{Market}
 use Rattle.component_table.specs.Markets.{IsMarket}
-use Rattle.component_table.specs.Reaches.{FiledAt, StandBetween}
+use Rattle.component_table.specs.Reaches.{FiledAt, StandBetween, end_from, end_to}
 use Rattle.component_table.specs.Tables.{IsOver, IsPathOver}
-use Rattle.component_table.proofs.PathFacts.{end_from, end_to, market_over, none_done, path_over, way_done}
+use Rattle.component_table.proofs.PathFacts.{market_over, none_done, path_over, way_done}
 use Rattle.component_table.proofs.ReachFacts.{end_found}
 use Rattle.fare_book.specs.Keeping.{NoFare}
 use Rattle.law_lemmas.proofs.EachOne.{each_in}
