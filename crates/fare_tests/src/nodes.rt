@@ -111,49 +111,75 @@ fn find(
     Ok(store.find(pass, &key).and_then(price))
 }
 
-#[test]
-fn tells_keys(rt: HostRuntime) -> Result<(), Fail> {
-    let alloc = rt.alloc();
+/// Whether the key asks for the same as itself, as another of the same amount, and as one of another amount.
+fn same(alloc: Global) -> Result<[bool; 3], Mem> {
     let one = key(alloc, 20000)?;
-    assert!(rt; asks_same(&one, &one));
-    assert!(rt; asks_same(&one, &key(alloc, 20000)?));
-    assert!(rt; !asks_same(&one, &key(alloc, 15000)?));
-    Ok(())
+    let other = key(alloc, 20000)?;
+    let cheaper = key(alloc, 15000)?;
+    Ok([
+        asks_same(&one, &one),
+        asks_same(&one, &other),
+        asks_same(&one, &cheaper),
+    ])
+}
+
+#[test]
+fn tells_keys(rt: HostRuntime) {
+    assert_eq!(rt; same(rt.alloc()), Ok([true, true, false]));
+}
+
+/// What a pass finds in one empty cell and keeps there, and then what a second one keeps and finds.
+fn in_one_cell(alloc: Global, store: &NodeStore) -> Result<[Option<u64>; 4], Mem> {
+    let mut first = store.pass(alloc)?;
+    let none = find(alloc, store, &mut first, 20000)?;
+    let kept = keep(alloc, store, &mut first, 20000)?;
+    let mut second = store.pass(alloc)?;
+    let same = keep(alloc, store, &mut second, 20000)?;
+    let found = find(alloc, store, &mut second, 20000)?;
+    Ok([none, kept, same, found])
 }
 
 #[test]
 fn keeps_in_one_cell(rt: HostRuntime) -> Result<(), Fail> {
-    let alloc = rt.alloc();
-    let store = NodeStore::new(alloc, 1)?;
-    let mut first = store.pass(alloc)?;
-    assert_eq!(rt; find(alloc, &store, &mut first, 20000)?, None);
-    assert_eq!(rt; keep(alloc, &store, &mut first, 20000)?, Some(20000));
-    let mut second = store.pass(alloc)?;
-    assert_eq!(rt; keep(alloc, &store, &mut second, 20000)?, Some(20000));
-    assert_eq!(rt; find(alloc, &store, &mut second, 20000)?, Some(20000));
+    let store = NodeStore::new(rt.alloc(), 1)?;
+    let expected = [None, Some(20000), Some(20000), Some(20000)];
+    assert_eq!(rt; in_one_cell(rt.alloc(), &store), Ok(expected));
     Ok(())
+}
+
+/// What a pass keeps in one cell, and then, by another key, keeps twice and finds.
+fn beside_another(alloc: Global, store: &NodeStore) -> Result<[Option<u64>; 4], Mem> {
+    let mut pass = store.pass(alloc)?;
+    Ok([
+        keep(alloc, store, &mut pass, 20000)?,
+        keep(alloc, store, &mut pass, 15000)?,
+        keep(alloc, store, &mut pass, 15000)?,
+        find(alloc, store, &mut pass, 15000)?,
+    ])
 }
 
 #[test]
 fn has_no_room_for_another(rt: HostRuntime) -> Result<(), Fail> {
-    let alloc = rt.alloc();
-    let store = NodeStore::new(alloc, 1)?;
-    let mut pass = store.pass(alloc)?;
-    assert_eq!(rt; keep(alloc, &store, &mut pass, 20000)?, Some(20000));
-    assert_eq!(rt; keep(alloc, &store, &mut pass, 15000)?, None);
-    assert_eq!(rt; keep(alloc, &store, &mut pass, 15000)?, None);
-    assert_eq!(rt; find(alloc, &store, &mut pass, 15000)?, None);
+    let store = NodeStore::new(rt.alloc(), 1)?;
+    let expected = [Some(20000), None, None, None];
+    assert_eq!(rt; beside_another(rt.alloc(), &store), Ok(expected));
     Ok(())
+}
+
+/// What each of two passes keeps by one key.
+fn by_two(alloc: Global, store: &NodeStore) -> Result<[Option<u64>; 2], Mem> {
+    let mut first = store.pass(alloc)?;
+    let mut second = store.pass(alloc)?;
+    Ok([
+        keep(alloc, store, &mut first, 20000)?,
+        keep(alloc, store, &mut second, 20000)?,
+    ])
 }
 
 #[test]
 fn keeps_what_two_passes_built(rt: HostRuntime) -> Result<(), Fail> {
-    let alloc = rt.alloc();
-    let store = NodeStore::new(alloc, 16)?;
-    let mut first = store.pass(alloc)?;
-    let mut second = store.pass(alloc)?;
-    assert_eq!(rt; keep(alloc, &store, &mut first, 20000)?, Some(20000));
-    assert_eq!(rt; keep(alloc, &store, &mut second, 20000)?, Some(20000));
+    let store = NodeStore::new(rt.alloc(), 16)?;
+    assert_eq!(rt; by_two(rt.alloc(), &store), Ok([Some(20000); 2]));
     Ok(())
 }
 

@@ -50,47 +50,69 @@ fn row(alloc: Global) -> Result<SheetRow, Mem>
     })
 }
 
+/// The sheet of that row.
+fn sheet(alloc: Global) -> Result<MarketSheet, Mem> {
+    let mut rows = List::new(alloc);
+    rows.push(row(alloc)?)?;
+    MarketSheet::of(alloc, LONDON, NEW_YORK, rows)
+}
+
 #[test]
 fn makes_a_sheet(rt: HostRuntime) -> Result<(), Fail> {
-    let mut rows = List::new(rt.alloc());
-    rows.push(row(rt.alloc())?)?;
-    let sheet = MarketSheet::of(rt.alloc(), LONDON, NEW_YORK, rows)?;
+    let sheet = sheet(rt.alloc())?;
     assert_eq!(rt; sheet.opens.as_slice(), [600].as_slice());
     assert_eq!(rt; sheet.closes.as_slice(), [1320].as_slice());
     Ok(())
 }
 
-#[test]
-fn shares_a_rule(rt: HostRuntime) -> Result<(), Fail> {
+/// A rule that is free but for the days in advance.
+fn in_advance(alloc: Global, days: Option<u16>) -> Result<Shared<Rule>, Mem> {
     let rule = Rule {
-        cat5: Some(14),
+        cat5: days,
         ..Rule::default()
     };
-    let one = Shared::new(rt.alloc(), rule)?;
+    Shared::new(alloc, rule)
+}
+
+#[test]
+fn shares_a_rule(rt: HostRuntime) -> Result<(), Fail> {
+    let one = in_advance(rt.alloc(), Some(14))?;
     let other = one.share()?;
-    assert_eq!(rt; one, other);
+    assert!(rt; one == other);
     drop(one);
     assert_eq!(rt; other.cat5, Some(14));
-    let free = Shared::new(rt.alloc(), Rule::default())?;
-    assert_eq!(rt; other == free, false);
+    assert!(rt; other != in_advance(rt.alloc(), None)?);
     Ok(())
+}
+
+/// The numbers 3 and 5, pushed one by one.
+fn pushed(alloc: Global) -> Result<List<u32>, Mem> {
+    let mut numbers = List::new(alloc);
+    numbers.push(3)?;
+    numbers.push(5)?;
+    Ok(numbers)
+}
+
+/// The same numbers of a vector.
+fn taken_over(alloc: Global) -> Result<List<u32>, Fail> {
+    Ok(List::from_vec(vec![in alloc; 3, 5]?))
 }
 
 #[test]
 fn keeps_lists(rt: HostRuntime) -> Result<(), Fail> {
-    let mut numbers = List::new(rt.alloc());
-    numbers.push(3)?;
-    numbers.push(5)?;
+    let numbers = pushed(rt.alloc())?;
     assert_eq!(rt; numbers.len(), 2);
-    assert_eq!(rt; numbers.clone()?.into_vec().as_slice(), [3, 5].as_slice());
-    assert_eq!(rt; List::from_vec(vec![in rt.alloc(); 3, 5]?), numbers);
+    assert_eq!(rt; taken_over(rt.alloc())?, numbers);
+    let copy = numbers.clone()?.into_vec();
+    assert_eq!(rt; copy.as_slice(), [3, 5].as_slice());
+    Ok(())
+}
 
+#[test]
+fn tells_names(rt: HostRuntime) {
     let name = basis();
     assert_eq!(rt; name.copied(), name);
-    assert_eq!(rt; name.0.len(), 2);
-    assert_eq!(rt; name.0.is_full(), false);
-    assert_eq!(rt; LONDON.is(LONDON), true);
-    assert_eq!(rt; LONDON.is(NEW_YORK), false);
-    assert_eq!(rt; Carrier(*b"QX").is(Carrier(*b"BX")), false);
-    Ok(())
+    assert_eq!(rt; (name.0.len(), name.0.is_full()), (2, false));
+    assert_eq!(rt; (LONDON.is(LONDON), LONDON.is(NEW_YORK)), (true, false));
+    assert!(rt; !Carrier(*b"QX").is(Carrier(*b"BX")));
 }

@@ -55,23 +55,45 @@ fn flight(day: i32) -> Flight {
     }
 }
 
+/// Puts these seats into the row of a day, or of all days.
+fn put(alloc: Global, held: &mut Seats, day: Option<i32>, seats: [u8; 32]) -> Result<(), SeatPut> {
+    held.put(alloc, &key(day), &seats)
+}
+
+/// How many rows there are, and the seats of the flight of a day.
+fn told(held: &Seats, day: i32) -> (u32, [u8; 32]) {
+    (held.count(), held.seats_of(&flight(day)))
+}
+
+/// Whether a row was dropped, and what is told of Monday after it.
+fn dropped(held: &mut Seats, day: Option<i32>) -> (bool, (u32, [u8; 32])) {
+    let was_there = held.drop_row(&key(day));
+    (was_there, told(held, MONDAY))
+}
+
+/// Monday's row, once more, and the row of all days.
+fn all_dropped(held: &mut Seats) -> [(bool, (u32, [u8; 32])); 3] {
+    [
+        dropped(held, Some(MONDAY)),
+        dropped(held, Some(MONDAY)),
+        dropped(held, None),
+    ]
+}
+
 #[test]
 fn puts_and_drops_rows(rt: HostRuntime) -> Result<(), Fail> {
-    let monday = flight(MONDAY);
     let mut held = Seats::build(rt.alloc(), &[row(2, None, seats(4, 9))])?;
     let before = held.clone()?;
-    held.put(rt.alloc(), &key(Some(MONDAY)), &seats(0, 1))?;
-    held.put(rt.alloc(), &key(None), &seats(3, 3))?;
-    assert_eq!(rt; held.count(), 2);
-    assert_eq!(rt; held.seats_of(&monday), seats(0, 1));
-    assert!(rt; held.drop_row(&key(Some(MONDAY))));
-    assert!(rt; !held.drop_row(&key(Some(MONDAY))));
-    assert_eq!(rt; held.count(), 1);
-    assert_eq!(rt; held.seats_of(&monday), seats(3, 3));
-    assert!(rt; held.drop_row(&key(None)));
-    assert_eq!(rt; held.seats_of(&monday), [0; 32]);
-    assert_eq!(rt; before.count(), 1);
-    assert_eq!(rt; before.seats_of(&monday), seats(4, 9));
+    put(rt.alloc(), &mut held, Some(MONDAY), seats(0, 1))?;
+    put(rt.alloc(), &mut held, None, seats(3, 3))?;
+    assert_eq!(rt; told(&held, MONDAY), (2, seats(0, 1)));
+    let expected = [
+        (true, (1, seats(3, 3))),
+        (false, (1, seats(3, 3))),
+        (true, (0, [0; 32])),
+    ];
+    assert_eq!(rt; all_dropped(&mut held), expected);
+    assert_eq!(rt; told(&before, MONDAY), (1, seats(4, 9)));
     Ok(())
 }
 
@@ -84,25 +106,43 @@ fn many_rows(alloc: Global) -> Result<Vec<SeatRow>, Fail> {
     Ok(rows)
 }
 
+/// As many rows as there may be: those of 199,999 days, and the row of all days.
+fn full(alloc: Global) -> Result<Seats, Fail> {
+    let rows = many_rows(alloc)?;
+    if rows.len() != 199_999 {
+        return Err(Fail::new("other rows"));
+    }
+    let mut held = Seats::build(alloc, rows.as_slice())?;
+    put(alloc, &mut held, None, seats(2, 2))?;
+    Ok(held)
+}
+
+/// What came of a put on a day, and what is told of that day after it.
+fn tried(
+    alloc: Global,
+    held: &mut Seats,
+    day: i32,
+    seats: [u8; 32],
+) -> (Result<(), SeatPut>, (u32, [u8; 32])) {
+    let came = put(alloc, held, Some(day), seats);
+    (came, told(held, day))
+}
+
 #[test]
 fn takes_no_row_beside_two_hundred_thousand(rt: HostRuntime) -> Result<(), Fail> {
-    let rows = many_rows(rt.alloc())?;
-    assert!(rt; rows.len() == 199_999);
-    let mut held = Seats::build(rt.alloc(), rows.as_slice())?;
-    held.put(rt.alloc(), &key(None), &seats(2, 2))?;
-    assert_eq!(rt; held.count(), 200_000);
-    let last = key(Some(199_999));
-    assert_eq!(rt;
-        held.put(rt.alloc(), &last, &seats(3, 3)),
-        Err(SeatPut::Full)
-    );
-    assert_eq!(rt; held.seats_of(&flight(199_999)), seats(2, 2));
-    held.put(rt.alloc(), &key(Some(7)), &seats(5, 5))?;
-    assert_eq!(rt; held.seats_of(&flight(7)), seats(5, 5));
-    assert!(rt; held.drop_row(&key(Some(8))));
-    held.put(rt.alloc(), &last, &seats(3, 3))?;
-    assert_eq!(rt; held.seats_of(&flight(199_999)), seats(3, 3));
-    assert_eq!(rt; held.seats_of(&flight(8)), seats(2, 2));
+    let mut held = full(rt.alloc())?;
+    let beside = tried(rt.alloc(), &mut held, 199_999, seats(3, 3));
+    let within = tried(rt.alloc(), &mut held, 7, seats(5, 5));
+    let was_there = held.drop_row(&key(Some(8)));
+    let again = tried(rt.alloc(), &mut held, 199_999, seats(3, 3));
+    let expected = [
+        (Err(SeatPut::Full), (200_000, seats(2, 2))),
+        (Ok(()), (200_000, seats(5, 5))),
+        (Ok(()), (200_000, seats(3, 3))),
+    ];
+    assert_eq!(rt; [beside, within, again], expected);
+    assert!(rt; was_there);
+    assert_eq!(rt; told(&held, 8), (200_000, seats(2, 2)));
     assert_eq!(rt; held.clone()?.count(), 200_000);
     Ok(())
 }
