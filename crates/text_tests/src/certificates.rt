@@ -1,7 +1,4 @@
 //! The certificate of one flight and one fare, read.
-ghost use Rattle.std.specs.Prelude.{IfOk};
-ghost use Rattle.fare_law.specs.Limits.{IsRequest};
-
 use certificate::{CertAnswer, CertRows, Certificate};
 use certificate_text::{CertFault, read_cert};
 use fare_law::{ArrayVec, Basis, Carrier, List, Mem, Move, Place, Request, Role, Slice};
@@ -22,9 +19,7 @@ end
 ";
 
 /// LON to NYC on 2031-03-03 for one passenger, sold on 2031-02-01.
-fn request() -> Request
-    ensures { IsRequest result }
-{
+fn request() -> Request {
     let mut slices = ArrayVec::new();
     slices.push(Slice {
         from: Place(*b"LON"),
@@ -73,9 +68,7 @@ fn root() -> Option<Residual> {
     Residual::checked(at, None, None, part)
 }
 
-fn one_way(alloc: Global) -> Result<Certificate, Mem>
-    ensures { IfOk result (λ certificate. IsRequest certificate.request) }
-{
+fn one_way(alloc: Global) -> Result<Certificate, Mem> {
     let mut moves = ArrayVec::new();
     moves.push(only_move());
     let mut answers = Vec::new(alloc);
@@ -95,10 +88,15 @@ fn one_way(alloc: Global) -> Result<Certificate, Mem>
     })
 }
 
+/// Whether that text is read as this certificate.
+fn is_read(alloc: Global, expected: &Certificate) -> bool {
+    matches!(&read_cert(alloc, WRITTEN.as_bytes()), Ok(found) if found == expected)
+}
+
 #[test]
 fn reads_its_own_text(rt: HostRuntime) -> Result<(), Fail> {
     let expected = one_way(rt.alloc())?;
-    assert_eq!(rt; read_cert(rt.alloc(), WRITTEN.as_bytes()), Ok(expected));
+    assert!(rt; is_read(rt.alloc(), &expected));
     Ok(())
 }
 
@@ -133,11 +131,8 @@ fn names_the_first_line_at_fault(rt: HostRuntime) {
         ),
     ];
     for (name, text, expected) in cases {
-        assert_eq!(rt;
-            fault(rt.alloc(), text.as_bytes()),
-            Some(expected),
-            "{name}"
-        );
+        let found = fault(rt.alloc(), text.as_bytes());
+        assert!(rt; found == Some(expected), "{name}");
     }
 }
 
@@ -148,53 +143,67 @@ request {\"best\":3,\"party\":1,\"sale\":\"2031-02-01\",\"slices\":[{\"days\":1,
 
 #[test]
 fn names_the_first_count_that_is_wrong(rt: HostRuntime) -> Result<(), Fail> {
-    let count = |line| CertFault::Count { line };
-    let syntax = |line| CertFault::Syntax { line };
-    let cases = [
+    let cases: [(&str, &str, CertFault); 12] = [
         (
             "rows in place of an answer",
             "answers 1\nrows 1\n",
-            count(5),
+            CertFault::Count { line: 5 },
         ),
-        ("no answer", "answers 1\n", count(5)),
-        ("one more answer", "answers 0\nanswer 5\n", count(5)),
+        ("no answer", "answers 1\n", CertFault::Count { line: 5 }),
+        (
+            "one more answer",
+            "answers 0\nanswer 5\n",
+            CertFault::Count { line: 5 },
+        ),
         (
             "an answer of no flight",
             "answers 1\nanswer 5 0 QX Y1 0 0\n",
-            syntax(5),
+            CertFault::Syntax { line: 5 },
         ),
         (
             "a fifth role",
             "answers 1\nanswer 5 1 0 QX Y1 4 0\n",
-            syntax(5),
+            CertFault::Syntax { line: 5 },
         ),
-        ("no count of rows", "answers 0\n", syntax(5)),
+        (
+            "no count of rows",
+            "answers 0\n",
+            CertFault::Syntax { line: 5 },
+        ),
         (
             "end in place of a row",
             "answers 0\nrows 2\nrow 0 0 LON - 0 1 - 0:0:- 1\nend\n",
-            count(7),
+            CertFault::Count { line: 7 },
         ),
-        ("no row", "answers 0\nrows 1\n", count(6)),
+        (
+            "no row",
+            "answers 0\nrows 1\n",
+            CertFault::Count { line: 6 },
+        ),
         (
             "one more row",
             "answers 0\nrows 0\nrow 0 0 LON - 0 1 - 0:0:- -\n",
-            count(6),
+            CertFault::Count { line: 6 },
         ),
         (
             "a row without a bound",
             "answers 0\nrows 1\nrow 0 0 LON - 0 1 - 0:0:-\n",
-            syntax(6),
+            CertFault::Syntax { line: 6 },
         ),
-        ("no end", "answers 0\nrows 0\n", syntax(6)),
+        (
+            "no end",
+            "answers 0\nrows 0\n",
+            CertFault::Syntax { line: 6 },
+        ),
         (
             "a line after the end",
             "answers 0\nrows 0\nend\n\n",
-            syntax(7),
+            CertFault::Syntax { line: 7 },
         ),
     ];
     for (name, rest, expected) in cases {
         let found = fault_after_head(rt.alloc(), rest)?;
-        assert_eq!(rt; found, Some(expected), "{name}");
+        assert!(rt; found == Some(expected), "{name}");
     }
     Ok(())
 }

@@ -3,18 +3,19 @@ use fare_io::{
     FailSink, FailSource, InFault, MemSink, MemSource, OutFault, StdSink, StdSource, read_all,
     write_all,
 };
-use fare_law::List;
-use std::alloc::Global;
+use fare_law::{List, Mem};
+use std::alloc::{AllocError, Global};
 use std::io;
 use std::io::{ErrorKind, Read, Write};
 use std::test::Fail;
 
-fn bytes(alloc: Global, text: &[u8]) -> Result<List<u8>, Fail> {
-    Ok(List::from_vec(text.to_vec(alloc)?))
+fn hello(alloc: Global) -> Result<List<u8>, AllocError> {
+    Ok(List::from_vec(b"hello".to_vec(alloc)?))
 }
 
-fn numbers(alloc: Global, calls: &[u32]) -> Result<List<u32>, Fail> {
-    Ok(List::from_vec(calls.to_vec(alloc)?))
+// The list of this one call.
+fn only_call(alloc: Global, number: u32) -> Result<List<u32>, AllocError> {
+    Ok(List::from_vec(vec![in alloc; number]?))
 }
 
 // A reader and writer that fails each call.
@@ -37,24 +38,31 @@ impl Write for Broken {
     }
 }
 
+// What came of reading "hello" with this limit.
+fn read(alloc: Global, limit: usize) -> Result<List<u8>, InFault> {
+    let mut source = MemSource::new(hello(alloc)?);
+    read_all(alloc, &mut source, limit)
+}
+
 #[test]
-fn reads_to_the_end(rt: HostRuntime) -> Result<(), Fail> {
+fn reads_to_the_end(rt: HostRuntime) {
     let cases = [
-        ("below the limit", 9, Ok(())),
-        ("at the limit", 5, Ok(())),
+        ("below the limit", 9, Ok("hello")),
+        ("at the limit", 5, Ok("hello")),
         ("past the limit", 4, Err(InFault::TooLong)),
     ];
     for (name, limit, want) in cases {
-        let mut source = MemSource::new(bytes(rt.alloc(), b"hello")?);
-        match read_all(rt.alloc(), &mut source, limit) {
-            Ok(read) => {
-                assert_eq!(rt; Ok(()), want, "{name}");
-                assert_eq!(rt; read.as_slice(), b"hello".as_slice(), "{name}");
-            }
-            Err(fault) => assert_eq!(rt; Err(fault), want, "{name}"),
-        }
+        let found = read(rt.alloc(), limit);
+        let came = found.as_ref().map(List::as_slice).map_err(|fault| *fault);
+        assert!(rt; came == want.map(str::as_bytes), "{name}");
     }
-    Ok(())
+}
+
+// Whether a read of "hello" fails of which this call does.
+fn fails_with(alloc: Global, call: u32) -> Result<bool, AllocError> {
+    let mut source = FailSource::new(hello(alloc)?, only_call(alloc, call)?);
+    let read = read_all(alloc, &mut source, 9);
+    Ok(matches!(&read, Err(InFault::ReadFault)))
 }
 
 #[test]
@@ -66,46 +74,52 @@ fn tells_a_failed_read(rt: HostRuntime) -> Result<(), Fail> {
         ("no call", 0, false),
     ];
     for (name, call, fails) in cases {
-        let calls = numbers(rt.alloc(), &[call])?;
-        let mut source = FailSource::new(bytes(rt.alloc(), b"hello")?, calls);
-        let failed = matches!(
-            &read_all(rt.alloc(), &mut source, 9),
-            Err(InFault::ReadFault)
-        );
-        assert_eq!(rt; failed, fails, "{name}");
+        assert!(rt; fails_with(rt.alloc(), call)? == fails, "{name}");
     }
     Ok(())
+}
+
+// What a write has to come to, and what the sink then holds.
+type Wanted = (Result<(), OutFault>, &'static str);
+
+// Whether this comes of writing "hello" into this room.
+fn writes(alloc: Global, room: u32, (want, held): Wanted) -> Result<bool, Mem> {
+    let mut sink = MemSink::new(alloc, room)?;
+    let came = write_all(&mut sink, b"hello");
+    Ok(came == want && sink.as_slice() == held.as_bytes())
 }
 
 #[test]
 fn writes_what_fits(rt: HostRuntime) -> Result<(), Fail> {
     let cases = [
-        ("all fits", 5, Ok(()), "hello"),
-        ("some fits", 3, Err(OutFault::Stuck), "hel"),
-        ("nothing fits", 0, Err(OutFault::Stuck), ""),
+        ("all fits", 5, (Ok(()), "hello")),
+        ("some fits", 3, (Err(OutFault::Stuck), "hel")),
+        ("nothing fits", 0, (Err(OutFault::Stuck), "")),
     ];
-    for (name, room, want, held) in cases {
-        let mut sink = MemSink::new(rt.alloc(), room)?;
-        assert_eq!(rt; write_all(&mut sink, b"hello"), want, "{name}");
-        assert_eq!(rt; sink.as_slice(), held.as_bytes(), "{name}");
+    for (name, room, want) in cases {
+        assert!(rt; writes(rt.alloc(), room, want)?, "{name}");
     }
     Ok(())
+}
+
+// Whether this comes of writing "version 1" by so many bytes a call, of which this one fails.
+fn writes_by(alloc: Global, step: u32, call: u32, (want, held): Wanted) -> Result<bool, Mem> {
+    let mut sink = FailSink::new(alloc, 100, step, only_call(alloc, call)?)?;
+    let came = write_all(&mut sink, b"version 1");
+    Ok(came == want && sink.as_slice() == held.as_bytes())
 }
 
 #[test]
 fn tells_a_failed_write(rt: HostRuntime) -> Result<(), Fail> {
     let cases = [
-        ("the first call", 4, 1, Err(OutFault::Failed), ""),
-        ("the second call", 4, 2, Err(OutFault::Failed), "vers"),
-        ("the last call", 1, 9, Err(OutFault::Failed), "version "),
-        ("no call", 4, 0, Ok(()), "version 1"),
-        ("no byte a call", 0, 2, Err(OutFault::Stuck), ""),
+        ("the first call", 4, 1, (Err(OutFault::Failed), "")),
+        ("the second call", 4, 2, (Err(OutFault::Failed), "vers")),
+        ("the last call", 1, 9, (Err(OutFault::Failed), "version ")),
+        ("no call", 4, 0, (Ok(()), "version 1")),
+        ("no byte a call", 0, 2, (Err(OutFault::Stuck), "")),
     ];
-    for (name, step, call, want, held) in cases {
-        let calls = numbers(rt.alloc(), &[call])?;
-        let mut sink = FailSink::new(rt.alloc(), 100, step, calls)?;
-        assert_eq!(rt; write_all(&mut sink, b"version 1"), want, "{name}");
-        assert_eq!(rt; sink.as_slice(), held.as_bytes(), "{name}");
+    for (name, step, call, want) in cases {
+        assert!(rt; writes_by(rt.alloc(), step, call, want)?, "{name}");
     }
     Ok(())
 }

@@ -1,6 +1,16 @@
 //! Words are read, and taken or refused.
 use program_words::{Command, WordsFault, read_words};
+use std::alloc::{AllocError, Global};
 use std::test::Fail;
+
+// The command of a line of words.
+fn read(alloc: Global, line: &str) -> Result<Result<Command, WordsFault>, AllocError> {
+    let mut words = Vec::new(alloc);
+    for word in line.split(' ') {
+        words.push(String::from_str(alloc, word)?)?;
+    }
+    Ok(read_words(alloc, words.as_slice()))
+}
 
 #[test]
 fn reads_words(rt: HostRuntime) -> Result<(), Fail> {
@@ -38,11 +48,7 @@ fn reads_words(rt: HostRuntime) -> Result<(), Fail> {
         ("search search", Err(WordsFault::Usage)),
     ];
     for (line, wanted) in cases {
-        let mut words = Vec::new(rt.alloc());
-        for word in line.split(' ') {
-            words.push(String::from_str(rt.alloc(), word)?)?;
-        }
-        assert_eq!(rt; read_words(rt.alloc(), words.as_slice()), wanted, "{line}");
+        assert!(rt; read(rt.alloc(), line)? == wanted, "{line}");
     }
     Ok(())
 }
