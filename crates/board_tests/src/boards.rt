@@ -2,7 +2,8 @@
 ghost use Rattle.std.specs.Prelude.{◌≡◌, ◌≤◌, None, IfOk};
 
 use crate::cases::{ROUND_TRIP, TWO_CARRIERS, case_of};
-use fare_law::{Gate, Mem, NoGate, Why};
+use fare_book::Book;
+use fare_law::{Gate, Mem, NoGate, Request, Why};
 use search_core::{Answer, SearchFault};
 use shared_board::{Board, BoardPass};
 use std::alloc::Global;
@@ -26,6 +27,18 @@ impl Gate for Counting {
     fn done(&self, _desk: u32) {}
 }
 
+/// The book and the request of a case, for a party of so many.
+fn posed(
+    rt: &(impl Abort + AllocGlobal),
+    text: &str,
+    party: u8,
+) -> Result<(Arc<Book>, Request), Fail> {
+    let case = case_of(rt.alloc(), text)?;
+    let mut request = case.request;
+    request.party = party;
+    Ok((Arc::new(rt.alloc(), case.book)?, request))
+}
+
 /// The board of a case, with its number 7, and two passes.
 fn open(
     rt: &(impl Abort + AllocGlobal),
@@ -40,10 +53,7 @@ fn open(
     ensures first { IfOk result (λ r. (r.1.of ≡ r.0.slots) × (r.1.held ≡ None)) }
     ensures second { IfOk result (λ r. (r.2.of ≡ r.0.slots) × (r.2.held ≡ None)) }
 {
-    let case = case_of(rt.alloc(), text)?;
-    let mut request = case.request;
-    request.party = party;
-    let book = Arc::new(rt.alloc(), case.book)?;
+    let (book, request) = posed(rt, text, party)?;
     let (board, mut pass) = Board::open(rt.alloc(), 7, book, request, budget, slots)?;
     let other = pass.split(&board)?;
     Ok((board, pass, other))
@@ -61,6 +71,20 @@ fn is_best(answer: &Answer) -> bool {
             .all(|(ticket, price)| ticket.price == *price)
 }
 
+/// Whether a pass gives the right answer.
+fn answers_best(
+    alloc: Global,
+    board: &Board,
+    pass: &mut BoardPass,
+    gate: &Counting,
+) -> Result<bool, SearchFault>
+    requires { (pass.old.of ≡ board.now.slots) × (pass.old.held ≡ None) }
+    ensures { pass.new ≡ pass.old }
+{
+    let answer = pass.answer(alloc, board, gate)?;
+    Ok(is_best(&answer))
+}
+
 /// How many nodes a pass built for its answer, where the answer is right.
 fn built_for_best(alloc: Global, board: &Board, pass: &mut BoardPass) -> Result<u64, Fail>
     requires { (pass.old.of ≡ board.now.slots) × (pass.old.held ≡ None) }
@@ -69,8 +93,7 @@ fn built_for_best(alloc: Global, board: &Board, pass: &mut BoardPass) -> Result<
     let gate = Counting {
         built: AtomicU64::new(0),
     };
-    let answer = pass.answer(alloc, board, &gate)?;
-    if !is_best(&answer) {
+    if !answers_best(alloc, board, pass, &gate)? {
         return Err(Fail::new("another answer"));
     }
     Ok(gate.built.load(Ordering::SeqCst))
@@ -95,58 +118,93 @@ fn built_in_turn(
     Ok([u64::from(made), u64::from(again), one, other])
 }
 
+/// The numbers that two passes tell, and that of the first once the second has joined it.
+fn numbers(board: &Board, first: BoardPass, second: BoardPass) -> [u64; 3]
+    requires first { (first.of ≡ board.now.slots) × (first.held ≡ None) }
+    requires second { (second.of ≡ board.now.slots) × (second.held ≡ None) }
+{
+    let mut first = first;
+    let mut second = second;
+    let one = first.number(board);
+    let other = second.number(board);
+    first.join(board, second);
+    [one, other, first.number(board)]
+}
+
 /// What the first pass built, the second finds; neither builds anything for its answer.
 #[test]
 fn shares_nodes(rt: HostRuntime) -> Result<(), Fail> {
     let (board, mut first, mut second) = open(&rt, TWO_CARRIERS, 2, 1_000_000, 64)?;
     let built = built_in_turn(rt.alloc(), &board, &mut first, &mut second)?;
-    let numbers = [first.number(&board), second.number(&board)];
-    first.join(&board, second);
-    assert_eq!(rt; first.number(&board), 7);
-    assert_eq!(rt; numbers, [7, 7]);
+    assert_eq!(rt; numbers(&board, first, second), [7, 7, 7]);
     assert!(rt; built[0] > 0);
     assert_eq!(rt; [built[1], built[2], built[3]], [0, 0, 0]);
     Ok(())
 }
 
+/// How many nodes the first pass built for the work, how many the second for its answer while the first has the one slot out, and
+/// whether the second can hold the node once it is put back.
+fn beside_a_held_node(
+    alloc: Global,
+    board: &Board,
+    first: &mut BoardPass,
+    second: &mut BoardPass,
+) -> Result<(u32, u64, bool), Fail>
+    requires slots { board.now.slots.board.slots ≡ 1 }
+    requires first { (first.old.of ≡ board.now.slots) × (first.old.held ≡ None) }
+    requires second { (second.old.of ≡ board.now.slots) × (second.old.held ≡ None) }
+{
+    if first.hold(board, 0) {
+        return Err(Fail::new("a node in an empty slot"));
+    }
+    let worked = first.work(alloc, board)?;
+    if !first.hold(board, 0) {
+        return Err(Fail::new("no node to hold"));
+    }
+    let built = built_for_best(alloc, board, second)?;
+    if second.hold(board, 0) {
+        return Err(Fail::new("one node twice"));
+    }
+    first.release(board);
+    Ok((worked, built, second.hold(board, 0)))
+}
+
 /// While a pass has the one slot out, another finds nothing there, builds for itself and answers the same.
 #[test]
 fn answers_without_a_held_node(rt: HostRuntime) -> Result<(), Fail> {
-    let alloc = rt.alloc();
     let (board, mut first, mut second) = open(&rt, TWO_CARRIERS, 2, 1_000_000, 1)?;
-    let is_empty = !first.hold(&board, 0);
-    if !is_empty {
-        return Err(Fail::new("a node in an empty slot"));
-    }
-    let worked = first.work(alloc, &board)?;
-    let is_held = first.hold(&board, 0);
-    if !is_held {
-        return Err(Fail::new("no node to hold"));
-    }
-    let built = built_for_best(alloc, &board, &mut second)?;
-    let is_there = second.hold(&board, 0);
-    if is_there {
-        return Err(Fail::new("one node twice"));
-    }
-    first.release(&board);
-    assert!(rt; second.hold(&board, 0));
+    let (worked, built, is_back) = beside_a_held_node(rt.alloc(), &board, &mut first, &mut second)?;
     assert!(rt; worked > 0);
     assert!(rt; built > 0);
+    assert!(rt; is_back);
     Ok(())
 }
 
 /// The fault of an answer of a board.
 fn fault(alloc: Global, board: &Board, pass: &mut BoardPass) -> Option<SearchFault>
     requires { (pass.old.of ≡ board.now.slots) × (pass.old.held ≡ None) }
+    ensures { pass.new ≡ pass.old }
 {
     pass.answer(alloc, board, &NoGate).err()
+}
+
+/// The fault of the answer for a party of so many, and how many nodes are built for the work.
+fn refused(
+    rt: &(impl Abort + AllocGlobal),
+    party: u8,
+    budget: u32,
+) -> Result<(Option<SearchFault>, u32), Fail>
+    requires { (1 ≤ budget) × (budget ≤ 1000000) }
+{
+    let (board, mut pass, _other) = open(rt, ROUND_TRIP, party, budget, 64)?;
+    let fault = fault(rt.alloc(), &board, &mut pass);
+    Ok((fault, pass.work(rt.alloc(), &board)?))
 }
 
 /// Three residuals are over a budget of two.
 #[test]
 fn refuses_what_is_too_large(rt: HostRuntime) -> Result<(), Fail> {
-    let (board, mut pass, _other) = open(&rt, ROUND_TRIP, 1, 2, 64)?;
-    let fault = fault(rt.alloc(), &board, &mut pass);
+    let (fault, _) = refused(&rt, 1, 2)?;
     assert_eq!(rt; fault, Some(SearchFault::TooLarge));
     Ok(())
 }
@@ -154,11 +212,8 @@ fn refuses_what_is_too_large(rt: HostRuntime) -> Result<(), Fail> {
 /// A party of none is no request, for which nothing is built.
 #[test]
 fn refuses_a_party_of_none(rt: HostRuntime) -> Result<(), Fail> {
-    let (board, mut pass, _other) = open(&rt, ROUND_TRIP, 0, 3, 64)?;
-    let worked = pass.work(rt.alloc(), &board)?;
-    let fault = fault(rt.alloc(), &board, &mut pass);
-    assert_eq!(rt; worked, 0);
-    assert_eq!(rt; fault, Some(SearchFault::BadRequest(Why::Party)));
+    let told = refused(&rt, 0, 3)?;
+    assert_eq!(rt; told, (Some(SearchFault::BadRequest(Why::Party)), 0));
     Ok(())
 }
 
@@ -200,14 +255,19 @@ fn built_together<R: Threads + Sync>(
     Ok(built)
 }
 
+/// How many nodes a pass needs that works alone.
+fn needed(rt: &(impl Abort + AllocGlobal)) -> Result<u64, Fail> {
+    let (board, mut pass, _other) = open(rt, TWO_CARRIERS, 2, 1_000_000, 64)?;
+    Ok(u64::from(pass.work(rt.alloc(), &board)?))
+}
+
 /// Each node that a pass needs was built by one of four that worked at once, at least, and a fifth answers the same.
 #[test]
 fn answers_after_four_threads(rt: HostRuntime) -> Result<(), Fail> {
-    let alloc = rt.alloc();
-    let (alone, mut only, _other) = open(&rt, TWO_CARRIERS, 2, 1_000_000, 64)?;
-    let needed = u64::from(only.work(alloc, &alone)?);
-    let (board, mut first, _other) = open(&rt, TWO_CARRIERS, 2, 1_000_000, 64)?;
-    assert!(rt; built_together(&rt, alloc, &board, &mut first)? >= needed);
-    built_for_best(alloc, &board, &mut first)?;
+    let needed = needed(&rt)?;
+    let (board, mut pass, _other) = open(&rt, TWO_CARRIERS, 2, 1_000_000, 64)?;
+    let built = built_together(&rt, rt.alloc(), &board, &mut pass)?;
+    built_for_best(rt.alloc(), &board, &mut pass)?;
+    assert!(rt; built >= needed);
     Ok(())
 }

@@ -1,4 +1,4 @@
-//! The books and requests of three cases.
+//! The books and requests of two cases.
 ghost use Rattle.std.specs.Prelude.{◌<◌, length};
 
 use std::alloc::Global;
@@ -45,21 +45,6 @@ QX,102,NYC,*,Y9
 {"actions":[{"put_fare":{"carrier":"QX","from":"LON","to":"NYC","basis":"R1","class":"Y","kind":"R","amount":40000,"rule":0}},{"put_fare":{"carrier":"QX","from":"LON","to":"NYC","basis":"Y1","class":"Y","kind":"O","amount":25000,"rule":0}},{"put_fare":{"carrier":"QX","from":"NYC","to":"LON","basis":"Y2","class":"Y","kind":"O","amount":24000,"rule":0}}]}
 #request
 {"sale":"2031-02-01","party":1,"best":4,"slices":[{"from":"LON","to":"NYC","first":"2031-03-03","days":1},{"from":"NYC","to":"LON","first":"2031-03-10","days":1}]}
-#end
-"#;
-
-/// One flight and one fare, whose search reaches one residual.
-pub const ONE_WAY: &str = r#"#places
-LON,60
-NYC,60
-#flights
-QX,101,LON,NYC,10:00,+00:00,13:00,-05:00,0,2031-03-03,2031-03-03,1
-#seats
-QX,101,LON,*,Y9
-#filings
-{"actions":[{"put_fare":{"carrier":"QX","from":"LON","to":"NYC","basis":"Y1","class":"Y","kind":"O","amount":20000,"rule":0}}]}
-#request
-{"sale":"2031-02-01","party":1,"best":3,"slices":[{"from":"LON","to":"NYC","first":"2031-03-03","days":1}]}
 #end
 "#;
 

@@ -1,7 +1,7 @@
 //! Events on a world.
 ghost use Rattle.run_core.specs.Worlds.{IsEvent};
 
-use crate::cases::{ONE_WAY, ROUND_TRIP, case_of};
+use crate::cases::{ROUND_TRIP, case_of};
 use crate::keys::key;
 use fare_filing::read_filing;
 use fare_law::{BookWhy, Mem, Refused, Request, Why};
@@ -138,10 +138,10 @@ fn refused_between(
 ) -> Result<[Option<StepFault>; 2], Fail> {
     taken(file(alloc, world, CHEAPER)?)?;
     taken(look(alloc, world, 0))?;
-    taken(answer(alloc, world, 0, request, 1))?;
+    taken(answer(alloc, world, 0, request, 3))?;
     let filed = file(alloc, world, NOTHING_TO_DROP)?;
     taken(look(alloc, world, 0))?;
-    let asked = run(alloc, world, &[answering(0, request, 0, 1)]);
+    let asked = run(alloc, world, &[answering(0, request, 0, 3)]);
     taken(answer(alloc, world, 0, request, 0))?;
     Ok([fault_of(filed), fault_of(asked)])
 }
@@ -154,11 +154,11 @@ fn fault_of(ran: Ran) -> Option<StepFault> {
     }
 }
 
-/// A filing is taken or leaves the version as it was, and so does a party of none with what the desk has looked at. One residual
-/// is over a budget of none.
+/// A filing is taken or leaves the version as it was, and so does a party of none with what the desk has looked at. Three
+/// residuals are over a budget of none.
 #[test]
 fn takes_a_filing_or_leaves_the_version(rt: HostRuntime) -> Result<(), Fail> {
-    let (mut world, request) = world_of(&rt, ONE_WAY, 1)?;
+    let (mut world, request) = world_of(&rt, ROUND_TRIP, 1)?;
     let refused = refused_between(rt.alloc(), &mut world, &request)?;
     let no_fare = Refused {
         action: 1,
@@ -169,7 +169,7 @@ fn takes_a_filing_or_leaves_the_version(rt: HostRuntime) -> Result<(), Fail> {
         Some(StepFault::BadSearch(Why::Party)),
     ];
     assert_eq!(rt; refused, faults);
-    let expected = (2, Some((0, 2, Some(15000))), Some((0, 2, None)));
+    let expected = (2, Some((0, 2, Some(30000))), Some((0, 2, None)));
     assert_eq!(rt; all_told(&world), expected);
     Ok(())
 }
