@@ -1,53 +1,18 @@
-//! A desk that searches, learns of what was filed meanwhile, and searches again.
-ghost use Rattle.std.specs.Prelude.{◌≡◌, ◌≤◌, IfOk};
-ghost use Rattle.std.specs.Arc.{arc_value};
-ghost use Rattle.fare_law.specs.FilingLimits.{IsFiling};
-ghost use Rattle.fare_law.specs.Limits.{IsFareKey};
+//! Desks that search, learn of what was filed meanwhile, and search again.
+ghost use Rattle.std.specs.Prelude.{◌≡◌, All, IfOk};
+ghost use Rattle.fare_law.specs.FilingLimits.{IsAction};
+ghost use Rattle.fare_versions.specs.Seen.{HasSeen};
 
-use crate::versions::{LON, NYC, PLACES, QX, filing, key, key_back};
-use fare_book::Book;
-use fare_law::{
-    Action, ArrayVec, Fare, FareKey, FareKind, Filing, FlightRow, Gate, Mem, Request, SeatRow,
-    Slice,
-};
-use fare_versions::{Clerk, begin};
+use crate::books::{file, key, key_back, opening, put, request};
+use fare_law::{Action, Gate, List, Mem};
+use fare_versions::{Clerk, FileFault, Watch, begin};
 use node_publish::NodeStore;
-use schedule_book::Schedule;
+use search_core::SearchFault;
 use search_desk::Desk;
 use std::alloc::Global;
+use std::sync::Wait;
 use std::sync::atomic::{AtomicU64, Ordering};
-use std::sync::{Arc, Wait};
 use std::test::Fail;
-
-/// From London to New York on a Monday.
-const FLIGHT: FlightRow = FlightRow {
-    line: 5,
-    carrier: QX,
-    number: 1,
-    from: LON,
-    to: NYC,
-    dep: 660,
-    dep_offset: 0,
-    arr: 840,
-    arr_offset: -300,
-    shift: 0,
-    first: 22341,
-    last: 22341,
-    days: 1,
-};
-
-/// Nine seats in class Y.
-const SEATS: SeatRow = SeatRow {
-    line: 7,
-    carrier: QX,
-    number: 1,
-    from: LON,
-    day: None,
-    seats: [
-        0, 0, 0, 0, 0, 0, 0, 0, 0, 0, 0, 0, 0, 0, 0, 0, 0, 0, 0, 0, 0, 0, 0, 0, 9, 0, 0, 0, 0, 0,
-        0, 0,
-    ],
-};
 
 /// Counts the nodes that are built.
 #[derive(Drop)]
@@ -63,55 +28,48 @@ impl Gate for Counting {
     fn done(&self, _desk: u32) {}
 }
 
-/// The book of one flight and no fare.
-fn opening(alloc: Global) -> Result<Book, Fail> {
-    let schedule = Schedule::build(alloc, &PLACES, &[FLIGHT])?;
-    Ok(Book::empty(alloc, schedule, &[SEATS])?)
+/// A fare that the clerk files.
+#[derive(Clone, Copy)]
+enum Offer {
+    /// From London to New York at 20000.
+    First,
+    /// Another one there at 15000.
+    Cheaper,
+    /// From New York to London at 15000.
+    Back,
 }
 
-/// The filing that puts a fare of this basis at this amount.
-fn put(alloc: Global, letter: u8, amount: u64) -> Result<Arc<Filing>, Mem>
-    requires letter { (65 ≤ letter) × (letter ≤ 90) }
-    requires amount { amount ≤ 1000000000 }
-    ensures { IfOk result (λ filing. IsFiling (arc_value filing)) }
+/// What is done at a desk.
+#[derive(Clone, Copy)]
+enum Step {
+    /// The clerk files a fare, and the desk learns of it.
+    File(Offer),
+    /// The desk learns of all that was filed.
+    Learn,
+    Search,
+}
+
+/// What is done at one desk and then at another of one house and one store.
+#[derive(Clone, Copy)]
+struct Turns {
+    first: &'static [Step],
+    /// Whether the first desk is still there at the other's turn.
+    stays: bool,
+    second: &'static [Step],
+}
+
+/// The fare is put.
+fn put_of(offer: Offer) -> Action
+    ensures { IsAction result }
 {
-    put_fare(alloc, key(letter), amount)
-}
-
-/// The filing that puts the fare of this key at this amount.
-fn put_fare(alloc: Global, key: FareKey, amount: u64) -> Result<Arc<Filing>, Mem>
-    requires key { IsFareKey key }
-    requires amount { amount ≤ 1000000000 }
-    ensures { IfOk result (λ filing. IsFiling (arc_value filing)) }
-{
-    let fare = Fare {
-        key,
-        class: 24,
-        kind: FareKind::O,
-        amount,
-        rule: 0,
-    };
-    filing(alloc, Action::PutFare(fare))
-}
-
-/// There on the Monday, for one, and three tickets at most.
-pub fn request() -> Request {
-    let mut slices = ArrayVec::new();
-    slices.push(Slice {
-        from: LON,
-        to: NYC,
-        first: 22341,
-        days: 1,
-    });
-    Request {
-        sale: 22300,
-        party: 1,
-        best: 3,
-        slices,
+    match offer {
+        Offer::First => put(key(b'Y'), 20000),
+        Offer::Cheaper => put(key(b'B'), 15000),
+        Offer::Back => put(key_back(b'Y'), 15000),
     }
 }
 
-/// What a search found: the version, how many tickets, the least price, and how many nodes were built by then.
+/// What a search found: the version, how many tickets, the least price, and how many nodes were built for it.
 #[derive(Clone, Copy, PartialEq, Debug)]
 struct Found {
     number: u32,
@@ -120,12 +78,24 @@ struct Found {
     built: u64,
 }
 
-fn find(alloc: Global, desk: &mut Desk, store: &NodeStore, gate: &Counting) -> Result<Found, Fail>
+fn a_search(number: u32, tickets: usize, cheapest: Option<u64>, built: u64) -> Found {
+    Found {
+        number,
+        tickets,
+        cheapest,
+        built,
+    }
+}
+
+fn find(alloc: Global, desk: &mut Desk, store: &NodeStore) -> Result<Found, SearchFault>
     requires { desk.old.pass.cells ≡ store.now }
     ensures cells { desk.new.pass.cells ≡ desk.old.pass.cells }
     ensures house { desk.new.sight.house ≡ desk.old.sight.house }
 {
-    let answer = desk.search(alloc, store, &request(), 1000, gate)?;
+    let gate = Counting {
+        built: AtomicU64::new(0),
+    };
+    let answer = desk.search(alloc, store, &request(), 1000, &gate)?;
     Ok(Found {
         number: answer.number,
         tickets: answer.tickets.len(),
@@ -134,214 +104,196 @@ fn find(alloc: Global, desk: &mut Desk, store: &NodeStore, gate: &Counting) -> R
     })
 }
 
-/// A search of the opening version, one after each of two filings, and the last again.
-fn find_all<R: Wait>(
-    alloc: Global,
+/// The clerk files the fare, and the desk learns of it.
+fn learn_of<R: Wait>(
     rt: &R,
+    alloc: Global,
     clerk: &mut Clerk,
     desk: &mut Desk,
-    store: &NodeStore,
-) -> Result<[Found; 4], Fail>
-    requires cells { desk.old.pass.cells ≡ store.now }
-    requires house { desk.old.sight.house ≡ clerk.old.house }
+    offer: Offer,
+) -> Result<(), FileFault>
+    requires { desk.old.sight.house ≡ clerk.old.house }
+    ensures house { clerk.new.house ≡ clerk.old.house }
+    ensures sight { desk.new.sight.house ≡ desk.old.sight.house }
+    ensures pass { desk.new.pass ≡ desk.old.pass }
 {
-    let gate = Counting {
-        built: AtomicU64::new(0),
-    };
-    let none = find(alloc, desk, store, &gate)?;
-    desk.learn(&clerk.file(rt, alloc, put(alloc, b'Y', 20000)?)?);
-    let one = find(alloc, desk, store, &gate)?;
-    desk.learn(&clerk.file(rt, alloc, put(alloc, b'B', 15000)?)?);
-    let two = find(alloc, desk, store, &gate)?;
-    let again = find(alloc, desk, store, &gate)?;
-    Ok([none, one, two, again])
-}
-
-#[test]
-fn searches_what_it_learnt(rt: HostRuntime) -> Result<(), Fail> {
-    let alloc = rt.alloc();
-    let book = opening(alloc)?;
-    let store = NodeStore::new(alloc, 64)?;
-    let pass = store.pass(alloc)?;
-    let (mut clerk, watches) = begin(&rt, alloc, book, 1)?;
-    let mut watches = watches.into_vec();
-    let found = match watches.pop() {
-        Some(watch) => {
-            let mut desk = Desk::new(watch, pass, 1);
-            find_all(alloc, &rt, &mut clerk, &mut desk, &store)
-        }
-        None => Err(Fail::new("no watch")),
-    };
-    clerk.end(&rt);
-    let found = found?;
-    let expected = [
-        (0, 0, None),
-        (1, 1, Some(20000)),
-        (2, 2, Some(15000)),
-        (2, 2, Some(15000)),
-    ];
-    let seen = found.map(|one: Found| (one.number, one.tickets, one.cheapest));
-    assert_eq!(rt; seen, expected);
-    // Each version has a sheet of its own, so each but the first builds a node, and the last search finds it.
-    assert_eq!(rt; found.map(|one: Found| one.built), [0, 1, 2, 2]);
+    let receipt = file(rt, alloc, clerk, put_of(offer))?;
+    desk.learn(&receipt);
     Ok(())
 }
 
-/// Two desks on one store: both learn of a filing and search, and then the first learns of another and searches.
-fn find_by_two<R: Wait>(
-    alloc: Global,
+/// What a desk finds at its turn.
+fn follow<R: Wait>(
     rt: &R,
+    alloc: Global,
     clerk: &mut Clerk,
-    first: &mut Desk,
-    second: &mut Desk,
+    desk: &mut Desk,
     store: &NodeStore,
-) -> Result<[Found; 3], Fail>
-    requires first { (first.old.pass.cells ≡ store.now) × (first.old.sight.house ≡ clerk.old.house) }
-    requires second { (second.old.pass.cells ≡ store.now) × (second.old.sight.house ≡ clerk.old.house) }
+    steps: &[Step],
+) -> Result<Vec<Found>, Fail>
+    requires cells { desk.old.pass.cells ≡ store.now }
+    requires house { desk.old.sight.house ≡ clerk.old.house }
+    ensures { clerk.new.house ≡ clerk.old.house }
 {
-    let gate = Counting {
-        built: AtomicU64::new(0),
-    };
-    let receipt = clerk.file(rt, alloc, put(alloc, b'Y', 20000)?)?;
-    second.learn(&receipt);
-    let one = find(alloc, second, store, &gate)?;
-    first.learn(&receipt);
-    let same = find(alloc, first, store, &gate)?;
-    first.learn(&clerk.file(rt, alloc, put(alloc, b'B', 15000)?)?);
-    let two = find(alloc, first, store, &gate)?;
-    Ok([one, same, two])
+    let mut found = Vec::new(alloc);
+    for step in steps {
+        match *step {
+            Step::File(offer) => learn_of(rt, alloc, clerk, desk, offer)?,
+            Step::Learn => desk.learn(&clerk.tell()),
+            Step::Search => found.push(find(alloc, desk, store)?)?,
+        }
+    }
+    Ok(found)
 }
+
+/// A desk of the clerk's house with a pass of the store.
+fn desk_of(clerk: &Clerk, watch: Watch, store: &NodeStore, alloc: Global) -> Result<Desk, Mem>
+    requires { HasSeen clerk.now watch }
+    ensures house { IfOk result (λ d. d.sight.house ≡ clerk.now.house) }
+    ensures cells { IfOk result (λ d. d.pass.cells ≡ store.now) }
+{
+    let _clerk = clerk;
+    Ok(Desk::new(watch, store.pass(alloc)?, 1))
+}
+
+/// What the two desks find, one after the other.
+fn in_turn<R: Wait>(
+    rt: &R,
+    alloc: Global,
+    clerk: &mut Clerk,
+    watches: List<Watch>,
+    store: &NodeStore,
+    turns: &Turns,
+) -> Result<(Vec<Found>, Vec<Found>), Fail>
+    requires { All (HasSeen clerk.old) watches }
+{
+    let mut watches = watches.into_vec();
+    let (Some(one), Some(other)) = (watches.pop(), watches.pop()) else {
+        return Err(Fail::new("not two watches"));
+    };
+    let mut first = desk_of(clerk, one, store, alloc)?;
+    let mut second = desk_of(clerk, other, store, alloc)?;
+    let before = follow(rt, alloc, clerk, &mut first, store, turns.first)?;
+    let _first = turns.stays.then_some(first);
+    let after = follow(rt, alloc, clerk, &mut second, store, turns.second)?;
+    Ok((before, after))
+}
+
+/// What two desks of a house of their own find.
+fn play<R: Wait>(
+    rt: &R,
+    alloc: Global,
+    store: &NodeStore,
+    turns: &Turns,
+) -> Result<(Vec<Found>, Vec<Found>), Fail> {
+    let (mut clerk, watches) = begin(rt, alloc, opening(alloc)?, 2)?;
+    let found = in_turn(rt, alloc, &mut clerk, watches, store, turns);
+    clerk.end(rt);
+    found
+}
+
+const ONE_DESK: Turns = Turns {
+    first: &[
+        Step::Search,
+        Step::File(Offer::First),
+        Step::Search,
+        Step::File(Offer::Cheaper),
+        Step::Search,
+        Step::Search,
+    ],
+    stays: true,
+    second: &[],
+};
+
+/// Each version has a sheet of its own, so each but the first builds a node, and the last search finds it.
+#[test]
+fn searches_what_it_learnt(rt: HostRuntime) -> Result<(), Fail> {
+    let store = NodeStore::new(rt.alloc(), 64)?;
+    let (alone, _none) = play(&rt, rt.alloc(), &store, &ONE_DESK)?;
+    let expected = [
+        a_search(0, 0, None, 0),
+        a_search(1, 1, Some(20000), 1),
+        a_search(2, 2, Some(15000), 1),
+        a_search(2, 2, Some(15000), 0),
+    ];
+    assert_eq!(rt; alone.as_slice(), expected.as_slice());
+    Ok(())
+}
+
+/// The desks find what is kept in one cell; of a further version the second desk builds for itself.
+const BESIDE: Turns = Turns {
+    first: &[Step::File(Offer::First), Step::Search],
+    stays: true,
+    second: &[
+        Step::Learn,
+        Step::Search,
+        Step::File(Offer::Cheaper),
+        Step::Search,
+    ],
+};
 
 #[test]
 fn shares_one_cell(rt: HostRuntime) -> Result<(), Fail> {
-    let alloc = rt.alloc();
-    let book = opening(alloc)?;
-    let store = NodeStore::new(alloc, 1)?;
-    let one_pass = store.pass(alloc)?;
-    let other_pass = store.pass(alloc)?;
-    let (mut clerk, watches) = begin(&rt, alloc, book, 2)?;
-    let mut watches = watches.into_vec();
-    let found = match (watches.pop(), watches.pop()) {
-        (Some(one), Some(other)) => {
-            let mut first = Desk::new(one, one_pass, 1);
-            let mut second = Desk::new(other, other_pass, 2);
-            find_by_two(alloc, &rt, &mut clerk, &mut first, &mut second, &store)
-        }
-        _ => Err(Fail::new("not two watches")),
-    };
-    clerk.end(&rt);
-    let [one, same, two] = found?;
-    let expected = Found {
-        number: 1,
-        tickets: 1,
-        cheapest: Some(20000),
-        built: 1,
-    };
-    // The first desk finds the node that the second one built.
-    assert_eq!(rt; one, expected);
-    assert_eq!(rt; same, expected);
-    // The one cell has a node of another version's sheet by now, so the desk builds for itself.
+    let store = NodeStore::new(rt.alloc(), 1)?;
+    let (first, second) = play(&rt, rt.alloc(), &store, &BESIDE)?;
     assert_eq!(rt;
-        (two.number, two.tickets, two.cheapest),
-        (2, 2, Some(15000))
+        first.as_slice(),
+        [a_search(1, 1, Some(20000), 1)].as_slice()
     );
-    assert!(rt; two.built > 1);
+    // The second desk finds the node that the first one built, and then the one cell has a node of another version's sheet.
+    let built = second.last().map_or(0, |last| last.built);
+    let expected = [
+        a_search(1, 1, Some(20000), 0),
+        a_search(2, 2, Some(15000), built),
+    ];
+    assert_eq!(rt; second.as_slice(), expected.as_slice());
+    assert!(rt; built > 0);
     Ok(())
 }
 
-/// Two desks on one store: the first searches and is dropped, the second searches, and learns of a filing and searches.
-fn find_after_a_drop<R: Wait>(
-    alloc: Global,
-    rt: &R,
-    clerk: &mut Clerk,
-    mut first: Desk,
-    second: &mut Desk,
-    store: &NodeStore,
-) -> Result<[Found; 3], Fail>
-    requires first { (first.pass.cells ≡ store.now) × (first.sight.house ≡ clerk.old.house) }
-    requires second { (second.old.pass.cells ≡ store.now) × (second.old.sight.house ≡ clerk.old.house) }
-{
-    let gate = Counting {
-        built: AtomicU64::new(0),
-    };
-    let receipt = clerk.file(rt, alloc, put(alloc, b'Y', 20000)?)?;
-    first.learn(&receipt);
-    let one = find(alloc, &mut first, store, &gate)?;
-    drop(first);
-    second.learn(&receipt);
-    let same = find(alloc, second, store, &gate)?;
-    second.learn(&clerk.file(rt, alloc, put(alloc, b'B', 15000)?)?);
-    let two = find(alloc, second, store, &gate)?;
-    Ok([one, same, two])
-}
+/// The same, and the first desk is gone at the other's turn.
+const AFTER: Turns = Turns {
+    stays: false,
+    ..BESIDE
+};
 
 #[test]
 fn keeps_what_a_dropped_desk_built(rt: HostRuntime) -> Result<(), Fail> {
-    let alloc = rt.alloc();
-    let book = opening(alloc)?;
-    let store = NodeStore::new(alloc, 64)?;
-    let one_pass = store.pass(alloc)?;
-    let other_pass = store.pass(alloc)?;
-    let (mut clerk, watches) = begin(&rt, alloc, book, 2)?;
-    let mut watches = watches.into_vec();
-    let found = match (watches.pop(), watches.pop()) {
-        (Some(one), Some(other)) => {
-            let first = Desk::new(one, one_pass, 1);
-            let mut second = Desk::new(other, other_pass, 2);
-            find_after_a_drop(alloc, &rt, &mut clerk, first, &mut second, &store)
-        }
-        _ => Err(Fail::new("not two watches")),
-    };
-    clerk.end(&rt);
+    let store = NodeStore::new(rt.alloc(), 64)?;
+    let (first, second) = play(&rt, rt.alloc(), &store, &AFTER)?;
+    assert_eq!(rt;
+        first.as_slice(),
+        [a_search(1, 1, Some(20000), 1)].as_slice()
+    );
     let expected = [
-        (1, Some(20000), 1),
-        (1, Some(20000), 1),
-        (2, Some(15000), 2),
+        a_search(1, 1, Some(20000), 0),
+        a_search(2, 2, Some(15000), 1),
     ];
-    let found = found?.map(|one: Found| (one.number, one.cheapest, one.built));
-    assert_eq!(rt; found, expected);
+    assert_eq!(rt; second.as_slice(), expected.as_slice());
     Ok(())
 }
 
-/// A search, and another after a filing of a fare the other way.
-fn find_around<R: Wait>(
-    alloc: Global,
-    rt: &R,
-    clerk: &mut Clerk,
-    desk: &mut Desk,
-    store: &NodeStore,
-) -> Result<[Found; 2], Fail>
-    requires cells { desk.old.pass.cells ≡ store.now }
-    requires house { desk.old.sight.house ≡ clerk.old.house }
-{
-    let gate = Counting {
-        built: AtomicU64::new(0),
-    };
-    desk.learn(&clerk.file(rt, alloc, put(alloc, b'Y', 20000)?)?);
-    let one = find(alloc, desk, store, &gate)?;
-    desk.learn(&clerk.file(rt, alloc, put_fare(alloc, key_back(b'Y'), 15000)?)?);
-    let two = find(alloc, desk, store, &gate)?;
-    Ok([one, two])
-}
+/// A filing for another market comes between two searches.
+const AROUND: Turns = Turns {
+    first: &[
+        Step::File(Offer::First),
+        Step::Search,
+        Step::File(Offer::Back),
+        Step::Search,
+    ],
+    stays: true,
+    second: &[],
+};
 
 /// What another market's filing leaves as it was is found and not built again.
 #[test]
 fn builds_nothing_for_another_market(rt: HostRuntime) -> Result<(), Fail> {
-    let alloc = rt.alloc();
-    let book = opening(alloc)?;
-    let store = NodeStore::new(alloc, 64)?;
-    let pass = store.pass(alloc)?;
-    let (mut clerk, watches) = begin(&rt, alloc, book, 1)?;
-    let mut watches = watches.into_vec();
-    let found = match watches.pop() {
-        Some(watch) => {
-            let mut desk = Desk::new(watch, pass, 1);
-            find_around(alloc, &rt, &mut clerk, &mut desk, &store)
-        }
-        None => Err(Fail::new("no watch")),
-    };
-    clerk.end(&rt);
-    let found = found?.map(|one: Found| (one.number, one.cheapest, one.built));
-    assert_eq!(rt; found, [(1, Some(20000), 1), (2, Some(20000), 1)]);
+    let store = NodeStore::new(rt.alloc(), 64)?;
+    let (alone, _none) = play(&rt, rt.alloc(), &store, &AROUND)?;
+    let expected = [
+        a_search(1, 1, Some(20000), 1),
+        a_search(2, 1, Some(20000), 0),
+    ];
+    assert_eq!(rt; alone.as_slice(), expected.as_slice());
     Ok(())
 }

@@ -4,13 +4,13 @@
 #![tactic(auto)]
 
 #[cfg(test)]
+mod books;
+#[cfg(test)]
 mod crossings;
 #[cfg(test)]
 mod desks;
 #[cfg(test)]
 mod inventing;
-#[cfg(test)]
-mod runs;
 #[cfg(test)]
 mod served;
 #[cfg(test)]

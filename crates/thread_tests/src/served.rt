@@ -1,14 +1,15 @@
 //! Whole runs of `serve` over memory, with gates that hold desks and the clerk, or count what desks build.
 use fare_io::{MemSink, MemSource};
-use fare_law::{Gate, List};
+use fare_law::{Gate, List, Mem};
 use lowfare::{Status, serve};
-use std::alloc::Global;
+use std::alloc::{AllocError, Global};
 use std::sync::Wait;
 use std::sync::atomic::{AtomicU64, Ordering};
 use std::test::Fail;
 use std::thread::Threads;
 
-/// A fare of 20000, and a later filing that makes it 15000, for which the second of two desks waits.
+/// A fare of 20000, a later filing that makes it 15000, for which the second of two desks waits, and another that is refused,
+/// after which the first one searches again.
 const TWO_DESKS: &str = r#"#places
 LON,60
 NYC,60
@@ -20,6 +21,7 @@ QX,101,LON,*,Y9
 {"actions":[{"put_fare":{"carrier":"QX","from":"LON","to":"NYC","basis":"Y1","class":"Y","kind":"O","amount":20000,"rule":0}}]}
 #later
 {"actions":[{"put_fare":{"carrier":"QX","from":"LON","to":"NYC","basis":"Y1","class":"Y","kind":"O","amount":15000,"rule":0}}]}
+{"actions":[{"drop_fare":{"carrier":"QX","from":"LON","to":"NYC","basis":"B9"}}]}
 #request
 {"sale":"2031-02-01","party":1,"best":3,"slices":[{"from":"LON","to":"NYC","first":"2031-03-03","days":1}]}
 #script
@@ -27,19 +29,27 @@ desks 2
 1 search 1
 2 wait 1
 2 search 1
+1 wait 2
+1 search 1
 #end
 "#;
 
-/// What the run has to write where the first desk looks before the filing comes, and the second one after it.
+/// What the run has to write where the first desk looks before the filing comes and once more after it, and the second one after it.
 const OLD_AND_NEW: &str = "history 2
 entry 1 filing 1
 entry 2 later 1
+later 2 refused action 1 NoFare
 reply 1 desk 1 version 1
 tickets 1
 ticket 1 price 20000
 component 1 unit 1 one_way forward QX LON NYC Y1 20000
 flight QX 101 2031-03-03 LON NYC
 reply 3 desk 2 version 2
+tickets 1
+ticket 1 price 15000
+component 1 unit 1 one_way forward QX LON NYC Y1 15000
+flight QX 101 2031-03-03 LON NYC
+reply 5 desk 1 version 2
 tickets 1
 ticket 1 price 15000
 component 1 unit 1 one_way forward QX LON NYC Y1 15000
@@ -108,6 +118,16 @@ impl Holding {
         }
         self.given_up.raise();
     }
+
+    /// Whether the clerk filed, the first desk built and the second had its answer, and whether one was held for too long.
+    fn called(&self) -> [bool; 4] {
+        [
+            self.filing.get() > 0,
+            self.building.get() > 0,
+            self.answered.get() > 0,
+            self.given_up.get() > 0,
+        ]
+    }
 }
 
 impl Gate for Holding {
@@ -144,26 +164,48 @@ impl Gate for Counting {
     fn done(&self, _desk: u32) {}
 }
 
+/// The parts of a case as one text.
+fn joined(alloc: Global, parts: &[&str]) -> Result<List<u8>, Mem> {
+    let mut bytes = Vec::new(alloc);
+    for part in parts {
+        bytes.extend_from_slice(part.as_bytes())?;
+    }
+    Ok(List::from_vec(bytes))
+}
+
+/// The words of the command line.
+fn words(alloc: Global) -> Result<Vec<String>, AllocError> {
+    Ok(vec![in alloc; String::from_str(alloc, "serve")?]?)
+}
+
 /// Serves the case. What a run promises is the proof's matter; a test looks only at what comes out.
+fn ended<G: Gate + Sync, R: Threads + Wait + Sync>(
+    rt: &R,
+    alloc: Global,
+    words: &[String],
+    source: &mut MemSource,
+    sink: &mut MemSink,
+    gate: &G,
+) -> Status {
+    serve(rt, alloc, words, source, sink, gate)
+}
+
+/// The status of a run on these parts of a case, and what it wrote.
 fn served<G: Gate + Sync, R: Threads + Wait + Sync>(
     rt: &R,
     alloc: Global,
     case: &[&str],
     gate: &G,
 ) -> Result<(Status, MemSink), Fail> {
-    let mut bytes = Vec::new(alloc);
-    for part in case {
-        bytes.extend_from_slice(part.as_bytes())?;
-    }
-    let mut source = MemSource::new(List::from_vec(bytes));
+    let words = words(alloc)?;
+    let mut source = MemSource::new(joined(alloc, case)?);
     let mut sink = MemSink::new(alloc, 4000)?;
-    let words = vec![in alloc; String::from_str(alloc, "serve")?]?;
-    let status = serve(rt, alloc, words.as_slice(), &mut source, &mut sink, gate);
+    let status = ended(rt, alloc, words.as_slice(), &mut source, &mut sink, gate);
     Ok((status, sink))
 }
 
 #[test]
-fn searches_while_a_filing_comes(rt: HostRuntime) -> Result<(), Fail> {
+fn searches_while_filings_come(rt: HostRuntime) -> Result<(), Fail> {
     let gate = Holding {
         filing: Count::new(),
         building: Count::new(),
@@ -173,10 +215,7 @@ fn searches_while_a_filing_comes(rt: HostRuntime) -> Result<(), Fail> {
     let (status, sink) = served(&rt, rt.alloc(), &[TWO_DESKS], &gate)?;
     assert_eq!(rt; status, Status::Done);
     assert_eq!(rt; sink.as_slice(), OLD_AND_NEW.as_bytes());
-    assert_eq!(rt; gate.given_up.get(), 0);
-    assert!(rt; gate.filing.get() > 0);
-    assert!(rt; gate.building.get() > 0);
-    assert!(rt; gate.answered.get() > 0);
+    assert_eq!(rt; gate.called(), [true, true, true, false]);
     Ok(())
 }
 

@@ -2,7 +2,7 @@
 use fare_io::{FailSink, FailSource, MemSink, MemSource, Sink, Source};
 use fare_law::List;
 use lowfare::{Status, run};
-use std::alloc::Global;
+use std::alloc::{AllocError, Global};
 use std::test::Fail;
 
 const CASE: &[u8] = br#"#places
@@ -19,40 +19,35 @@ QX,101,LON,*,Y9
 #end
 "#;
 
-fn words(alloc: Global, line: &str) -> Result<Vec<String>, Fail> {
-    let mut words = Vec::new(alloc);
-    for word in line.split(' ') {
-        words.push(String::from_str(alloc, word)?)?;
-    }
-    Ok(words)
+fn words(alloc: Global) -> Result<Vec<String>, AllocError> {
+    Ok(vec![in alloc; String::from_str(alloc, "search")?]?)
 }
 
 // Runs the words. What a run promises is the proof's matter; a test looks only at what comes out.
 fn ended<S: Source, K: Sink>(
     alloc: Global,
-    line: &str,
+    words: &[String],
     source: &mut S,
     sink: &mut K,
-) -> Result<Status, Fail> {
-    let words = words(alloc, line)?;
-    Ok(run(alloc, words.as_slice(), source, sink))
+) -> Status {
+    run(alloc, words, source, sink)
 }
 
-fn bytes(alloc: Global, text: &[u8]) -> Result<List<u8>, Fail> {
-    Ok(List::from_vec(text.to_vec(alloc)?))
+fn bytes(alloc: Global) -> Result<List<u8>, AllocError> {
+    Ok(List::from_vec(CASE.to_vec(alloc)?))
 }
 
 // The list of this one call.
-fn only_call(alloc: Global, number: u32) -> Result<List<u32>, Fail> {
+fn only_call(alloc: Global, number: u32) -> Result<List<u32>, AllocError> {
     Ok(List::from_vec(vec![in alloc; number]?))
 }
 
 #[test]
 fn tells_a_failing_source(rt: HostRuntime) -> Result<(), Fail> {
-    let calls = only_call(rt.alloc(), 1)?;
-    let mut source = FailSource::new(bytes(rt.alloc(), CASE)?, calls);
+    let words = words(rt.alloc())?;
+    let mut source = FailSource::new(bytes(rt.alloc())?, only_call(rt.alloc(), 1)?);
     let mut sink = MemSink::new(rt.alloc(), 1000)?;
-    let status = ended(rt.alloc(), "search", &mut source, &mut sink)?;
+    let status = ended(rt.alloc(), words.as_slice(), &mut source, &mut sink);
     assert_eq!(rt; status, Status::ReadFault);
     assert_eq!(rt; sink.as_slice(), b"".as_slice());
     Ok(())
@@ -60,9 +55,10 @@ fn tells_a_failing_source(rt: HostRuntime) -> Result<(), Fail> {
 
 #[test]
 fn tells_a_failing_sink(rt: HostRuntime) -> Result<(), Fail> {
-    let mut source = MemSource::new(bytes(rt.alloc(), CASE)?);
+    let words = words(rt.alloc())?;
+    let mut source = MemSource::new(bytes(rt.alloc())?);
     let mut sink = FailSink::new(rt.alloc(), 1000, 4, only_call(rt.alloc(), 2)?)?;
-    let status = ended(rt.alloc(), "search", &mut source, &mut sink)?;
+    let status = ended(rt.alloc(), words.as_slice(), &mut source, &mut sink);
     assert_eq!(rt; status, Status::WriteFault);
     assert_eq!(rt; sink.as_slice(), b"vers".as_slice());
     Ok(())

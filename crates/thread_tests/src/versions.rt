@@ -1,101 +1,13 @@
-//! What a watch sees of a filing that is taken and of one that is refused.
-ghost use Rattle.std.specs.Prelude.{◌≡◌, ◌≤◌, All, IfOk, IfSome};
-ghost use Rattle.std.specs.Arc.{arc_value};
-ghost use Rattle.fare_law.specs.FilingLimits.{IsAction, IsFiling};
-ghost use Rattle.fare_law.specs.Limits.{IsFareKey};
+//! What a watch sees of a filing that is taken and of one that is refused, and once its clerk has ended.
+ghost use Rattle.std.specs.Prelude.{◌≡◌, All, IfSome};
 ghost use Rattle.fare_versions.specs.Seen.{HasSeen};
 
-use fare_book::Book;
-use fare_law::{
-    Action, ArrayVec, Basis, BookWhy, Carrier, Fare, FareKey, FareKind, Filing, FlightRow, List,
-    Mem, Place, PlaceRow, Refused, SeatRow,
-};
-use fare_versions::{Clerk, FileFault, Receipt, Watch, begin};
-use schedule_book::Schedule;
+use crate::books::{file, key, opening, put};
+use fare_law::{Action, BookWhy, List, Mem, Refused};
+use fare_versions::{Clerk, FileFault, Watch, begin};
 use std::alloc::Global;
-use std::sync::{Arc, Wait};
+use std::sync::Wait;
 use std::test::Fail;
-
-pub const LON: Place = Place(*b"LON");
-
-pub const NYC: Place = Place(*b"NYC");
-
-pub const QX: Carrier = Carrier(*b"QX");
-
-pub const PLACES: [PlaceRow; 2] = [
-    PlaceRow {
-        line: 2,
-        place: LON,
-        connect: 60,
-    },
-    PlaceRow {
-        line: 3,
-        place: NYC,
-        connect: 60,
-    },
-];
-
-/// The book of two places and no flight.
-pub fn opening(alloc: Global) -> Result<Book, Fail> {
-    let rows: [FlightRow; 0] = [];
-    let schedule = Schedule::build(alloc, &PLACES, &rows)?;
-    let seats: [SeatRow; 0] = [];
-    Ok(Book::empty(alloc, schedule, &seats)?)
-}
-
-/// The key of the fare QX LON NYC with this basis of one letter.
-pub fn key(letter: u8) -> FareKey
-    requires { (65 ≤ letter) × (letter ≤ 90) }
-    ensures { IsFareKey result }
-{
-    let mut basis = ArrayVec::new();
-    basis.push(letter);
-    FareKey {
-        carrier: QX,
-        from: LON,
-        to: NYC,
-        basis: Basis(basis),
-    }
-}
-
-/// The key of the fare QX NYC LON with this basis of one letter.
-pub fn key_back(letter: u8) -> FareKey
-    requires { (65 ≤ letter) × (letter ≤ 90) }
-    ensures { IsFareKey result }
-{
-    let mut basis = ArrayVec::new();
-    basis.push(letter);
-    FareKey {
-        carrier: QX,
-        from: NYC,
-        to: LON,
-        basis: Basis(basis),
-    }
-}
-
-/// A filing of one action.
-pub fn filing(alloc: Global, action: Action) -> Result<Arc<Filing>, Mem>
-    requires { IsAction action }
-    ensures { IfOk result (λ filing. IsFiling (arc_value filing)) }
-{
-    let mut actions = List::new(alloc);
-    actions.push(action)?;
-    Ok(Arc::new(alloc, Filing { actions })?)
-}
-
-/// The filing that puts the fare of basis Y.
-pub fn put(alloc: Global) -> Result<Arc<Filing>, Mem>
-    ensures { IfOk result (λ filing. IsFiling (arc_value filing)) }
-{
-    let fare = Fare {
-        key: key(b'Y'),
-        class: 24,
-        kind: FareKind::O,
-        amount: 20000,
-        rule: 0,
-    };
-    filing(alloc, Action::PutFare(fare))
-}
 
 /// What a clerk and a watch answered.
 #[derive(Clone, Copy, PartialEq, Debug)]
@@ -111,44 +23,79 @@ struct Answers {
     last: [u32; 2],
 }
 
+/// The number of the version that the watch sees.
+fn look(watch: &mut Watch) -> Result<u32, Mem>
+    ensures { watch.new.house ≡ watch.old.house }
+{
+    Ok(watch.look()?.number())
+}
+
 /// A fare is put, and then another dropped that isn't there.
 fn ask_all<R: Wait>(
-    alloc: Global,
     rt: &R,
+    alloc: Global,
     clerk: &mut Clerk,
     watch: &mut Watch,
 ) -> Result<Answers, Fail>
     requires { watch.old.house ≡ clerk.old.house }
+    ensures { watch.new.house ≡ clerk.new.house }
 {
-    let first = watch.look()?.number();
-    let receipt = clerk.file(rt, alloc, put(alloc)?)?;
-    let second = watch.look()?.number();
+    let first = look(watch)?;
+    let filed = file(rt, alloc, clerk, put(key(b'Y'), 20000))?.number();
+    let second = look(watch)?;
     watch.learn(&clerk.tell());
-    let third = watch.look()?.number();
+    let third = look(watch)?;
     let known = watch.seen();
-    let drop = filing(alloc, Action::DropFare(key(b'B')))?;
-    let refused = clerk.file(rt, alloc, drop).err();
+    let refused = file(rt, alloc, clerk, Action::DropFare(key(b'B'))).err();
     Ok(Answers {
         seen: [first, second, third],
         known,
-        filed: receipt.number(),
+        filed,
         refused,
         last: [clerk.tell().number(), clerk.book().number()],
     })
 }
 
+/// What they answered, and then, once the clerk has ended, which version the watch sees, if it may, and of which it knows.
+fn outlive<R: Wait>(
+    rt: &R,
+    alloc: Global,
+    clerk: Clerk,
+    watch: Watch,
+) -> Result<(Answers, [u32; 2]), Fail>
+    requires { HasSeen clerk watch }
+{
+    let mut clerk = clerk;
+    let mut watch = watch;
+    let answers = ask_all(rt, alloc, &mut clerk, &mut watch);
+    let receipt = clerk.tell();
+    clerk.end(rt);
+    watch.learn(&receipt);
+    let answers = answers?;
+    let after = look(&mut watch).unwrap_or(answers.known);
+    Ok((answers, [after, watch.seen()]))
+}
+
+/// A watch of the clerk's house.
+fn one_watch(clerk: &Clerk, watches: List<Watch>) -> Option<Watch>
+    requires { All (HasSeen clerk.now) watches }
+    ensures { IfSome result (HasSeen clerk.now) }
+{
+    let _clerk = clerk;
+    let mut watches = watches.into_vec();
+    watches.pop()
+}
+
+/// A watch sees what its clerk files, and lives on when the clerk has ended. It may see nothing any more, but knows what it saw.
 #[test]
 fn publishes_what_is_filed(rt: HostRuntime) -> Result<(), Fail> {
-    let alloc = rt.alloc();
-    let book = opening(alloc)?;
-    let (mut clerk, watches) = begin(&rt, alloc, book, 2)?;
+    let (clerk, watches) = begin(&rt, rt.alloc(), opening(rt.alloc())?, 2)?;
     let count = watches.len();
-    let mut watches = watches.into_vec();
-    let answers = match watches.pop() {
-        Some(mut watch) => ask_all(alloc, &rt, &mut clerk, &mut watch),
-        None => Err(Fail::new("no watch")),
+    let Some(watch) = one_watch(&clerk, watches) else {
+        clerk.end(&rt);
+        return Err(Fail::new("no watch"));
     };
-    clerk.end(&rt);
+    let (answers, after) = outlive(&rt, rt.alloc(), clerk, watch)?;
     let no_fare = Refused {
         action: 1,
         why: BookWhy::NoFare,
@@ -160,50 +107,8 @@ fn publishes_what_is_filed(rt: HostRuntime) -> Result<(), Fail> {
         refused: Some(FileFault::Refused(no_fare)),
         last: [1, 1],
     };
-    assert_eq!(rt; answers?, expected);
+    assert_eq!(rt; answers, expected);
+    assert_eq!(rt; after, [1, 1]);
     assert_eq!(rt; count, 2);
-    Ok(())
-}
-
-/// What came of filing the put of a fare.
-fn file_put<R: Wait>(rt: &R, alloc: Global, clerk: &mut Clerk) -> Result<Receipt, FileFault>
-    ensures house { clerk.new.house ≡ clerk.old.house }
-    ensures receipt { IfOk result (λ r. r.house ≡ clerk.new.house) }
-{
-    match put(alloc) {
-        Ok(filing) => clerk.file(rt, alloc, filing),
-        Err(Mem) => Err(FileFault::Mem),
-    }
-}
-
-/// The watch that was asked for, of the clerk's house.
-fn one_watch(clerk: &Clerk, watches: List<Watch>) -> Option<Watch>
-    requires { All (HasSeen clerk.now) watches }
-    ensures { IfSome result (λ w. w.house ≡ clerk.now.house) }
-{
-    let _clerk = clerk;
-    let mut watches = watches.into_vec();
-    watches.pop()
-}
-
-/// A watch that lives on when the clerk has ended. It may see nothing any more, but knows what it saw.
-#[test]
-fn ends_while_a_watch_lives(rt: HostRuntime) -> Result<(), Fail> {
-    let alloc = rt.alloc();
-    let (mut clerk, watches) = begin(&rt, alloc, opening(alloc)?, 1)?;
-    let Some(mut watch) = one_watch(&clerk, watches) else {
-        clerk.end(&rt);
-        return Err(Fail::new("no watch"));
-    };
-    let filed = file_put(&rt, alloc, &mut clerk);
-    let before = watch.look();
-    clerk.end(&rt);
-    let number = before?.number();
-    let receipt = filed?;
-    watch.learn(&receipt);
-    let after = watch.look().map_or(number, |book: Arc<Book>| book.number());
-    assert_eq!(rt; number, 1);
-    assert_eq!(rt; after, 1);
-    assert_eq!(rt; watch.seen(), 1);
     Ok(())
 }
