@@ -4,7 +4,7 @@ ghost use Rattle.std.specs.Arc.{arc_value};
 ghost use Rattle.fare_law.specs.FilingLimits.{IsAction, IsFiling};
 ghost use Rattle.fare_law.specs.Limits.{IsFareKey};
 
-use fare_book::{Book, Timetable};
+use fare_book::Book;
 use fare_law::{
     Action, ArrayVec, Basis, Carrier, Fare, FareKey, FareKind, Filing, FlightRow, List, Mem, Place,
     PlaceRow, Request, SeatRow, Slice,
@@ -67,10 +67,7 @@ const SEATS: SeatRow = SeatRow {
 /// The book of one flight and no fare.
 pub fn opening(alloc: Global) -> Result<Book, Fail> {
     let schedule = Schedule::build(alloc, &PLACES, &[FLIGHT])?;
-    let mut seats = List::new(alloc);
-    seats.push(SEATS)?;
-    let timetable = Arc::new(alloc, Timetable::of(alloc, schedule, seats)?)?;
-    Ok(Book::empty(alloc, timetable)?)
+    Ok(Book::empty(alloc, schedule, &[SEATS])?)
 }
 
 /// The key of the fare QX LON NYC with this basis of one letter.
