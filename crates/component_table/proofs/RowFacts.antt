@@ -1,7 +1,6 @@
 -- Paths of a head and a tail that add nothing to a table, by what is known of the two.
-use Rattle.std.proofs.Common.{◌≡◌, ◌⊎◌, ℕ, ◌+◌, zero, suc, List, [], ◌∷◌, ◌++◌, length, length-append, set, slice_get, Option, Some, None, IfSome, Bool, true, false, bit_and, refl, sym, ap, subst, ◌∙◌, inl, inr, ◌<◌, ◌≤◌, arith}
+use Rattle.std.proofs.Common.{◌≡◌, ◌⊎◌, ℕ, ◌+◌, zero, suc, List, [], ◌∷◌, ◌++◌, length, length-append, set, slice_get, Option, Some, None, IfSome, bit_and, refl, sym, ap, subst, ◌∙◌, inl, inr, ◌≤◌}
 use Rattle.component_table.specs.declared.classes.PathClass.{PathClass}
-use Rattle.component_table.specs.declared.ends.End.{End}
 use Rattle.component_table.specs.declared.ends.EndKey.{EndKey}
 use Rattle.component_table.specs.declared.kinds.Kinds.{Kinds}
 use Rattle.component_table.specs.declared.kinds.TailClass.{TailClass}
@@ -14,21 +13,17 @@ use Rattle.component_table.specs.declared.rows.Row.{Row}
 use Rattle.component_table.specs.declared.rows.Rows.{Rows}
 use Rattle.component_table.specs.declared.ways.Joint.{Joint}
 use Rattle.component_table.specs.declared.ways.Landed.{Landed}
-use Rattle.component_table.specs.Classes.{AreAmong, ClassDone, IsFiled, IsOfClass, LandsBy}
+use Rattle.component_table.specs.Classes.{AreAmong, ClassDone, IsOfClass, LandsBy}
 use Rattle.component_table.specs.Joints.{IsJoint, IsJointOf, Joins}
 use Rattle.component_table.specs.Kinds.{AreKindsOf, IsKindOf, joined_class}
-use Rattle.component_table.specs.Markets.{AreMarkets}
-use Rattle.component_table.specs.Reaches.{IsEnd, IsUnserved, filed_of}
-use Rattle.component_table.specs.Rows.{AddsMask, AreRows, HasRows, IsHeadOf, IsKnownTail, IsMet, IsRow, IsRowAt, TailAddsNothing, with_more}
+use Rattle.component_table.specs.Reaches.{IsEnd}
+use Rattle.component_table.specs.Rows.{AddsMask, AreRows, HasRows, IsHeadOf, IsMet, IsRow, IsRowAt, with_more}
 use Rattle.component_table.specs.Tables.{AddsNothing, AreLimited, Covers, HasLegs}
 use Rattle.component_table.proofs.Collected.{numbers_long}
-use Rattle.component_table.proofs.FareFacts.{class_both, class_on, fares_done}
+use Rattle.component_table.proofs.FareFacts.{class_both, class_on}
 use Rattle.component_table.proofs.Halves.{joint_class, joint_legs}
 use Rattle.component_table.proofs.Lower.{set_only}
-use Rattle.component_table.proofs.Served.{unserved_none}
 use Rattle.component_table.proofs.SettledFacts.{settled_added}
-use Rattle.component_table.proofs.SomeLegs.{no_class}
-use Rattle.fare_book.specs.Keeping.{Limited}
 use Rattle.fare_law.specs.declared.flights.Flight.{Flight}
 use Rattle.fare_law.specs.declared.requests.Request.{Request}
 use Rattle.fare_law.specs.Book.{Book}
@@ -40,11 +35,6 @@ use Rattle.law_lemmas.proofs.EachOne.{each_from, each_in, each_more}
 use Rattle.law_lemmas.proofs.Members.{got_in}
 use Rattle.law_lemmas.proofs.Options.{some_one}
 
-below_or_from : (n i : ℕ) → (i < n) ⊎ (n ≤ i)
-below_or_from zero i = inr (omega arith)
-below_or_from (suc n) zero = inl (omega arith)
-below_or_from (suc n) (suc i) = elim (below_or_from n i) [ inl h ↦ inl (omega (arith, h)) | inr h ↦ inr (omega (arith, h)) ]
-
 module _ (b : Book) (q : Request) (at : Position) where
   -- where the class of the two is done for what is open in both
   pub tail_nothing : (ns : List ℕ) (h : HeadKind) (classes : List TailClass) (tail : Path) (k : TailKind) (c : TailClass) (mask : ℕ) (table : List Entry) → IsHeadOf b q ns h → IsKindOf b q classes tail k → slice_get classes k.class ≡ Some c
@@ -55,53 +45,6 @@ module _ (b : Book) (q : Request) (at : Position) where
       settled_added b q at path (record { class = joined_class h.class kind.class; classes = mask }) (bit_and h.classes k.classes) table own
       (λ fs m. joint_class b q ns h classes tail k head kind path.after after fs (subst (λ l. Numbers b l fs) flights m))
       (λ fs m. joint_legs b q ns h classes tail k head kind fs (subst (λ l. Numbers b l fs) flights m)) among
-
-  -- what is done for the head's carrier and day is done for its row's
-  pub done_in_row : (rows : List Row) (h : HeadKind) (c : TailClass) (mask : ℕ) (table : List Entry) → IsRowAt rows h.class h.row → (one : Row) → slice_get rows h.row ≡ Some one
-      → ClassDone b q at (record { class = joined_class h.class c; classes = mask }) table → ClassDone b q at (record { class = joined_class one.class c; classes = mask }) table
-  done_in_row rows h c mask table row one stands done =
-      let same = some_one (slice_get rows h.row) row.row one row.stands stands in
-      subst (λ (r : Row). ClassDone b q at (record { class = joined_class r.class c; classes = mask }) table) same
-      (subst (λ x. ClassDone b q at (record { class = joined_class x c; classes = mask }) table) (sym row.class_is) done)
-
-  -- where the head's row knows enough classes of seats for the tail's class
-  pub known_nothing : (ns : List ℕ) (h : HeadKind) (classes : List TailClass) (tails : List Path) (kinds : List TailKind) (rows : List Row) (number : ℕ) (table : List Entry) → IsHeadOf b q ns h → AreKindsOf b q tails classes kinds → AreRows b q at classes table rows
-      → (row : IsRowAt rows h.class h.row) → IsKnownTail kinds row.row.masks.items h.classes number → TailAddsNothing b q at tails table ns number
-  known_nothing ns h classes tails kinds rows number table head are rights row known tail got =
-      let kind = are number known.kind tail known.stands got in
-      let done = each_in (IsRow b q at classes table) rows row.row rights (got_in rows h.row row.row row.stands) known.kind.class known.mask kind.class known.known kind.stands in
-      let own = subst (λ x. ClassDone b q at (record { class = joined_class x kind.class; classes = known.mask }) table) row.class_is done in
-      tail_nothing ns h classes tail known.kind kind.class known.mask table head kind kind.stands own known.among
-
-  -- the tails before a place add nothing, where those before another do and a row tells it of those between
-  pub nothing_to : (ns : List ℕ) (h : HeadKind) (classes : List TailClass) (tails : List Path) (kinds : List TailKind) (rows : List Row) (numbers : List ℕ) (from to : ℕ) (table : List Entry) → IsHeadOf b q ns h → AreKindsOf b q tails classes kinds → AreRows b q at classes table rows
-      → (row : IsRowAt rows h.class h.row) → ((i number : ℕ) → from ≤ i → i < to → slice_get numbers i ≡ Some number → IsKnownTail kinds row.row.masks.items h.classes number)
-      → ((i number : ℕ) → i < from → slice_get numbers i ≡ Some number → TailAddsNothing b q at tails table ns number) → (i number : ℕ) → i < to → slice_get numbers i ≡ Some number → TailAddsNothing b q at tails table ns number
-  nothing_to ns h classes tails kinds rows numbers from to table head are rights row known before i number lt got = elim (below_or_from from i) [
-    | inl k ↦ before i number k got
-    | inr k ↦ known_nothing ns h classes tails kinds rows number table head are rights row (known i number k lt got)
-  ]
-
-  module _ (class : PathClass) (ms : List Market) (e : End) (are : AreMarkets b ms) (limited : Limited b) (key : e.key ≡ record { place = class.end; carrier = class.carrier }) (end : IsEnd b at.place ms e) where
-    filed : IsFiled b at.place class
-    filed = record { markets = ms; are = are; end = e; is = end; place_is = sym (ap (λ (x : EndKey). x.place) key); carrier_is = sym (ap (λ (x : EndKey). x.carrier) key); limited = limited }
-
-    -- where the carrier has no fare to its end or from it
-    pub unserved_class : (mask : ℕ) (table : List Entry) → IsUnserved e.there → IsUnserved e.back → ClassDone b q at (record { class = class; classes = mask }) table
-    unfolding filed
-    unserved_class mask table there back = record {
-      filed = filed;
-      fares = fares_done b q at ms e (record { class = class; classes = mask }) table are end (sym (ap (λ (x : EndKey). x.place) key)) (sym (ap (λ (x : EndKey). x.carrier) key)) (λ r f found m stands i g got low high. absurd (unserved_none (filed_of e r) f i found (both r) low high));
-    }
-      where
-        both : (r : Bool) → IsUnserved (filed_of e r)
-        both true = back
-        both false = there
-
-    -- where no class of seats is open
-    pub closed_class : (table : List Entry) → ClassDone b q at (record { class = class; classes = 0 }) table
-    unfolding filed
-    closed_class table = record { filed = filed; fares = λ path fs is of r row live open_class permits. absurd (no_class 0 row.fare.class refl open_class) }
 
   -- a row stays right as the table grows
   pub rows_on : (classes : List TailClass) (old new : List Entry) (rows : List Row) → Covers old new → AreRows b q at classes old rows → AreRows b q at classes new rows

@@ -133,7 +133,7 @@ module _ (wanted : List Bool) (ends : List ℕ) where
   }
 
 -- elements that match, at a place
-matched_at : {X Y : Type 0} (R : X → Y → Type 0) (xs : List X) (ys : List Y) (n : ℕ) (x : X) → Matched R xs ys → slice_get xs n ≡ Some x → (y : Y) × (slice_get ys n ≡ Some y) × R x y
+pub matched_at : {X Y : Type 0} (R : X → Y → Type 0) (xs : List X) (ys : List Y) (n : ℕ) (x : X) → Matched R xs ys → slice_get xs n ≡ Some x → (y : Y) × (slice_get ys n ≡ Some y) × R x y
 matched_at R [] ys n x h e = absurd (cc)
 matched_at R (z ∷ xs) [] n x h e = absurd h
 matched_at R (z ∷ xs) (y ∷ ys) zero x h e = let same : z ≡ x = cc in (y, refl, subst (λ w. R w y) same h.0)

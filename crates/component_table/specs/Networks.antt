@@ -44,9 +44,10 @@ pub record TailsStand (tails : List SliceTails) (slice at : ℕ) : Type 0 where
   pub stands : slice_get tails at ≡ Some kept
   pub slice_is : kept.slice ≡ slice
 
--- These are tails of a slice with their marks and what is known of them, and numbers of those that the place needs.
+-- These are tails of a slice with their marks, what is known of them and where they end, and numbers of those that the place needs.
 pub record ArePlaceTails (b : Book) (q : Request) (place : Place) (slice : ℕ) (t : PlaceTails) : Type 0 where
   pub within : Each (λ n. n < length t.some.all.now) t.some.numbers.now
   pub are : AreTailsFrom b q place slice (chosen t.some.all.now t.some.numbers.now)
   pub marks : AreMarks b.timetable.flights t.some.all.now t.some.marks.now
   pub kinds : AreKinds b q t.some.all.now t.kinds.now
+  pub ends : AreEnds b t.some.all.now t.ends.now

@@ -10,6 +10,7 @@ mod ends;
 mod filed;
 mod gathering;
 mod growing;
+mod idle_ends;
 mod kinds;
 mod markets;
 mod masks;

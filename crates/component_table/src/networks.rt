@@ -42,11 +42,12 @@ pub struct FareTails {
     pub numbers: List<usize>,
 }
 
-/// The tails of a slice that a place needs, and what is known of the tails of the slice.
+/// The tails of a slice that a place needs, and what is known of the tails of the slice, and where they end.
 #[derive(Clone, Copy)]
 pub struct PlaceTails<'a> {
     pub some: SomeTails<'a>,
     pub kinds: &'a Kinds,
+    pub ends: &'a TailEnds,
 }
 
 /// What the tails of a slice that a place needs are looked up by.
@@ -159,6 +160,7 @@ impl Network {
                 numbers: numbered.numbers.as_slice(),
             },
             kinds: &slice.kinds,
+            ends: &slice.ends,
         }
     }
 }

@@ -73,7 +73,7 @@ fn made<S: Scene>(
     ensures markets { IfOk result (λ made. AreMarkets origin.now.book.now made.markets.kept.items) }
     ensures masks { IfOk result (λ made. AreMasks origin.now.book.now origin.now.request.now made.masks) }
 {
-    let mut putting: Putting<'_, S> = Putting::new(alloc, origin, tails.kinds, markets, masks);
+    let mut putting: Putting<'_, S> = Putting::new(alloc, origin, tails, markets, masks);
     visit_paths(
         alloc,
         schedule_of(origin.book),

@@ -4,17 +4,21 @@ ghost use Rattle.component_table.specs.Kinds.{AreKinds};
 ghost use Rattle.component_table.specs.Markets.{AreMarkets};
 ghost use Rattle.component_table.specs.Masks.{AreMasks};
 ghost use Rattle.component_table.specs.Tables.{PutsIn};
+ghost use Rattle.component_table.specs.Tails.{AreEnds};
 
 use crate::adding::{add_joint, add_path};
 use crate::ends::Reach;
 use crate::growing::Growing;
+use crate::idle_ends::IdleEnds;
 use crate::kinds::Kinds;
 use crate::markets::Markets;
 use crate::masks::Masks;
+use crate::networks::PlaceTails;
 use crate::rows::Rows;
 use crate::scenes::Scene;
 use crate::settled::{Filling, Settled};
 use crate::skipping::{Met, skipped};
+use crate::tail_ends::TailEnds;
 use crate::ways::Origin;
 use fare_law::Mem;
 use flight_paths::{Path, PathVisitor, joined};
@@ -30,6 +34,8 @@ pub struct Putting<'a, S: Scene> {
     reach: Reach,
     masks: Masks,
     kinds: &'a Kinds,
+    ends: &'a TailEnds,
+    idle: IdleEnds,
     filling: Filling,
     of: PhantomData<S>,
 }
@@ -51,7 +57,7 @@ impl<'a, S: Scene> Model for Putting<'a, S> {
 
     ghost view = { λ p. p.filling.table.entries.items };
 
-    ghost invariant = { λ p. IsPutting S.book S.request S.at S.tails p.origin.book.now p.origin.request.now p.origin.at.now p.reach p.masks p.kinds.now p.filling };
+    ghost invariant = { λ p. IsPutting S.book S.request S.at S.tails p.origin.book.now p.origin.request.now p.origin.at.now p.reach p.masks p.kinds.now p.ends.now p.idle p.filling };
 }
 
 impl<'a, S: Scene> PathVisitor for Putting<'a, S> {
@@ -89,13 +95,18 @@ impl<'a, S: Scene> PathVisitor for Putting<'a, S> {
         let Some(kind) = rows.at_hand() else {
             return 0;
         };
+        let carrier = kind.class.carrier;
+        self.idle
+            .turn_to(self.alloc, carrier, self.ends.places.len());
         let met = Met {
             origin: self.origin,
             reach: &self.reach,
             kinds: self.kinds,
+            ends: self.ends,
             head: kind,
         };
-        skipped(&mut self.filling.rows, &met, numbers)
+        let masks = self.filling.rows.masks(kind.row);
+        skipped(&mut self.idle, masks, &met, numbers)
     }
 }
 
@@ -104,7 +115,7 @@ impl<'a, S: Scene> Putting<'a, S> {
     pub fn new(
         alloc: Global,
         origin: &Origin<'a>,
-        kinds: &'a Kinds,
+        tails: &PlaceTails<'a>,
         markets: Markets,
         masks: Masks,
     ) -> Putting<'a, S>
@@ -113,7 +124,8 @@ impl<'a, S: Scene> Putting<'a, S> {
         requires at { origin.now.at.now ≡ S.at }
         requires markets { AreMarkets origin.now.book.now markets.kept.items }
         requires masks { AreMasks origin.now.book.now origin.now.request.now masks }
-        requires kinds { AreKinds origin.now.book.now origin.now.request.now S.tails kinds.now }
+        requires kinds { AreKinds origin.now.book.now origin.now.request.now S.tails tails.now.kinds.now }
+        requires ends { AreEnds origin.now.book.now S.tails tails.now.ends.now }
         ensures { result ≡ [] }
     {
         Putting {
@@ -121,7 +133,9 @@ impl<'a, S: Scene> Putting<'a, S> {
             origin: *origin,
             reach: Reach::new(alloc, origin.book, origin.at.place, markets),
             masks,
-            kinds,
+            kinds: tails.kinds,
+            ends: tails.ends,
+            idle: IdleEnds::new(alloc),
             filling: Filling {
                 table: Growing::new(alloc),
                 settled: Settled::new(alloc),
