@@ -1,13 +1,12 @@
 //! Passes of one board.
 ghost use Rattle.std.specs.Prelude.{◌≡◌, ◌≤◌, None, IfOk};
 
-use crate::cases::{ROUND_TRIP, TWO_CARRIERS, case_of};
+use crate::{round_trip, two_carriers};
 use fare_book::Book;
 use fare_law::{Gate, Mem, NoGate, Request, Why};
 use search_core::{Answer, SearchFault};
 use shared_board::{Board, BoardPass};
 use std::alloc::Global;
-use std::process::Abort;
 use std::sync::Arc;
 use std::sync::atomic::{AtomicU64, Ordering};
 use std::test::Fail;
@@ -27,36 +26,16 @@ impl Gate for Counting {
     fn done(&self, _desk: u32) {}
 }
 
-/// The book and the request of a case, for a party of so many.
-fn posed(
-    rt: &(impl Abort + AllocGlobal),
-    text: &str,
-    party: u8,
-) -> Result<(Arc<Book>, Request), Fail> {
-    let case = case_of(rt.alloc(), text)?;
-    let mut request = case.request;
-    request.party = party;
-    Ok((Arc::new(rt.alloc(), case.book)?, request))
-}
-
-/// The board of a case, with its number 7, and two passes.
-fn open(
-    rt: &(impl Abort + AllocGlobal),
-    text: &str,
-    party: u8,
-    budget: u32,
-    slots: u32,
-) -> Result<(Board, BoardPass, BoardPass), Fail>
-    requires { (1 ≤ budget) × (budget ≤ 1000000) × (1 ≤ slots) × (slots ≤ 65536) }
+/// The board of the case of two carriers for a party of two, with its number 7, and a pass.
+fn open(alloc: Global, slots: u32) -> Result<(Board, BoardPass), Fail>
+    requires { (1 ≤ slots) × (slots ≤ 65536) }
     ensures slots { IfOk result (λ r. r.0.slots.board.slots ≡ slots) }
     ensures number { IfOk result (λ r. r.0.slots.number ≡ 7) }
-    ensures first { IfOk result (λ r. (r.1.of ≡ r.0.slots) × (r.1.held ≡ None)) }
-    ensures second { IfOk result (λ r. (r.2.of ≡ r.0.slots) × (r.2.held ≡ None)) }
+    ensures pass { IfOk result (λ r. (r.1.of ≡ r.0.slots) × (r.1.held ≡ None)) }
 {
-    let (book, request) = posed(rt, text, party)?;
-    let (board, mut pass) = Board::open(rt.alloc(), 7, book, request, budget, slots)?;
-    let other = pass.split(&board)?;
-    Ok((board, pass, other))
+    let book = Arc::new(alloc, two_carriers::book(alloc)?)?;
+    let request = two_carriers::request(2);
+    Ok(Board::open(alloc, 7, book, request, 1_000_000, slots)?)
 }
 
 /// Whether the answer has the tickets and the residuals of the case of two carriers.
@@ -131,12 +110,19 @@ fn numbers(board: &Board, first: BoardPass, second: BoardPass) -> [u64; 3]
     [one, other, first.number(board)]
 }
 
+/// How many nodes two passes of one board built, and the numbers that they tell.
+fn share(alloc: Global) -> Result<([u64; 4], [u64; 3]), Fail> {
+    let (board, mut first) = open(alloc, 64)?;
+    let mut second = first.split(&board)?;
+    let built = built_in_turn(alloc, &board, &mut first, &mut second)?;
+    Ok((built, numbers(&board, first, second)))
+}
+
 /// What the first pass built, the second finds; neither builds anything for its answer.
 #[test]
 fn shares_nodes(rt: HostRuntime) -> Result<(), Fail> {
-    let (board, mut first, mut second) = open(&rt, TWO_CARRIERS, 2, 1_000_000, 64)?;
-    let built = built_in_turn(rt.alloc(), &board, &mut first, &mut second)?;
-    assert_eq!(rt; numbers(&board, first, second), [7, 7, 7]);
+    let (built, numbers) = share(rt.alloc())?;
+    assert_eq!(rt; numbers, [7, 7, 7]);
     assert!(rt; built[0] > 0);
     assert_eq!(rt; [built[1], built[2], built[3]], [0, 0, 0]);
     Ok(())
@@ -169,11 +155,17 @@ fn beside_a_held_node(
     Ok((worked, built, second.hold(board, 0)))
 }
 
+/// The same for a board of its own.
+fn hold_out(alloc: Global) -> Result<(u32, u64, bool), Fail> {
+    let (board, mut first) = open(alloc, 1)?;
+    let mut second = first.split(&board)?;
+    beside_a_held_node(alloc, &board, &mut first, &mut second)
+}
+
 /// While a pass has the one slot out, another finds nothing there, builds for itself and answers the same.
 #[test]
 fn answers_without_a_held_node(rt: HostRuntime) -> Result<(), Fail> {
-    let (board, mut first, mut second) = open(&rt, TWO_CARRIERS, 2, 1_000_000, 1)?;
-    let (worked, built, is_back) = beside_a_held_node(rt.alloc(), &board, &mut first, &mut second)?;
+    let (worked, built, is_back) = hold_out(rt.alloc())?;
     assert!(rt; worked > 0);
     assert!(rt; built > 0);
     assert!(rt; is_back);
@@ -189,22 +181,19 @@ fn fault(alloc: Global, board: &Board, pass: &mut BoardPass) -> Option<SearchFau
 }
 
 /// The fault of the answer for a party of so many, and how many nodes are built for the work.
-fn refused(
-    rt: &(impl Abort + AllocGlobal),
-    party: u8,
-    budget: u32,
-) -> Result<(Option<SearchFault>, u32), Fail>
+fn refused(alloc: Global, party: u8, budget: u32) -> Result<(Option<SearchFault>, u32), Fail>
     requires { (1 ≤ budget) × (budget ≤ 1000000) }
 {
-    let (board, mut pass, _other) = open(rt, ROUND_TRIP, party, budget, 64)?;
-    let fault = fault(rt.alloc(), &board, &mut pass);
-    Ok((fault, pass.work(rt.alloc(), &board)?))
+    let book = Arc::new(alloc, round_trip::book(alloc)?)?;
+    let (board, mut pass) = Board::open(alloc, 7, book, round_trip::request(party), budget, 64)?;
+    let fault = fault(alloc, &board, &mut pass);
+    Ok((fault, pass.work(alloc, &board)?))
 }
 
 /// Three residuals are over a budget of two.
 #[test]
 fn refuses_what_is_too_large(rt: HostRuntime) -> Result<(), Fail> {
-    let (fault, _) = refused(&rt, 1, 2)?;
+    let (fault, _) = refused(rt.alloc(), 1, 2)?;
     assert_eq!(rt; fault, Some(SearchFault::TooLarge));
     Ok(())
 }
@@ -212,7 +201,7 @@ fn refuses_what_is_too_large(rt: HostRuntime) -> Result<(), Fail> {
 /// A party of none is no request, for which nothing is built.
 #[test]
 fn refuses_a_party_of_none(rt: HostRuntime) -> Result<(), Fail> {
-    let told = refused(&rt, 0, 3)?;
+    let told = refused(rt.alloc(), 0, 3)?;
     assert_eq!(rt; told, (Some(SearchFault::BadRequest(Why::Party)), 0));
     Ok(())
 }
@@ -256,18 +245,24 @@ fn built_together<R: Threads + Sync>(
 }
 
 /// How many nodes a pass needs that works alone.
-fn needed(rt: &(impl Abort + AllocGlobal)) -> Result<u64, Fail> {
-    let (board, mut pass, _other) = open(rt, TWO_CARRIERS, 2, 1_000_000, 64)?;
-    Ok(u64::from(pass.work(rt.alloc(), &board)?))
+fn needed(alloc: Global) -> Result<u64, Fail> {
+    let (board, mut pass) = open(alloc, 64)?;
+    Ok(u64::from(pass.work(alloc, &board)?))
+}
+
+/// How many nodes four passes of one board built together, after which a fifth answers.
+fn answer_after<R: Threads + Sync>(rt: &R, alloc: Global) -> Result<u64, Fail> {
+    let (board, mut pass) = open(alloc, 64)?;
+    let built = built_together(rt, alloc, &board, &mut pass)?;
+    built_for_best(alloc, &board, &mut pass)?;
+    Ok(built)
 }
 
 /// Each node that a pass needs was built by one of four that worked at once, at least, and a fifth answers the same.
 #[test]
 fn answers_after_four_threads(rt: HostRuntime) -> Result<(), Fail> {
-    let needed = needed(&rt)?;
-    let (board, mut pass, _other) = open(&rt, TWO_CARRIERS, 2, 1_000_000, 64)?;
-    let built = built_together(&rt, rt.alloc(), &board, &mut pass)?;
-    built_for_best(rt.alloc(), &board, &mut pass)?;
+    let needed = needed(rt.alloc())?;
+    let built = answer_after(&rt, rt.alloc())?;
     assert!(rt; built >= needed);
     Ok(())
 }

@@ -6,8 +6,12 @@
 #[cfg(test)]
 mod boards;
 #[cfg(test)]
-mod cases;
+mod filings;
 #[cfg(test)]
 mod keys;
+#[cfg(test)]
+mod round_trip;
+#[cfg(test)]
+mod two_carriers;
 #[cfg(test)]
 mod worlds;

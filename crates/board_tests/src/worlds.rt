@@ -1,90 +1,95 @@
 //! Events on a world.
+ghost use Rattle.std.specs.Prelude.{◌<◌, ◌^◌, All, IfOk, vec_len};
+ghost use Rattle.fare_law.specs.FilingLimits.{IsAction};
 ghost use Rattle.run_core.specs.Worlds.{IsEvent};
 
-use crate::cases::{ROUND_TRIP, case_of};
+use crate::filings::{LON, NYC, Y, fare_key, filing_of, put};
 use crate::keys::key;
-use fare_filing::read_filing;
-use fare_law::{BookWhy, Mem, Refused, Request, Why};
+use crate::round_trip::{QX, book, request};
+use fare_law::{Action, BookWhy, FareKind, Mem, Refused, Why};
 use run_core::{Event, Outcome, Recorded, StepFault, World, run};
 use std::alloc::Global;
-use std::process::Abort;
-use std::sync::Arc;
 use std::test::Fail;
 
-/// Puts the fare QX LON NYC Y1 at 15000.
-const CHEAPER: &[u8] =
-    br#"{"actions":[{"put_fare":{"carrier":"QX","from":"LON","to":"NYC","basis":"Y1","class":"Y","kind":"O","amount":15000,"rule":0}}]}"#;
-
-/// Drops a fare that isn't there.
-const NOTHING_TO_DROP: &[u8] =
-    br#"{"actions":[{"drop_fare":{"carrier":"QX","from":"NYC","to":"LON","basis":"Y9"}}]}"#;
+/// An event of the tests.
+#[derive(Clone, Copy)]
+enum Step {
+    /// The fare QX LON NYC Y is filed at 15000.
+    FileCheaper,
+    /// A fare is dropped that isn't there.
+    FileNothing,
+    /// A desk looks at the version.
+    Look(u32),
+    /// A desk keeps the offers of the one key.
+    Keep(u32),
+    /// A desk reads the offers of the one key.
+    Fetch(u32),
+    /// A desk answers the request for a party of so many, with this budget.
+    Answer(u32, u8, u32),
+}
 
 /// What came of some events.
 type Ran = Result<(), (u32, StepFault)>;
 
-/// The world of a case with some desks, and the case's request.
-fn world_of(
-    rt: &(impl Abort + AllocGlobal),
-    text: &str,
-    desks: u32,
-) -> Result<(World, Request), Fail> {
-    let case = case_of(rt.alloc(), text)?;
-    let world = World::new(rt.alloc(), case.book, desks)?;
-    Ok((world, case.request))
-}
-
-/// A desk looks at the version.
-fn look(alloc: Global, world: &mut World, desk: u32) -> Ran {
-    run(alloc, world, &[Event::Look { desk }])
-}
-
-/// What the text spells is filed.
-fn file(alloc: Global, world: &mut World, text: &[u8]) -> Result<Ran, Fail> {
-    let filing = Arc::new(alloc, read_filing(alloc, text)?)?;
-    Ok(run(alloc, world, &[Event::File { filing }]))
-}
-
-/// A desk keeps the offers of the one key.
-fn keep(alloc: Global, world: &mut World, desk: u32) -> Result<Ran, Mem> {
-    let key = key(alloc)?;
-    Ok(run(alloc, world, &[Event::Keep { desk, key }]))
-}
-
-/// A desk reads the offers of the one key.
-fn fetch(alloc: Global, world: &mut World, desk: u32) -> Result<Ran, Mem> {
-    let key = key(alloc)?;
-    Ok(run(alloc, world, &[Event::Fetch { desk, key }]))
-}
-
-/// The event that a desk answers the request, for a party of so many.
-fn answering(desk: u32, request: &Request, party: u8, budget: u32) -> Event
-    ensures { IsEvent result }
+fn file(alloc: Global, action: Action) -> Result<Event, Mem>
+    requires { IsAction action }
+    ensures { IfOk result IsEvent }
 {
-    let request = Request {
-        sale: request.sale,
-        party,
-        best: request.best,
-        slices: request.slices.copied(),
-    };
-    Event::Answer {
-        desk,
-        request,
-        budget,
+    Ok(Event::File {
+        filing: filing_of(alloc, action)?,
+    })
+}
+
+fn event_of(alloc: Global, step: Step) -> Result<Event, Mem>
+    ensures { IfOk result IsEvent }
+{
+    match step {
+        Step::FileCheaper => file(
+            alloc,
+            put(fare_key(QX, LON, NYC, b'Y'), Y, FareKind::O, 15000, 0),
+        ),
+        Step::FileNothing => file(alloc, Action::DropFare(fare_key(QX, NYC, LON, b'B'))),
+        Step::Look(desk) => Ok(Event::Look { desk }),
+        Step::Keep(desk) => Ok(Event::Keep {
+            desk,
+            key: key(alloc)?,
+        }),
+        Step::Fetch(desk) => Ok(Event::Fetch {
+            desk,
+            key: key(alloc)?,
+        }),
+        Step::Answer(desk, party, budget) => Ok(Event::Answer {
+            desk,
+            request: request(party),
+            budget,
+        }),
     }
 }
 
-/// A desk answers the request for one.
-fn answer(alloc: Global, world: &mut World, desk: u32, request: &Request, budget: u32) -> Ran {
-    run(alloc, world, &[answering(desk, request, 1, budget)])
+/// The events of at most so many steps.
+fn events_of(alloc: Global, steps: &[Step]) -> Result<Vec<Event>, Mem>
+    ensures { IfOk result (λ events. All IsEvent events.items) }
+{
+    let mut events = Vec::new(alloc);
+    for step in steps {
+        events.push(event_of(alloc, *step)?)?;
+    }
+    Ok(events)
 }
 
-/// Goes on where nothing was refused.
-fn taken(ran: Ran) -> Result<(), Fail> {
-    ran.map_err(|_fault| Fail::new("an event refused"))
+/// What comes of these steps, one after the other.
+fn follow(alloc: Global, world: &mut World, steps: &[Step]) -> Result<Ran, Mem> {
+    let events = events_of(alloc, steps)?;
+    if events.len() > 8 {
+        return Err(Mem);
+    }
+    Ok(run(alloc, world, events.as_slice()))
 }
 
 /// The desk of an answer, its version, and the least price, or `None` for too large.
-fn told(recorded: &Recorded) -> (u32, u32, Option<u64>) {
+type Told = (u32, u32, Option<u64>);
+
+fn told(recorded: &Recorded) -> Told {
     let price = match &recorded.outcome {
         Outcome::Tickets(tickets) => tickets.as_slice().first().map(|ticket| ticket.price),
         Outcome::TooLarge => None,
@@ -93,13 +98,7 @@ fn told(recorded: &Recorded) -> (u32, u32, Option<u64>) {
 }
 
 /// How many answers a world has recorded, and what the first and the last tell.
-fn all_told(
-    world: &World,
-) -> (
-    usize,
-    Option<(u32, u32, Option<u64>)>,
-    Option<(u32, u32, Option<u64>)>,
-) {
+fn all_told(world: &World) -> (usize, Option<Told>, Option<Told>) {
     let answers = world.answers();
     (
         answers.len(),
@@ -108,99 +107,97 @@ fn all_told(
     )
 }
 
-/// Two desks look, one before a filing and one after it, keep the offers of a key, and answer.
-fn looked_at(alloc: Global, world: &mut World, request: &Request) -> Result<(), Fail> {
-    taken(look(alloc, world, 0))?;
-    taken(file(alloc, world, CHEAPER)?)?;
-    taken(look(alloc, world, 1))?;
-    taken(keep(alloc, world, 0)?)?;
-    taken(keep(alloc, world, 1)?)?;
-    taken(fetch(alloc, world, 1)?)?;
-    taken(answer(alloc, world, 0, request, 3))?;
-    taken(answer(alloc, world, 1, request, 3))
+/// What came of each list of steps, in turn, in one world of so many desks.
+fn play(
+    alloc: Global,
+    desks: u32,
+    lists: &[&[Step]],
+) -> Result<(Vec<Ran>, (usize, Option<Told>, Option<Told>)), Fail> {
+    let mut world = World::new(alloc, book(alloc)?, desks)?;
+    let ran = follow_all(alloc, &mut world, lists)?;
+    Ok((ran, all_told(&world)))
 }
+
+fn follow_all(alloc: Global, world: &mut World, lists: &[&[Step]]) -> Result<Vec<Ran>, Mem> {
+    let mut ran = Vec::new(alloc);
+    for steps in lists {
+        ran.push(follow(alloc, world, steps)?)?;
+    }
+    Ok(ran)
+}
+
+/// Two desks look, one before a filing and one after it, keep the offers of a key, and answer.
+const BEFORE_AND_AFTER: [&[Step]; 1] = [&[
+    Step::Look(0),
+    Step::FileCheaper,
+    Step::Look(1),
+    Step::Keep(0),
+    Step::Keep(1),
+    Step::Fetch(1),
+    Step::Answer(0, 1, 3),
+    Step::Answer(1, 1, 3),
+]];
 
 /// A filing between the looks of two desks: the one answers from the older version, the other from the newer.
 #[test]
 fn answers_from_what_was_looked_at(rt: HostRuntime) -> Result<(), Fail> {
-    let (mut world, request) = world_of(&rt, ROUND_TRIP, 2)?;
-    looked_at(rt.alloc(), &mut world, &request)?;
+    let (ran, told) = play(rt.alloc(), 2, &BEFORE_AND_AFTER)?;
+    assert_eq!(rt; ran.as_slice(), [Ok(())].as_slice());
     let expected = (2, Some((0, 1, Some(40000))), Some((1, 2, Some(30000))));
-    assert_eq!(rt; all_told(&world), expected);
+    assert_eq!(rt; told, expected);
     Ok(())
 }
 
-/// Files and answers, and files what is refused; asks for a party of none, which is refused too, and answers with no budget.
-fn refused_between(
-    alloc: Global,
-    world: &mut World,
-    request: &Request,
-) -> Result<[Option<StepFault>; 2], Fail> {
-    taken(file(alloc, world, CHEAPER)?)?;
-    taken(look(alloc, world, 0))?;
-    taken(answer(alloc, world, 0, request, 3))?;
-    let filed = file(alloc, world, NOTHING_TO_DROP)?;
-    taken(look(alloc, world, 0))?;
-    let asked = run(alloc, world, &[answering(0, request, 0, 3)]);
-    taken(answer(alloc, world, 0, request, 0))?;
-    Ok([fault_of(filed), fault_of(asked)])
-}
-
-/// Why an event was refused, if it was.
-fn fault_of(ran: Ran) -> Option<StepFault> {
-    match ran {
-        Ok(()) => None,
-        Err((_, fault)) => Some(fault),
-    }
-}
+/// Files and answers, files what is refused, and looks; asks for a party of none, which is refused too, and answers with no
+/// budget.
+const REFUSED_BETWEEN: [&[Step]; 4] = [
+    &[Step::FileCheaper, Step::Look(0), Step::Answer(0, 1, 3)],
+    &[Step::FileNothing],
+    &[Step::Look(0), Step::Answer(0, 0, 3)],
+    &[Step::Answer(0, 1, 0)],
+];
 
 /// A filing is taken or leaves the version as it was, and so does a party of none with what the desk has looked at. Three
 /// residuals are over a budget of none.
 #[test]
 fn takes_a_filing_or_leaves_the_version(rt: HostRuntime) -> Result<(), Fail> {
-    let (mut world, request) = world_of(&rt, ROUND_TRIP, 1)?;
-    let refused = refused_between(rt.alloc(), &mut world, &request)?;
+    let (ran, told) = play(rt.alloc(), 1, &REFUSED_BETWEEN)?;
     let no_fare = Refused {
         action: 1,
         why: BookWhy::NoFare,
     };
     let faults = [
-        Some(StepFault::BadFiling(no_fare)),
-        Some(StepFault::BadSearch(Why::Party)),
+        Ok(()),
+        Err((0, StepFault::BadFiling(no_fare))),
+        Err((1, StepFault::BadSearch(Why::Party))),
+        Ok(()),
     ];
-    assert_eq!(rt; refused, faults);
+    assert_eq!(rt; ran.as_slice(), faults.as_slice());
     let expected = (2, Some((0, 2, Some(30000))), Some((0, 2, None)));
-    assert_eq!(rt; all_told(&world), expected);
+    assert_eq!(rt; told, expected);
     Ok(())
 }
 
 /// An answer before any look, a look of a desk that isn't there, a look and two answers at a time, and a keep after them.
-fn out_of_turn(alloc: Global, world: &mut World, request: &Request) -> Result<[Ran; 4], Fail> {
-    let unseen = answer(alloc, world, 0, request, 3);
-    let stranger = look(alloc, world, 1);
-    let events = [
-        Event::Look { desk: 0 },
-        answering(0, request, 1, 3),
-        answering(0, request, 1, 3),
-    ];
-    let twice = run(alloc, world, &events);
-    let kept = keep(alloc, world, 0)?;
-    Ok([unseen, stranger, twice, kept])
-}
+const OUT_OF_TURN: [&[Step]; 4] = [
+    &[Step::Answer(0, 1, 3)],
+    &[Step::Look(1)],
+    &[Step::Look(0), Step::Answer(0, 1, 3), Step::Answer(0, 1, 3)],
+    &[Step::Keep(0)],
+];
 
 /// A desk that isn't there, and one that has not looked since its last answer, whose answer stays.
 #[test]
 fn refuses_desks_out_of_turn(rt: HostRuntime) -> Result<(), Fail> {
-    let (mut world, request) = world_of(&rt, ROUND_TRIP, 1)?;
-    let ran = out_of_turn(rt.alloc(), &mut world, &request)?;
+    let (ran, told) = play(rt.alloc(), 1, &OUT_OF_TURN)?;
     let faults = [
         Err((0, StepFault::NotNow)),
         Err((0, StepFault::NoDesk)),
         Err((2, StepFault::NotNow)),
         Err((0, StepFault::NotNow)),
     ];
-    assert_eq!(rt; ran, faults);
+    assert_eq!(rt; ran.as_slice(), faults.as_slice());
     let only = Some((0, 1, Some(40000)));
-    assert_eq!(rt; all_told(&world), (1, only, only));
+    assert_eq!(rt; told, (1, only, only));
     Ok(())
 }
