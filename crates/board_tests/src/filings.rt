@@ -12,6 +12,8 @@ use fare_law::{
 use std::alloc::Global;
 use std::sync::Arc;
 
+pub const QX: Carrier = Carrier(*b"QX");
+
 pub const LON: Place = Place(*b"LON");
 
 pub const NYC: Place = Place(*b"NYC");

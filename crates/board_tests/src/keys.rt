@@ -2,18 +2,13 @@
 ghost use Rattle.std.specs.Prelude.{IfOk};
 ghost use Rattle.fare_component.specs.Keys.{IsKey};
 
+use crate::filings::{LON, NYC, QX};
 use fare_law::{
-    ArrayVec, Basis, Carrier, Fare, FareKey, FareKind, Flight, Leg, List, MarketSheet, Mem,
-    OfferKey, Place, Rule, Shared, SheetRow,
+    ArrayVec, Basis, Fare, FareKey, FareKind, Flight, Leg, List, MarketSheet, Mem, OfferKey, Rule,
+    Shared, SheetRow,
 };
 use std::alloc::Global;
 use std::sync::Arc;
-
-const LON: Place = Place(*b"LON");
-
-const NYC: Place = Place(*b"NYC");
-
-const OURS: Carrier = Carrier(*b"QX");
 
 /// The key of QX 101 on 2031-03-03 and a sheet of one fare.
 pub fn key(alloc: Global) -> Result<OfferKey, Mem>
@@ -22,7 +17,7 @@ pub fn key(alloc: Global) -> Result<OfferKey, Mem>
     let mut legs = ArrayVec::new();
     legs.push(Leg {
         flight: Flight {
-            carrier: OURS,
+            carrier: QX,
             number: 101,
             from: LON,
             to: NYC,
@@ -39,7 +34,7 @@ pub fn key(alloc: Global) -> Result<OfferKey, Mem>
     rows.push(SheetRow {
         fare: Fare {
             key: FareKey {
-                carrier: OURS,
+                carrier: QX,
                 from: LON,
                 to: NYC,
                 basis: Basis(letters),

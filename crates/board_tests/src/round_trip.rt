@@ -4,17 +4,13 @@ ghost use Rattle.std.specs.Prelude.{IfOk};
 ghost use Rattle.std.specs.Arc.{arc_value};
 ghost use Rattle.fare_law.specs.FilingLimits.{IsFiling};
 
-use crate::filings::{LON, NYC, Y, fare_key, filing, put, seats};
+use crate::filings::{LON, NYC, QX, Y, fare_key, filing, put, seats};
 use fare_book::Book;
-use fare_law::{
-    ArrayVec, Carrier, FareKind, Filing, FlightRow, List, Mem, PlaceRow, Request, Slice,
-};
+use fare_law::{ArrayVec, FareKind, Filing, FlightRow, List, Mem, PlaceRow, Request, Slice};
 use schedule_book::Schedule;
 use std::alloc::Global;
 use std::sync::Arc;
 use std::test::Fail;
-
-pub const QX: Carrier = Carrier(*b"QX");
 
 const PLACES: [PlaceRow; 2] = [
     PlaceRow {

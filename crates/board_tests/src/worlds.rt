@@ -1,11 +1,11 @@
 //! Events on a world.
-ghost use Rattle.std.specs.Prelude.{◌<◌, ◌^◌, All, IfOk, vec_len};
+ghost use Rattle.std.specs.Prelude.{All, IfOk};
 ghost use Rattle.fare_law.specs.FilingLimits.{IsAction};
 ghost use Rattle.run_core.specs.Worlds.{IsEvent};
 
-use crate::filings::{LON, NYC, Y, fare_key, filing_of, put};
+use crate::filings::{LON, NYC, QX, Y, fare_key, filing_of, put};
 use crate::keys::key;
-use crate::round_trip::{QX, book, request};
+use crate::round_trip::{book, request};
 use fare_law::{Action, BookWhy, FareKind, Mem, Refused, Why};
 use run_core::{Event, Outcome, Recorded, StepFault, World, run};
 use std::alloc::Global;
@@ -66,7 +66,6 @@ fn event_of(alloc: Global, step: Step) -> Result<Event, Mem>
     }
 }
 
-/// The events of at most so many steps.
 fn events_of(alloc: Global, steps: &[Step]) -> Result<Vec<Event>, Mem>
     ensures { IfOk result (λ events. All IsEvent events.items) }
 {
@@ -77,13 +76,14 @@ fn events_of(alloc: Global, steps: &[Step]) -> Result<Vec<Event>, Mem>
     Ok(events)
 }
 
-/// What comes of these steps, one after the other.
+/// What comes of at most eight steps, one after the other.
 fn follow(alloc: Global, world: &mut World, steps: &[Step]) -> Result<Ran, Mem> {
     let events = events_of(alloc, steps)?;
+    let events = events.as_slice();
     if events.len() > 8 {
         return Err(Mem);
     }
-    Ok(run(alloc, world, events.as_slice()))
+    Ok(run(alloc, world, events))
 }
 
 /// The desk of an answer, its version, and the least price, or `None` for too large.
