@@ -1,5 +1,5 @@
 //! Desks that search, learn of what was filed meanwhile, and search again.
-ghost use Rattle.std.specs.Prelude.{◌≡◌, All, IfOk};
+ghost use Rattle.std.specs.Prelude.{◌≡◌, ◌<◌, ◌≤◌, All, IfOk};
 ghost use Rattle.fare_law.specs.FilingLimits.{IsAction};
 ghost use Rattle.fare_versions.specs.Seen.{HasSeen};
 
@@ -179,8 +179,8 @@ fn in_turn<R: Wait>(
     Ok((before, after))
 }
 
-/// What two desks of a house of their own find.
-fn play<R: Wait>(
+/// What two desks of a house of their own find, with this store.
+fn play_with<R: Wait>(
     rt: &R,
     alloc: Global,
     store: &NodeStore,
@@ -190,6 +190,19 @@ fn play<R: Wait>(
     let found = in_turn(rt, alloc, &mut clerk, watches, store, turns);
     clerk.end(rt);
     found
+}
+
+/// The same with a store of so many cells.
+fn play<R: Wait>(
+    rt: &R,
+    alloc: Global,
+    cells: u32,
+    turns: &Turns,
+) -> Result<(Vec<Found>, Vec<Found>), Fail>
+    requires { (0 < cells) × (cells ≤ 65536) }
+{
+    let store = NodeStore::new(alloc, cells)?;
+    play_with(rt, alloc, &store, turns)
 }
 
 const ONE_DESK: Turns = Turns {
@@ -208,8 +221,7 @@ const ONE_DESK: Turns = Turns {
 /// Each version has a sheet of its own, so each but the first builds a node, and the last search finds it.
 #[test]
 fn searches_what_it_learnt(rt: HostRuntime) -> Result<(), Fail> {
-    let store = NodeStore::new(rt.alloc(), 64)?;
-    let (alone, _none) = play(&rt, rt.alloc(), &store, &ONE_DESK)?;
+    let (alone, _none) = play(&rt, rt.alloc(), 64, &ONE_DESK)?;
     let expected = [
         a_search(0, 0, None, 0),
         a_search(1, 1, Some(20000), 1),
@@ -234,8 +246,7 @@ const BESIDE: Turns = Turns {
 
 #[test]
 fn shares_one_cell(rt: HostRuntime) -> Result<(), Fail> {
-    let store = NodeStore::new(rt.alloc(), 1)?;
-    let (first, second) = play(&rt, rt.alloc(), &store, &BESIDE)?;
+    let (first, second) = play(&rt, rt.alloc(), 1, &BESIDE)?;
     assert_eq!(rt;
         first.as_slice(),
         [a_search(1, 1, Some(20000), 1)].as_slice()
@@ -259,8 +270,7 @@ const AFTER: Turns = Turns {
 
 #[test]
 fn keeps_what_a_dropped_desk_built(rt: HostRuntime) -> Result<(), Fail> {
-    let store = NodeStore::new(rt.alloc(), 64)?;
-    let (first, second) = play(&rt, rt.alloc(), &store, &AFTER)?;
+    let (first, second) = play(&rt, rt.alloc(), 64, &AFTER)?;
     assert_eq!(rt;
         first.as_slice(),
         [a_search(1, 1, Some(20000), 1)].as_slice()
@@ -288,8 +298,7 @@ const AROUND: Turns = Turns {
 /// What another market's filing leaves as it was is found and not built again.
 #[test]
 fn builds_nothing_for_another_market(rt: HostRuntime) -> Result<(), Fail> {
-    let store = NodeStore::new(rt.alloc(), 64)?;
-    let (alone, _none) = play(&rt, rt.alloc(), &store, &AROUND)?;
+    let (alone, _none) = play(&rt, rt.alloc(), 64, &AROUND)?;
     let expected = [
         a_search(1, 1, Some(20000), 1),
         a_search(2, 1, Some(20000), 0),

@@ -204,18 +204,27 @@ fn served<G: Gate + Sync, R: Threads + Wait + Sync>(
     Ok((status, sink))
 }
 
-#[test]
-fn searches_while_filings_come(rt: HostRuntime) -> Result<(), Fail> {
+/// The status of a run whose desks and clerk are held, what it wrote, and how its gate was called.
+fn held<R: Threads + Wait + Sync>(
+    rt: &R,
+    alloc: Global,
+) -> Result<(Status, MemSink, [bool; 4]), Fail> {
     let gate = Holding {
         filing: Count::new(),
         building: Count::new(),
         answered: Count::new(),
         given_up: Count::new(),
     };
-    let (status, sink) = served(&rt, rt.alloc(), &[TWO_DESKS], &gate)?;
+    let (status, sink) = served(rt, alloc, &[TWO_DESKS], &gate)?;
+    Ok((status, sink, gate.called()))
+}
+
+#[test]
+fn searches_while_filings_come(rt: HostRuntime) -> Result<(), Fail> {
+    let (status, sink, called) = held(&rt, rt.alloc())?;
     assert_eq!(rt; status, Status::Done);
     assert_eq!(rt; sink.as_slice(), OLD_AND_NEW.as_bytes());
-    assert_eq!(rt; gate.called(), [true, true, true, false]);
+    assert_eq!(rt; called, [true, true, true, false]);
     Ok(())
 }
 

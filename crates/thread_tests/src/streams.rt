@@ -42,23 +42,35 @@ fn only_call(alloc: Global, number: u32) -> Result<List<u32>, AllocError> {
     Ok(List::from_vec(vec![in alloc; number]?))
 }
 
+// The status of a run whose source fails, and what it wrote.
+fn with_failing_source(alloc: Global) -> Result<(Status, MemSink), Fail> {
+    let words = words(alloc)?;
+    let mut source = FailSource::new(bytes(alloc)?, only_call(alloc, 1)?);
+    let mut sink = MemSink::new(alloc, 1000)?;
+    let status = ended(alloc, words.as_slice(), &mut source, &mut sink);
+    Ok((status, sink))
+}
+
 #[test]
 fn tells_a_failing_source(rt: HostRuntime) -> Result<(), Fail> {
-    let words = words(rt.alloc())?;
-    let mut source = FailSource::new(bytes(rt.alloc())?, only_call(rt.alloc(), 1)?);
-    let mut sink = MemSink::new(rt.alloc(), 1000)?;
-    let status = ended(rt.alloc(), words.as_slice(), &mut source, &mut sink);
+    let (status, sink) = with_failing_source(rt.alloc())?;
     assert_eq!(rt; status, Status::ReadFault);
     assert_eq!(rt; sink.as_slice(), b"".as_slice());
     Ok(())
 }
 
+// The status of a run whose sink takes four bytes a call and fails at the second, and what it wrote.
+fn with_failing_sink(alloc: Global) -> Result<(Status, FailSink), Fail> {
+    let words = words(alloc)?;
+    let mut source = MemSource::new(bytes(alloc)?);
+    let mut sink = FailSink::new(alloc, 1000, 4, only_call(alloc, 2)?)?;
+    let status = ended(alloc, words.as_slice(), &mut source, &mut sink);
+    Ok((status, sink))
+}
+
 #[test]
 fn tells_a_failing_sink(rt: HostRuntime) -> Result<(), Fail> {
-    let words = words(rt.alloc())?;
-    let mut source = MemSource::new(bytes(rt.alloc())?);
-    let mut sink = FailSink::new(rt.alloc(), 1000, 4, only_call(rt.alloc(), 2)?)?;
-    let status = ended(rt.alloc(), words.as_slice(), &mut source, &mut sink);
+    let (status, sink) = with_failing_sink(rt.alloc())?;
     assert_eq!(rt; status, Status::WriteFault);
     assert_eq!(rt; sink.as_slice(), b"vers".as_slice());
     Ok(())
