@@ -26,7 +26,7 @@ struct Visited {
 impl PathVisitor for Visited {
     ghost told = { λ s paths. s.paths.items ≡ paths };
 
-    ghost knows = { λ tails. ⊤ };
+    ghost knows = { λ tails numbers. ⊤ };
 
     fn visit(&mut self, path: &Path) -> Result<(), Mem> {
         self.paths.push(path.copied())?;

@@ -15,5 +15,5 @@ pub mod KindFacts
 pub mod RowFacts
 pub mod NetworkFacts
 pub mod Wanted
-pub mod Idling
+pub mod GapFacts
 pub mod Meeting

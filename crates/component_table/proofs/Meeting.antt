@@ -1,16 +1,15 @@
 -- Tails that add nothing after a head that was met.
-use Rattle.std.proofs.Common.{◌≡◌, ◌≢◌, ◌⊎◌, ◌≤◌, ◌<◌, ℕ, Bool, List, [], ◌∷◌, Option, Some, ℤ, get_or, length, slice_get, sym, subst, ◌∙◌, inl, inr, arith}
-use Rattle.std.proofs.lemmas.Bool.{cases_lt}
-use Rattle.component_table.specs.declared.idle_ends.CarrierEnds.{CarrierEnds}
+use Rattle.std.proofs.Common.{◌≡◌, ◌≢◌, ◌≤◌, ◌<◌, ℕ, List, [], ◌∷◌, Some, ℤ, get_or, length, refl, slice_get, sym, subst, ◌∙◌, inl, inr, arith}
+use Rattle.component_table.specs.declared.gaps.Gap.{Gap}
 use Rattle.component_table.specs.declared.kinds.TailClass.{TailClass}
 use Rattle.component_table.specs.declared.kinds.TailKind.{TailKind}
 use Rattle.component_table.specs.declared.rows.HeadKind.{HeadKind}
 use Rattle.component_table.specs.declared.rows.Row.{Row}
 use Rattle.component_table.specs.declared.skipping.Met.{Met}
 use Rattle.component_table.specs.Classes.{ClassDone}
-use Rattle.component_table.specs.Idle.{AreIdleFlags, EndIdle, IsFlagged, IsIdleTail}
+use Rattle.component_table.specs.Gaps.{AreIdleTails, IsIdleTail, ended}
 use Rattle.component_table.specs.Kinds.{joined_class}
-use Rattle.component_table.specs.Meetings.{AddNothing, HasMet}
+use Rattle.component_table.specs.Meetings.{HasMet, NeedsNone}
 use Rattle.component_table.specs.Rows.{AreRows, IsKnownTail, IsRow, IsRowAt, TailAddsNothing}
 use Rattle.component_table.specs.Tails.{EndsAt}
 use Rattle.component_table.proofs.Halves.{halves, joint_class}
@@ -53,46 +52,35 @@ pub told_by_row : (b : Book) (q : Request) (at : Position) (classes : List TailC
 told_by_row b q at classes table rows k are row n mask c known got =
     subst (λ x. ClassDone b q at (record { class = joined_class x c; classes = mask }) table) row.class_is (each_in (IsRow b q at classes table) rows row.row are (got_in rows k.row row.row row.stands) n mask c known got)
 
-module _ (m : Met) (masks : List (Option ℕ)) (head : List ℕ) (tails : List Path) (kept : List CarrierEnds) (table : List Entry) (has : HasMet m masks head tails kept table) where
+module _ (b : Book) (q : Request) (at : Position) (m : Met) (gaps : List Gap) (head : List ℕ) (tails : List Path) (table : List Entry) (has : HasMet b q at m gaps head tails table) where
   -- a tail of which a row tells enough
-  pub known_adds : (number : ℕ) → IsKnownTail m.kinds.now.of.items masks m.head.classes number → TailAddsNothing m.origin.book.now m.origin.request.now m.origin.at.now tails table head number
+  known_adds : (number : ℕ) → IsKnownTail m.tails.kinds.now.of.items m.masks.now m.head.classes number → TailAddsNothing b q at tails table head number
   known_adds number known = λ tail got.
       let kind = has.kinds number known.kind tail known.stands got in
-      tail_nothing m.origin.book.now m.origin.request.now m.origin.at.now head m.head m.kinds.now.classes.items tail known.kind kind.class known.mask table has.head_is kind kind.stands (has.row known.kind.class known.mask kind.class known.known kind.stands) known.among
+      tail_nothing b q at head m.head m.tails.kinds.now.classes.items tail known.kind kind.class known.mask table has.head_is kind kind.stands (has.row known.kind.class known.mask kind.class known.known kind.stands) known.among
 
   -- a tail whose end is idle for the head's carrier
-  pub idle_adds : length m.ends.now.of.items ≤ length m.kinds.now.of.items → (number end : ℕ) → slice_get m.ends.now.of.items number ≡ Some end
-      → ((place : Place) → slice_get m.ends.now.places.keys end ≡ Some place → EndIdle m.origin.book.now m.origin.request.now m.origin.at.now m.head.class.carrier place) → TailAddsNothing m.origin.book.now m.origin.request.now m.origin.at.now tails table head number
-  idle_adds few number end of idle = λ tail got path flights after is.
-      let b = m.origin.book.now in
+  idle_adds : length m.tails.ends.now.of.items ≤ length m.tails.kinds.now.of.items → (number : ℕ) → IsIdleTail b q at.place m.tails.ends.now.places.keys m.tails.ends.now.of.items m.head.class.carrier number → TailAddsNothing b q at tails table head number
+  idle_adds few number idle = λ tail got path flights after is.
+      let classes = m.tails.kinds.now.classes.items in
       let none : TailKind = record { class = 0; classes = 0 } in
-      let there = got_read m.kinds.now.of.items number none (omega (arith, got_within m.ends.now.of.items number end of, few)) in
-      let k = get_or m.kinds.now.of.items number none in
+      let there = got_read m.tails.kinds.now.of.items number none (omega (arith, got_within m.tails.ends.now.of.items number idle.end idle.of, few)) in
+      let k = get_or m.tails.kinds.now.of.items number none in
       let kind = has.kinds number k tail there got in
-      let own = subst (λ l. Numbers b l is.0) flights (path_numbers b m.origin.request.now m.origin.at.now path.flights is.0 path.after is.1) in
+      let own = subst (λ l. Numbers b l is.0) flights (path_numbers b q at path.flights is.0 path.after is.1) in
       let parts = halves b head tail.flights is.0 own in
       let last = kind.ends parts.back parts.backs in
-      let at_end = matched_at (λ (t : Path) n. (fs : List Flight) → Numbers b t.flights fs → fs ≢ [] → EndsAt m.ends.now.places.keys n fs) tails m.ends.now.of.items number tail has.ends got in
+      let at_end = matched_at (λ (t : Path) n. (fs : List Flight) → Numbers b t.flights fs → fs ≢ [] → EndsAt m.tails.ends.now.places.keys n fs) tails m.tails.ends.now.of.items number tail has.ends got in
       let ends = at_end.2 parts.back parts.backs (some_last _ parts.back last) in
-      let same = some_one (slice_get m.ends.now.of.items number) at_end.0 end at_end.1 of in
+      let same = some_one (slice_get m.tails.ends.now.of.items number) at_end.0 idle.end at_end.1 idle.of in
       let place = one_end parts.back kind.class ends.place last ends.ends in
-      idle ends.place (subst (λ n. slice_get m.ends.now.places.keys n ≡ Some ends.place) same ends.stands) path table (λ fs known.
-      let joint = joint_class b m.origin.request.now head m.head m.kinds.now.classes.items tail k has.head_is kind path.after after fs (subst (λ l. Numbers b l fs) flights known) in
+      idle.idle ends.place (subst (λ n. slice_get m.tails.ends.now.places.keys n ≡ Some ends.place) same ends.stands) at refl path table (λ fs known.
+      let joint = joint_class b q head m.head classes tail k has.head_is kind path.after after fs (subst (λ l. Numbers b l fs) flights known) in
       (first_is fs m.head.class.first m.head.class.carrier joint.first, on_last_to (λ f. (f.to ≡ kind.class.end) × (f.day ≡ kind.class.last)) (λ f. f.to ≡ ends.place) fs (λ f h. h.0 ∙ place) joint.last))
 
-  -- one with a flag that is set
-  pub flagged_adds : length m.ends.now.of.items ≤ length m.kinds.now.of.items → (flags : List Bool) → AreIdleFlags m.origin.book.now m.origin.request.now m.origin.at.now m.ends.now.places.keys m.head.class.carrier flags → (number : ℕ) → IsFlagged m.ends.now.of.items flags number
-      → TailAddsNothing m.origin.book.now m.origin.request.now m.origin.at.now tails table head number
-  flagged_adds few flags are number x = idle_adds few number x.end x.of (λ place stands. are x.end place x.flag stands)
-
-  pub asked_adds : length m.ends.now.of.items ≤ length m.kinds.now.of.items → (number : ℕ) → IsIdleTail m.origin.book.now m.origin.request.now m.origin.at.now m.ends.now m.head.class.carrier number → TailAddsNothing m.origin.book.now m.origin.request.now m.origin.at.now tails table head number
-  asked_adds few number x = idle_adds few number x.end x.of x.idle
-
-  -- the tails before a place add nothing, where those before another do and those between are flagged or known
-  pub passed_adds : length m.ends.now.of.items ≤ length m.kinds.now.of.items → (flags : List Bool) → AreIdleFlags m.origin.book.now m.origin.request.now m.origin.at.now m.ends.now.places.keys m.head.class.carrier flags → (numbers : List ℕ) (from to : ℕ)
-      → ((i number : ℕ) → from ≤ i → i < to → slice_get numbers i ≡ Some number → IsFlagged m.ends.now.of.items flags number ⊎ IsKnownTail m.kinds.now.of.items masks m.head.classes number)
-      → AddNothing m head tails table numbers from → AddNothing m head tails table numbers to
-  passed_adds few flags are numbers from to passed before = λ i number lt got. elim (cases_lt i from) [
-    | inl k ↦ before i number k got
-    | inr k ↦ elim (passed i number k lt got) [ inl x ↦ flagged_adds few flags are number x | inr x ↦ known_adds number x ]
+  -- the tails that the head needs not
+  pub none_adds : length m.tails.ends.now.of.items ≤ length m.tails.kinds.now.of.items → (from to : ℕ) → NeedsNone m gaps from to → (i number : ℕ) → from ≤ i → i < to → slice_get m.tails.some.numbers.now i ≡ Some number → TailAddsNothing b q at tails table head number
+  none_adds few from to none i number low high got = elim (none i number low high got) [
+    | inl x ↦ idle_adds few number (each_in (λ (g : Gap). AreIdleTails b q at.place (ended m.tails) m.head.class.carrier g.from g.to) gaps x.0 has.idle x.1 i number x.2 x.3 got)
+    | inr x ↦ known_adds number x
   ]

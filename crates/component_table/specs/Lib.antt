@@ -10,5 +10,5 @@ pub mod Blocks
 pub mod Rows
 pub mod Joints
 pub mod Putting
-pub mod Idle
+pub mod Gaps
 pub mod Meetings

@@ -4,6 +4,8 @@ use Rattle.component_table.specs.declared.networks.FareTails.{FareTails}
 use Rattle.component_table.specs.declared.networks.Network.{Network}
 use Rattle.component_table.specs.declared.networks.PlaceTails.{PlaceTails}
 use Rattle.component_table.specs.declared.networks.SliceTails.{SliceTails}
+use Rattle.component_table.specs.declared.gaps.CarrierGaps.{CarrierGaps}
+use Rattle.component_table.specs.Gaps.{AreCarrierGaps, EndedTails, ended}
 use Rattle.component_table.specs.Kinds.{AreKinds}
 use Rattle.component_table.specs.Markets.{AreMarkets}
 use Rattle.component_table.specs.Masks.{AreMasks}
@@ -21,12 +23,17 @@ use Rattle.flight_paths.specs.Marks.{AreMarks}
 abbrev pub AreTailsOver : Book → List Slice → ℕ → List Path → Type 0
 AreTailsOver b slices i tails = (x : Book) → x.timetable.places ≡ b.timetable.places → x.timetable.flights ≡ b.timetable.flights → AreTails x slices i tails
 
--- These are numbers of tails of a slice: of each that ends where a fare is filed from the place or to it.
+-- where the tails end, and the numbers of those that a place needs
+abbrev pub ended_among : SliceTails → FareTails → EndedTails
+ended_among s t = record { places = s.ends.places.keys; ends = s.ends.of.items; numbers = t.numbers }
+
+-- These are numbers of tails of a slice: of each that ends where a fare is filed from the place or to it, with gaps of carriers among them.
 pub record AreFareTailsOf (b : Book) (q : Request) (tails : List SliceTails) (t : FareTails) : Type 0 where
   pub among : SliceTails
   pub stands : slice_get tails t.among ≡ Some among
   pub within : Each (λ n. n < length among.paths) t.numbers
   pub are : AreTailsFrom b q t.place t.slice (chosen among.paths t.numbers)
+  pub gaps : AreCarrierGaps b q t.place (ended_among among t) t.gaps.items
 
 -- The markets are the book's, the masks are those of its flights, each list of tails is that of its slice, their marks and what is known of them hold of their flights, they end where it is said, and each list of numbers is of those of them that its place needs.
 pub record IsNetwork (b : Book) (q : Request) (n : Network) : Type 0 where
@@ -51,3 +58,15 @@ pub record ArePlaceTails (b : Book) (q : Request) (place : Place) (slice : ℕ) 
   pub marks : AreMarks b.timetable.flights t.some.all.now t.some.marks.now
   pub kinds : AreKinds b q t.some.all.now t.kinds.now
   pub ends : AreEnds b t.some.all.now t.ends.now
+
+-- the gaps are those of carriers among the tails that stand there
+abbrev pub AreGapsAt : Book → Request → Network → ℕ → List CarrierGaps → Type 0
+AreGapsAt b q n at gaps = (t : FareTails) (among : SliceTails) → slice_get n.fare_tails.items at ≡ Some t → slice_get n.tails.items t.among ≡ Some among → AreCarrierGaps b q t.place (ended_among among t) gaps
+
+-- These are the tails that stand there.
+pub record AreTailsAt (n : Network) (at : ℕ) (p : PlaceTails) : Type 0 where
+  pub tails : FareTails
+  pub stands : slice_get n.fare_tails.items at ≡ Some tails
+  pub among : SliceTails
+  pub among_stands : slice_get n.tails.items tails.among ≡ Some among
+  pub ended_is : ended p ≡ ended_among among tails

@@ -1,11 +1,12 @@
 //! What is found once for a search, and kept for all its positions.
 ghost use Rattle.std.specs.Prelude.{◌<◌, ℕ, IfOk, IfSome};
-ghost use Rattle.component_table.specs.Networks.{ArePlaceTails, IsNetwork, TailsStand};
+ghost use Rattle.component_table.specs.Networks.{AreGapsAt, ArePlaceTails, AreTailsAt, IsNetwork, TailsStand};
 ghost use Rattle.component_table.specs.Tails.{FareTailsStand};
 ghost use Rattle.fare_law.specs.declared.names.Place.{Place as PlaceName};
 ghost use Rattle.fare_law.specs.declared.requests.Request.{Request as Asked};
 ghost use Rattle.fare_law.specs.Book.{Book as Version};
 
+use crate::gaps::CarrierGaps;
 use crate::gathering::schedule_of;
 use crate::kinds::{Kinds, kinds_of};
 use crate::markets::Markets;
@@ -17,6 +18,7 @@ use fare_law::{List, Mem, Place, Request};
 use flight_paths::{Path, SomeTails, marks_of, tails};
 use indexmap::IndexMap;
 use std::alloc::Global;
+use std::mem;
 
 /// The tails of a slice.
 #[derive(Drop)]
@@ -40,6 +42,8 @@ pub struct FareTails {
     pub among: usize,
     /// Their numbers among those of the slice.
     pub numbers: List<usize>,
+    /// Those that the heads of a carrier don't need, by carriers, as far as they were asked for.
+    pub gaps: Vec<CarrierGaps>,
 }
 
 /// The tails of a slice that a place needs, and what is known of the tails of the slice, and where they end.
@@ -64,9 +68,14 @@ pub struct Network {
     pub masks: Masks,
     pub tails: Vec<SliceTails>,
     pub fare_tails: Vec<FareTails>,
+    /// How many more gaps may be kept.
+    pub room: usize,
     /// Where the tails of a slice that a place needs may stand.
     pub places: IndexMap<TailsKey, usize>,
 }
+
+/// So many gaps are kept at most, but for those of one carrier: some 64 megabytes.
+const MOST_GAPS: usize = 4_000_000;
 
 impl Network {
     /// Nothing yet.
@@ -78,6 +87,7 @@ impl Network {
             masks: Masks::new(alloc),
             tails: Vec::new(alloc),
             fare_tails: Vec::new(alloc),
+            room: MOST_GAPS,
             places: IndexMap::new(alloc),
         }
     }
@@ -139,6 +149,7 @@ impl Network {
             slice,
             among,
             numbers,
+            gaps: Vec::new(alloc),
         })?;
         Ok(at)
     }
@@ -147,7 +158,8 @@ impl Network {
     pub fn tails_at(&self, book: &Book, request: &Request, at: usize) -> PlaceTails<'_>
         requires network { IsNetwork book.now request.now self.now }
         requires tails { (place : PlaceName) × (slice : ℕ) × FareTailsStand self.now.fare_tails.items place slice at }
-        ensures { (place : PlaceName) (slice : ℕ) → FareTailsStand self.now.fare_tails.items place slice at → ArePlaceTails book.now request.now place slice result }
+        ensures tails { (place : PlaceName) (slice : ℕ) → FareTailsStand self.now.fare_tails.items place slice at → ArePlaceTails book.now request.now place slice result }
+        ensures at { AreTailsAt self.now at result }
     {
         let _ = book;
         let _ = request;
@@ -161,6 +173,38 @@ impl Network {
             },
             kinds: &slice.kinds,
             ends: &slice.ends,
+        }
+    }
+
+    /// Takes the gaps of the tails that stand there, which then have none.
+    pub fn take_gaps(
+        &mut self,
+        alloc: Global,
+        book: &Book,
+        request: &Request,
+        at: usize,
+    ) -> Vec<CarrierGaps>
+        requires network { IsNetwork book.now request.now self.old }
+        requires tails { (place : PlaceName) × (slice : ℕ) × FareTailsStand self.old.fare_tails.items place slice at }
+        ensures network { IsNetwork book.now request.now self.new }
+        ensures tails { (place : PlaceName) (slice : ℕ) → FareTailsStand self.old.fare_tails.items place slice at → FareTailsStand self.new.fare_tails.items place slice at }
+        ensures gaps { AreGapsAt book.now request.now self.new at result.items }
+    {
+        let _ = book;
+        let _ = request;
+        mem::replace(&mut self.fare_tails[at].gaps, Vec::new(alloc))
+    }
+
+    /// Gives gaps to the tails that stand there.
+    pub fn put_gaps(&mut self, book: &Book, request: &Request, at: usize, gaps: Vec<CarrierGaps>)
+        requires network { IsNetwork book.now request.now self.old }
+        requires gaps { AreGapsAt book.now request.now self.old at gaps.items }
+        ensures network { IsNetwork book.now request.now self.new }
+    {
+        let _ = book;
+        let _ = request;
+        if at < self.fare_tails.len() {
+            self.fare_tails[at].gaps = gaps;
         }
     }
 }

@@ -1,11 +1,14 @@
 //! The table of a position, path by path.
 ghost use Rattle.std.specs.Prelude.{◌≡◌, ◌<◌, ◌+◌, IfOk, length};
+ghost use Rattle.component_table.specs.Gaps.{AreCarrierGaps, ended};
 ghost use Rattle.component_table.specs.Markets.{AreMarkets};
 ghost use Rattle.component_table.specs.Masks.{AreMasks};
 ghost use Rattle.component_table.specs.Networks.{ArePlaceTails, IsNetwork};
 ghost use Rattle.component_table.specs.Tables.{IsTable};
+ghost use Rattle.component_table.specs.Tails.{FareTailsStand};
 ghost use Rattle.fare_law.specs.Limits.{IsRequest};
 
+use crate::gaps::Gaps;
 use crate::gathering::schedule_of;
 use crate::markets::Markets;
 use crate::masks::Masks;
@@ -43,23 +46,55 @@ pub fn outlines_of(
         request,
         at: position,
     };
-    let markets = mem::replace(&mut network.markets, Markets::new(alloc));
-    let masks = mem::replace(&mut network.masks, Masks::new(alloc));
-    let tails = network.tails_at(book, request, at);
-    let made = made::<Brand>(alloc, &origin, &tails, markets, masks)?;
-    network.markets = made.markets;
-    network.masks = made.masks;
-    Ok(List::from_vec(made.entries))
+    table_over(alloc, &origin, network, at)
 }
 
-/// The table of a position, by the tails of the next slice that its place needs. The markets and the masks then have
-/// those that it needed.
+/// The table of a position, by the tails that its place needs, which stand there.
+fn table_over(
+    alloc: Global,
+    origin: &Origin<'_>,
+    network: &mut Network,
+    at: usize,
+) -> Result<List<Entry>, Mem>
+    requires known { origin.now.at.now.slice < length origin.now.request.now.slices }
+    requires network { IsNetwork origin.now.book.now origin.now.request.now network.old }
+    requires tails { FareTailsStand network.old.fare_tails.items origin.now.at.now.place (origin.now.at.now.slice + 1) at }
+    ensures network { IsNetwork origin.now.book.now origin.now.request.now network.new }
+    ensures table { IfOk result (IsTable origin.now.book.now origin.now.request.now origin.now.at.now) }
+{
+    let book = origin.book;
+    let request = origin.request;
+    let markets = mem::replace(&mut network.markets, Markets::new(alloc));
+    let masks = mem::replace(&mut network.masks, Masks::new(alloc));
+    let kept = network.take_gaps(alloc, book, request, at);
+    let gaps = Gaps::new(kept, network.room);
+    let tails = network.tails_at(book, request, at);
+    let made = made::<Brand>(alloc, origin, &tails, markets, masks, gaps)?;
+    let Made {
+        entries,
+        markets,
+        masks,
+        gaps,
+    } = made;
+    network.markets = markets;
+    network.masks = masks;
+    network.room = gaps.room;
+    // Without room those of this place are let go.
+    if gaps.room > 0 {
+        network.put_gaps(book, request, at, gaps.kept);
+    }
+    Ok(List::from_vec(entries))
+}
+
+/// The table of a position, by the tails of the next slice that its place needs. The markets, the masks
+/// and the gaps then have those that it needed.
 fn made<S: Scene>(
     alloc: Global,
     origin: &Origin<'_>,
     tails: &PlaceTails<'_>,
     markets: Markets,
     masks: Masks,
+    gaps: Gaps,
 ) -> Result<Made, Mem>
     requires book { origin.now.book.now ≡ S.book }
     requires request { origin.now.request.now ≡ S.request }
@@ -69,11 +104,14 @@ fn made<S: Scene>(
     requires masks { AreMasks origin.now.book.now origin.now.request.now masks }
     requires all { tails.now.some.all.now ≡ S.tails }
     requires tails { ArePlaceTails origin.now.book.now origin.now.request.now origin.now.at.now.place (origin.now.at.now.slice + 1) tails.now }
+    requires ended { ended tails.now ≡ S.ended }
+    requires gaps { AreCarrierGaps origin.now.book.now origin.now.request.now origin.now.at.now.place (ended tails.now) gaps.kept.items }
     ensures table { IfOk result (λ made. IsTable origin.now.book.now origin.now.request.now origin.now.at.now made.entries.items) }
     ensures markets { IfOk result (λ made. AreMarkets origin.now.book.now made.markets.kept.items) }
     ensures masks { IfOk result (λ made. AreMasks origin.now.book.now origin.now.request.now made.masks) }
+    ensures gaps { IfOk result (λ made. AreCarrierGaps origin.now.book.now origin.now.request.now origin.now.at.now.place (ended tails.now) made.gaps.kept.items) }
 {
-    let mut putting: Putting<'_, S> = Putting::new(alloc, origin, tails, markets, masks);
+    let mut putting: Putting<'_, S> = Putting::new(alloc, origin, tails, markets, masks, gaps);
     visit_paths(
         alloc,
         schedule_of(origin.book),

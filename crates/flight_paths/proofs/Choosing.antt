@@ -122,3 +122,67 @@ rest_of xs a = take_all (length xs - a) (drop a xs) (short xs a)
     short ys zero = omega arith
     short [] (suc k) = omega arith
     short (y ∷ ys) (suc k) = omega (arith, short ys k)
+
+-- a part of a list stands where the list does, from a place on
+pub part_got : {X : Type 0} (xs : List X) (a m i : ℕ) (x : X) → slice_get (take m (drop a xs)) i ≡ Some x → slice_get xs (a + i) ≡ Some x
+part_got {X} xs zero m i x e = subst (λ n. slice_get xs n ≡ Some x) (none_more i) (front xs m i e)
+  where
+    none_more : (n : ℕ) → n ≡ 0 + n
+    none_more n = omega arith
+
+    front : (ys : List X) (m i : ℕ) → slice_get (take m ys) i ≡ Some x → slice_get ys i ≡ Some x
+    front [] zero i h = absurd (cc)
+    front [] (suc m) i h = absurd (cc)
+    front (y ∷ ys) zero i h = absurd (cc)
+    front (y ∷ ys) (suc m) zero h = h
+    front (y ∷ ys) (suc m) (suc i) h = front ys m i h
+part_got [] (suc a) zero i x e = absurd (cc)
+part_got [] (suc a) (suc m) i x e = absurd (cc)
+part_got {X} (y ∷ ys) (suc a) m i x e = subst (λ n. slice_get (y ∷ ys) n ≡ Some x) (one_more a i) (part_got ys a m i x e)
+  where
+    one_more : (a i : ℕ) → suc (a + i) ≡ suc a + i
+    one_more a i = omega arith
+
+take_none : {X : Type 0} (n : ℕ) → take {A = X} n [] ≡ []
+take_none zero = refl
+take_none (suc n) = refl
+
+drop_none : {X : Type 0} (n : ℕ) → drop {A = X} n [] ≡ []
+drop_none zero = refl
+drop_none (suc n) = refl
+
+zero_more : (n : ℕ) → 0 + n ≡ n
+zero_more n = omega arith
+
+suc_more : (m n : ℕ) → suc m + n ≡ suc (m + n)
+suc_more m n = omega arith
+
+drop_front : {X : Type 0} (xs : List X) (k n : ℕ) → drop k (take (k + n) xs) ≡ take n (drop k xs)
+drop_front xs zero n = ap (λ m. take m xs) (zero_more n)
+drop_front [] (suc k) n = ap (drop (suc k)) (take_none (suc k + n)) ∙ sym (take_none n)
+drop_front (x ∷ xs) (suc k) n = ap (λ m. drop (suc k) (take m (x ∷ xs))) (suc_more k n) ∙ drop_front xs k n
+
+drop_twice : {X : Type 0} (xs : List X) (a k : ℕ) → drop k (drop a xs) ≡ drop (a + k) xs
+drop_twice xs zero k = ap (λ m. drop m xs) (sym (zero_more k))
+drop_twice [] (suc a) k = drop_none k ∙ sym (drop_none (suc a + k))
+drop_twice (x ∷ xs) (suc a) k = drop_twice xs a k ∙ ap (λ m. drop m (x ∷ xs)) (sym (suc_more a k))
+
+-- what is left of a part from a place on
+pub later_part : {X : Type 0} (xs : List X) (from at to : ℕ) → from ≤ at → at ≤ to → drop (at - from) (take (to - from) (drop from xs)) ≡ take (to - at) (drop at xs)
+later_part xs from at to low high = ap (λ m. drop (at - from) (take m (drop from xs))) parted ∙ drop_front (drop from xs) (at - from) (to - at) ∙ ap (take (to - at)) (drop_twice xs from (at - from) ∙ ap (λ m. drop m xs) there)
+  where
+    parted : to - from ≡ (at - from) + (to - at)
+    parted = omega (arith, low, high)
+
+    there : from + (at - from) ≡ at
+    there = omega (arith, low)
+
+pub front_none : {X : Type 0} (xs : List X) → take 0 xs ≡ []
+front_none [] = refl
+front_none (x ∷ xs) = refl
+
+pub front_twice : {X : Type 0} (xs : List X) (m : ℕ) → take m (take m xs) ≡ take m xs
+front_twice [] zero = refl
+front_twice [] (suc m) = refl
+front_twice (x ∷ xs) zero = refl
+front_twice (x ∷ xs) (suc m) = ap (λ ys. x ∷ ys) (front_twice xs m)

@@ -19,7 +19,7 @@ struct Seen {
 impl PathVisitor for Seen {
     ghost told = { λ s paths. s.paths.items ≡ paths };
 
-    ghost knows = { λ tails. ⊤ };
+    ghost knows = { λ tails numbers. ⊤ };
 
     fn visit(&mut self, path: &Path) -> Result<(), Mem> {
         self.paths.push(path.copied())?;

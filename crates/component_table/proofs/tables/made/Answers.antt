@@ -1,4 +1,5 @@
-use Rattle.std.proofs.Common.{refl, subst, sym, ◌∙◌}
+use Rattle.std.proofs.Common.{ap, refl, subst, sym, ◌∙◌}
+use Rattle.component_table.specs.Gaps.{AreCarrierGaps, ended}
 use Rattle.component_table.specs.Markets.{AreMarkets}
 use Rattle.component_table.specs.Masks.{AreMasks}
 use Rattle.component_table.specs.Tables.{IsTable, PutsIn}
@@ -32,3 +33,15 @@ returns-clause-markets g c = subst (λ x. AreMarkets x c.finish.result.markets.k
 
 pub returns-clause-masks : goal.returns-clause-masks
 returns-clause-masks g c = subst (λ x. AreMasks x c.args.origin.now.request.now c.finish.result.masks) (sym c.requires.book) (subst (λ q. AreMasks g.S.Scene.book q c.finish.result.masks) (sym c.requires.request) c.finish.ensures.masks)
+
+pub visit_paths-requires-clause-knows : goal.visit_paths-requires-clause-knows
+visit_paths-requires-clause-knows g c = (c.requires.all, ap (λ t. t.numbers) c.requires.ended)
+
+pub returns-clause-gaps : goal.returns-clause-gaps
+returns-clause-gaps g c =
+    let o = c.args.origin.now in
+    let q = g.S.Scene.request in
+    let at = g.S.Scene.at in
+    let ks = c.finish.result.gaps.kept.items in
+    subst (λ b. AreCarrierGaps b o.request.now o.at.now.place (ended c.args.tails.now) ks) (sym c.requires.book) (subst (λ x. AreCarrierGaps g.S.Scene.book x o.at.now.place (ended c.args.tails.now) ks) (sym c.requires.request)
+    (subst (λ p. AreCarrierGaps g.S.Scene.book q p.place (ended c.args.tails.now) ks) (sym c.requires.at) (subst (λ t. AreCarrierGaps g.S.Scene.book q at.place t ks) (sym c.requires.ended) c.finish.ensures.gaps)))

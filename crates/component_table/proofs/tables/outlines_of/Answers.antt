@@ -1,5 +1,4 @@
-use Rattle.std.proofs.Common.{◌+◌, subst, sym, arith}
-use Rattle.component_table.specs.Masks.{AreMasks}
+use Rattle.std.proofs.Common.{subst, sym, arith}
 use Rattle.component_table.specs.Tables.{IsTable}
 use Rattle.component_table.proofs.PathFacts.{no_table}
 use Rattle.component_table.proofs.tables.outlines_of.Goals as goal
@@ -7,9 +6,3 @@ use Rattle.component_table.proofs.tables.outlines_of.Goals as goal
 pub returns-then-from-len-clause-table : goal.returns-then-from-len-clause-table
 returns-then-from-len-clause-table c =
     subst (IsTable c.args.book.now c.args.request.now c.args.position.now) (sym c.new.ensures) (no_table c.args.book.now c.args.request.now c.args.position.now (omega (arith, c.if-from-len.true, c.from.ensures, c.len.ensures.value)))
-
-pub made-requires-clause-tails : goal.made-requires-clause-tails
-made-requires-clause-tails c = c.tails_at-tails.ensures c.args.position.now.place (c.args.position.now.slice + 1) c.in_ok-at.ensures.tails
-
-pub made-requires-clause-masks : goal.made-requires-clause-masks
-made-requires-clause-masks c = subst (AreMasks c.args.book.now c.args.request.now) (sym c.replace-masks.ensures.value) c.in_ok-at.ensures.network.masks

@@ -1,12 +1,11 @@
-use Rattle.std.proofs.Common.{◌+◌, ◌-◌, ◌<◌, ◌≤◌, length, suc, take, drop, subst, arith}
+use Rattle.std.proofs.Common.{◌+◌, ◌-◌, ◌≤◌, length, suc, take, drop, subst, arith}
 use Rattle.fare_law.specs.Lists.{IsIn}
 use Rattle.flight_paths.specs.Heads.{AreRest, AreRestOf, Saw, chosen}
 use Rattle.flight_paths.specs.Plans.{plan_book}
 use Rattle.flight_paths.proofs.Joining.{tail_count}
 use Rattle.flight_paths.proofs.Seeing.{on_ok, saw_like, saw_none}
 use Rattle.flight_paths.proofs.Ranging.{all_between, entering, none_between, part_of}
-use Rattle.flight_paths.proofs.Running.{part_tails}
-use Rattle.flight_paths.proofs.Choosing.{chosen_part, each_drop, each_take}
+use Rattle.flight_paths.proofs.Choosing.{chosen_part}
 use Rattle.flight_paths.proofs.visits.visit_count.Goals as goal
 
 pub returns-then-to-from : goal.returns-then-to-from
@@ -19,16 +18,6 @@ returns-then-to-from g c =
     let n = c.args.count in
     saw_none (g.V.PathVisitor.told c.args.visitor.now) (AreRestOf b sl at h ts n)
     (none_between b sl at h c.args.junction.now.middle c.requires.crossing ts n c.place_of-from.result c.place_of-to.result c.place_of-from.ensures.point c.place_of-to.ensures.point c.if-to-from.true)
-
-pub visit_each-requires-clause-numbers : goal.visit_each-requires-clause-numbers
-visit_each-requires-clause-numbers g c =
-    let all = c.args.tails.now.all.now in
-    each_take (λ n. n < length all) (drop c.place_of-from.result c.args.tails.now.numbers.now) (c.place_of-to.result - c.place_of-from.result) (each_drop (λ n. n < length all) c.args.tails.now.numbers.now c.place_of-from.result c.requires.numbers)
-
-pub visit_each-requires-clause-tails : goal.visit_each-requires-clause-tails
-visit_each-requires-clause-tails g c =
-    let from = c.place_of-from.result in
-    part_tails (plan_book c.args.junction.now.schedule.now) c.args.junction.now.slices.now (suc c.args.junction.now.start.now.slice) c.args.tails.now.all.now c.args.tails.now.numbers.now from (c.place_of-to.result - from) c.requires.numbers c.requires.tails
 
 pub visit_each-requires-clause-near : goal.visit_each-requires-clause-near
 visit_each-requires-clause-near g c = λ t i.

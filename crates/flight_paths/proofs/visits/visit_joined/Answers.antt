@@ -34,7 +34,7 @@ visit_after-requires-clause-known g c =
     let n = c.args.number in
     let d = c.index-tails-number.result in
     let t = get_or all n d in
-    record { tails = all; known = c.requires.knows; stands = got_read all n d c.requires.number }
+    record { tails = all; numbers = c.args.tails.now.numbers.now; known = c.requires.knows; stands = got_read all n d c.requires.number }
 
 pub visit_after-requires-clause-few : goal.visit_after-requires-clause-few
 visit_after-requires-clause-few g c =

@@ -30,8 +30,9 @@ invariant_of-self g c =
       masks = new.masks;
       kinds = i.kinds;
       ends = i.ends;
-      idle = i.idle;
+      ended_is = i.ended_is;
+      gaps = i.gaps;
       low = new.low;
       settled = new.settled;
-      rows = new.rows s.kinds.now.classes.items i.rows;
+      rows = new.rows s.tails.kinds.now.classes.items i.rows;
     }

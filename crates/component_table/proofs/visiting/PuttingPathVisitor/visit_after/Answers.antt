@@ -12,8 +12,8 @@ add_joint-requires-clause-joint g c =
     let s = c.self.inside in
     let i = c.self.invariant in
     let r = c.requires.known in
-    let kinds = subst (λ ts. AreKinds s.origin.book.now s.origin.request.now ts s.kinds.now) (sym r.known) i.kinds in
-    joint_is s.origin.book.now s.origin.request.now s.origin.at.now s.filling.table.entries.items s.filling.rows s.kinds.now c.args.head.now c.args.number c.args.tail.now c.in-Some.joint i.rows c.in-Some.ensures r.tails kinds r.stands c.requires.few
+    let kinds = subst (λ ts. AreKinds s.origin.book.now s.origin.request.now ts s.tails.kinds.now) (sym r.known.0) i.kinds in
+    joint_is s.origin.book.now s.origin.request.now s.origin.at.now s.filling.table.entries.items s.filling.rows s.tails.kinds.now c.args.head.now c.args.number c.args.tail.now c.in-Some.joint i.rows c.in-Some.ensures r.tails kinds r.stands c.requires.few
 
 pub invariant_of-self : goal.invariant_of-self
 invariant_of-self g c =
@@ -28,10 +28,11 @@ invariant_of-self g c =
       masks = i.masks;
       kinds = i.kinds;
       ends = i.ends;
-      idle = i.idle;
+      ended_is = i.ended_is;
+      gaps = i.gaps;
       low = new.low;
       settled = new.settled;
-      rows = new.rows s.kinds.now.classes.items (joint_of s.origin.book.now s.origin.request.now s.origin.at.now s.filling.table.entries.items s.filling.rows s.kinds.now c.args.head.now c.args.number c.args.tail.now c.in-Some.joint i.rows c.in-Some.ensures) i.rows;
+      rows = new.rows s.tails.kinds.now.classes.items (joint_of s.origin.book.now s.origin.request.now s.origin.at.now s.filling.table.entries.items s.filling.rows s.tails.kinds.now c.args.head.now c.args.number c.args.tail.now c.in-Some.joint i.rows c.in-Some.ensures) i.rows;
     }
 
 pub returns-in-Some : goal.returns-in-Some
