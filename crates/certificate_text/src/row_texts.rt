@@ -80,6 +80,46 @@ fn unit_text(alloc: Global, unit: &OpenUnit) -> Result<List<u8>, Mem>
     Ok(List::from_vec(text))
 }
 
+/// How many bytes the lines of rows take, with some room for bounds: a text that has it from the start need not move as it
+/// grows.
+pub fn room_of(texts: &RowTexts, rows: &[NumberedRow]) -> usize {
+    let mut room: usize = 0;
+    for row in rows {
+        room = room.saturating_add(length_of(texts, row));
+    }
+    room
+}
+
+/// How long the line of a row is, at most, where a bound has no more digits than prices have.
+fn length_of(texts: &RowTexts, row: &NumberedRow) -> usize {
+    const MARKS_AND_BOUND: usize = 24;
+    let key = row.key();
+    let units = texts.units.as_slice();
+    let beginning = length_at(texts.beginnings.as_slice(), key.position as usize);
+    let first = length_before(units, key.first);
+    let second = length_before(units, key.second);
+    beginning
+        .saturating_add(first)
+        .saturating_add(second)
+        .saturating_add(MARKS_AND_BOUND)
+}
+
+/// How long the text of this number is, if there is one.
+fn length_at(texts: &[List<u8>], number: usize) -> usize {
+    match texts.get(number) {
+        Some(text) => text.len(),
+        None => 0,
+    }
+}
+
+/// How long the text in a slot is. None stands in slot 0.
+fn length_before(texts: &[List<u8>], slot: u32) -> usize {
+    match slot.checked_sub(1) {
+        Some(number) => length_at(texts, number as usize),
+        None => 0,
+    }
+}
+
 /// Adds the lines of rows.
 pub fn push_lines(text: &mut Vec<u8>, texts: &RowTexts, rows: &[NumberedRow]) -> Result<(), Mem>
     requires { (t : Tables) × (texts.now ≡ Texts.texts_of t) × AreLive t rows.now }

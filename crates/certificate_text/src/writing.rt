@@ -4,7 +4,7 @@ ghost use Rattle.certificate_text.specs.CertText.{AddsCertText, CertText, answer
 ghost use Rattle.fare_law.specs.Limits.{IsRequest};
 
 use crate::lines::{push_answer, push_number_line};
-use crate::row_texts::{RowTexts, push_lines};
+use crate::row_texts::{RowTexts, push_lines, room_of};
 use certificate::{CertAnswer, CertRows, Certificate, RowNumbers};
 use fare_law::{List, Mem};
 use request_text::request_text;
@@ -66,5 +66,6 @@ fn push_rows(alloc: Global, text: &mut Vec<u8>, rows: &CertRows) -> Result<(), M
     push_number_line(text, b"rows", rows.len() as u64)?;
     let RowNumbers { parts, rows } = rows.by_number();
     let texts = RowTexts::of(alloc, parts)?;
+    text.reserve(room_of(&texts, rows))?;
     push_lines(text, &texts, rows)
 }
