@@ -5,6 +5,7 @@ ghost use Rattle.component_table.specs.Blocks.{whole_class};
 use crate::kinds::TailClass;
 use crate::recent::{mixed, spot_of};
 use crate::same::same_after;
+use crate::spots::digits_of;
 use fare_law::{Carrier, Place};
 use flight_paths::Position;
 
@@ -18,15 +19,6 @@ pub struct PathClass {
     pub first: i32,
     pub last: i32,
     pub stops: u8,
-}
-
-/// A class, packed into numbers, by which places are looked up.
-#[derive(Clone, Copy, PartialEq, Eq, Hash, Debug)]
-pub struct ClassKey {
-    range: u64,
-    places: u64,
-    ends: u64,
-    days: u64,
 }
 
 impl PathClass {
@@ -70,23 +62,19 @@ impl PathClass {
 
     /// The spot of the class.
     pub fn spot(&self) -> usize {
+        spot_of(self.mark())
+    }
+
+    /// Some digits of the number of the class.
+    pub fn digits(&self) -> u32 {
+        digits_of(self.mark())
+    }
+
+    /// A number of the class.
+    fn mark(&self) -> u64 {
         let head = head_mark(self.carrier, self.first);
         let tail = tail_mark(&self.after, self.end, self.last);
-        spot_of(head ^ tail)
-    }
-}
-
-impl ClassKey {
-    /// The key of a class.
-    pub fn of(class: &PathClass) -> ClassKey {
-        let [a, b, c] = class.end.0;
-        let [d, e] = class.carrier.0;
-        ClassKey {
-            range: range_of(&class.after),
-            places: places_of(&class.after),
-            ends: u64::from_le_bytes([a, b, c, d, e, 0, 0, 0]),
-            days: days_of(class.first, class.last),
-        }
+        head ^ tail
     }
 }
 
@@ -124,13 +112,6 @@ fn tail_mark(after: &Option<Position>, end: Place, last: i32) -> u64 {
     let [d, e, f, g] = last.to_le_bytes();
     let ends = u64::from_le_bytes([a, b, c, d, e, f, g, 0]);
     mixed(mixed(range_of(after), places_of(after)), ends)
-}
-
-/// The days on which the first and the last flight depart, as one number.
-fn days_of(first: i32, last: i32) -> u64 {
-    let [a, b, c, d] = first.to_le_bytes();
-    let [e, f, g, h] = last.to_le_bytes();
-    u64::from_le_bytes([a, b, c, d, e, f, g, h])
 }
 
 /// The range of a position, as one number.

@@ -6,9 +6,9 @@ ghost use Rattle.component_table.specs.Reaches.{EndStands, IsKnown, IsReach};
 use crate::filed::{Filed, filed_at};
 use crate::markets::{MarketKey, Markets};
 use crate::recent::{Recent, spot_of};
+use crate::spots::{Spots, digits_of};
 use fare_book::Book;
 use fare_law::{Carrier, Mem, Place};
-use indexmap::IndexMap;
 use std::alloc::Global;
 
 /// What an end of paths is asked for by: its place, and the carrier of the first flight.
@@ -33,7 +33,7 @@ pub struct Reach {
     pub markets: Markets,
     pub ends: Vec<End>,
     /// Where an end may stand, by the letters of its place and carrier.
-    pub places: IndexMap<u64, usize>,
+    pub places: Spots,
     /// Where an end may stand that was asked for before.
     pub recent: Recent,
 }
@@ -52,6 +52,11 @@ impl EndKey {
         let [d, e] = self.carrier.0;
         u64::from_le_bytes([a, b, c, d, e, 0, 0, 0])
     }
+
+    /// Some digits of that number's spread.
+    fn digits(self) -> u32 {
+        digits_of(self.letters())
+    }
 }
 
 impl Reach {
@@ -64,7 +69,7 @@ impl Reach {
         Reach {
             markets,
             ends: Vec::new(alloc),
-            places: IndexMap::new(alloc),
+            places: Spots::new(alloc),
             recent: Recent::new(),
         }
     }
@@ -110,11 +115,11 @@ impl Reach {
         ensures end { IfOk result (EndStands book.now from key self.new.markets.kept.items self.new.ends.items) }
     {
         let spot = spot_of(key.letters());
-        let found = self.places.get(&key.letters()).copied();
-        self.recent.put(spot, found.unwrap_or(self.ends.len()));
-        if let Some(at) = known(self.ends.as_slice(), found, key) {
+        if let Some(at) = standing(self.ends.as_slice(), &self.places, key) {
+            self.recent.put(spot, at);
             return Ok(at);
         }
+        self.recent.put(spot, self.ends.len());
         self.add(alloc, book, from, key)
     }
 
@@ -133,10 +138,25 @@ impl Reach {
         let there = filed_at(kept, there, key.carrier);
         let back = filed_at(kept, back, key.carrier);
         let at = self.ends.len();
-        self.places.insert(key.letters(), at)?;
+        self.places.add(key.digits())?;
         self.ends.push(End { key, there, back })?;
         Ok(at)
     }
+}
+
+/// Where the end of a key stands, as the chain of its spot tells.
+fn standing(ends: &[End], places: &Spots, key: EndKey) -> Option<usize>
+    ensures { IfSome result (IsKnown ends.now key) }
+{
+    let digits = key.digits();
+    let mut end = places.last(digits);
+    while end > 0 {
+        if let Some(at) = known(ends, Some((end - 1) as usize), key) {
+            return Some(at);
+        }
+        end = places.before(end, digits);
+    }
+    None
 }
 
 /// A place, if the end stands there.

@@ -4,12 +4,12 @@ ghost use Rattle.component_table.specs.Blocks.{HasBlock, HasOutline, IsLow, IsSl
 ghost use Rattle.component_table.specs.Tables.{Covers, HasAt, HasBelow, Lowered};
 ghost use Rattle.outlines.specs.declared.outline.Outline.{Outline as OneOutline};
 
-use crate::classes::{ClassKey, PathClass};
+use crate::classes::PathClass;
 use crate::recent::Recent;
 use crate::same::same_after;
+use crate::spots::Spots;
 use fare_groups::GroupKey;
 use fare_law::{FareKind, Mem, Rule, Shared};
-use indexmap::IndexMap;
 use outlines::{Entry, Outline};
 use std::alloc::Global;
 
@@ -46,7 +46,7 @@ pub struct Growing {
     pub entries: Vec<Entry>,
     pub blocks: Vec<Block>,
     /// Where the block of a class may stand.
-    pub places: IndexMap<ClassKey, usize>,
+    pub places: Spots,
     /// Where the block of a class may stand that was asked for before.
     pub recent: Recent,
     pub slots: Vec<Option<Slot>>,
@@ -72,7 +72,7 @@ impl Growing {
         Growing {
             entries: Vec::new(alloc),
             blocks: Vec::new(alloc),
-            places: IndexMap::new(alloc),
+            places: Spots::new(alloc),
             recent: Recent::new(),
             slots: Vec::new(alloc),
         }
@@ -113,19 +113,34 @@ impl Growing {
         ensures same { self.new.entries.items ≡ self.old.entries.items }
         ensures block { IfOk result (HasBlock self.new.blocks.items (whole_class class.now)) }
     {
-        let key = ClassKey::of(class);
-        let found = self.places.get(&key).copied();
-        self.recent.put(spot, found.unwrap_or(self.blocks.len()));
-        if let Some(at) = known(self.blocks.as_slice(), found, class) {
+        let digits = class.digits();
+        if let Some(at) = self.standing(class, digits) {
+            self.recent.put(spot, at);
             return Ok(at);
         }
-        self.add_block(key, class, there, back)
+        self.recent.put(spot, self.blocks.len());
+        self.add_block(digits, class, there, back)
+    }
+
+    /// Where the block of a class of these digits stands, as the chain of its spot tells.
+    fn standing(&self, class: &PathClass, digits: u32) -> Option<usize>
+        ensures { IfSome result (HasBlock self.now.blocks.items (whole_class class.now)) }
+    {
+        let mut end = self.places.last(digits);
+        while end > 0 {
+            let found = Some((end - 1) as usize);
+            if let Some(at) = known(self.blocks.as_slice(), found, class) {
+                return Some(at);
+            }
+            end = self.places.before(end, digits);
+        }
+        None
     }
 
     /// Adds a block.
     fn add_block(
         &mut self,
-        key: ClassKey,
+        digits: u32,
         class: &PathClass,
         there: usize,
         back: usize,
@@ -140,7 +155,7 @@ impl Growing {
         add_slots(&mut self.slots, there)?;
         let middle = self.slots.len();
         add_slots(&mut self.slots, back)?;
-        self.places.insert(key, at)?;
+        self.places.add(digits)?;
         self.blocks.push(Block {
             class: class.whole(),
             there: begin,

@@ -22,6 +22,7 @@ mod same;
 mod scenes;
 mod settled;
 mod skipping;
+mod spots;
 mod tables;
 mod tail_ends;
 mod visiting;

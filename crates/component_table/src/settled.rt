@@ -5,12 +5,12 @@ ghost use Rattle.component_table.specs.declared.settled.SettledClass.{SettledCla
 ghost use Rattle.component_table.specs.Classes.{AreAmong, IsSettledAt};
 ghost use Rattle.fare_law.specs.Lists.{IsIn};
 
-use crate::classes::{ClassKey, PathClass};
+use crate::classes::PathClass;
 use crate::growing::Growing;
 use crate::recent::Recent;
 use crate::rows::Rows;
+use crate::spots::Spots;
 use fare_law::Mem;
-use indexmap::IndexMap;
 use std::alloc::Global;
 
 /// A class of paths that is settled for those of its paths on which none but these classes of seats are open in every
@@ -26,7 +26,7 @@ pub struct SettledClass {
 pub struct Settled {
     pub kept: Vec<SettledClass>,
     /// Where a class may stand.
-    pub places: IndexMap<ClassKey, usize>,
+    pub places: Spots,
     /// Where a class may stand that was asked for before.
     pub recent: Recent,
 }
@@ -46,7 +46,7 @@ impl Settled {
     {
         Settled {
             kept: Vec::new(alloc),
-            places: IndexMap::new(alloc),
+            places: Spots::new(alloc),
             recent: Recent::new(),
         }
     }
@@ -61,8 +61,7 @@ impl Settled {
         if let Some(at) = known(kept, self.recent.get(spot), class) {
             return Some(at);
         }
-        let found = self.places.get(&ClassKey::of(class)).copied();
-        let at = known(kept, found, class)?;
+        let at = standing(kept, &self.places, class)?;
         self.recent.put(spot, at);
         Some(at)
     }
@@ -91,10 +90,25 @@ impl Settled {
             return Ok(());
         }
         self.recent.put(class.spot(), self.kept.len());
-        self.places.insert(ClassKey::of(class), self.kept.len())?;
+        self.places.add(class.digits())?;
         self.kept.push(one)?;
         Ok(())
     }
+}
+
+/// Where a class stands, as the chain of its spot tells.
+fn standing(kept: &[SettledClass], places: &Spots, class: &PathClass) -> Option<usize>
+    ensures { IfSome result (IsSettledAt kept.now class.now) }
+{
+    let digits = class.digits();
+    let mut end = places.last(digits);
+    while end > 0 {
+        if let Some(at) = known(kept, Some((end - 1) as usize), class) {
+            return Some(at);
+        }
+        end = places.before(end, digits);
+    }
+    None
 }
 
 /// A place, if the class stands there.

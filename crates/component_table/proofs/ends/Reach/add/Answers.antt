@@ -26,8 +26,8 @@ returns-in_err-back-clause-reach c =
     let two = c.find-2.new.self.kept.items in
     record { markets = c.in_err-back.ensures.kept; ends = ends_on b from old two c.args.self.now.ends.items (prefix_trans old one two c.in_ok-there.ensures.grows c.in_err-back.ensures.grows) c.requires.ends }
 
-pub returns-in_err-insert-clause-reach : goal.returns-in_err-insert-clause-reach
-returns-in_err-insert-clause-reach c =
+pub returns-in_err-add-clause-reach : goal.returns-in_err-add-clause-reach
+returns-in_err-add-clause-reach c =
     let b = c.args.book.now in
     let from = c.args.from in
     let old = c.args.self.now.markets.kept.items in
