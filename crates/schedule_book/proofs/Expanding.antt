@@ -11,11 +11,13 @@ use Rattle.fare_law.specs.Lists.{IsIn}
 use Rattle.schedule_book.specs.declared.faults.SchedFault.{SchedFault}
 use Rattle.schedule_book.specs.declared.faults.SchedFault.TheVariants.{PlaceTwice, UnknownPlace, SamePlace, BadPeriod, ArrivesBefore, Twice, TooMany, Mem}
 use Rattle.schedule_book.specs.declared.dated.DatedNumber.{DatedNumber}
+use Rattle.schedule_book.specs.declared.dated.FlightName.{FlightName}
 use Rattle.schedule_book.specs.Days.{named_days}
 use Rattle.schedule_book.specs.Expansions.{AddsRow, Expands, RepeatsOne, Seen, number_of}
 use Rattle.schedule_book.specs.Faults.{HasFault, IsRepeated, NoOwnFault, OwnFault, RowCause, RowFault, RowsRight, SameDated, fault_number}
 use Rattle.schedule_book.proofs.Numbers.{same, parts_differ}
 use Rattle.schedule_book.proofs.Rows.{split_push}
+use Rattle.schedule_book.proofs.SharedNames.{one_name}
 use Rattle.law_lemmas.proofs.Lists.{front_read, no_middle, split_is}
 use Rattle.law_lemmas.proofs.Members.{in_either, in_left, in_right}
 
@@ -131,8 +133,8 @@ expanded_empty places flights e = subst (Expanded places []) (sym e) (record {
   few = omega arith;
 })
 
-pub seen_empty : {S : Type 0} (flights : List Flight) (seen : HashSet DatedNumber S) → flights ≡ [] → seen.keys ≡ [] → Seen same flights seen
-seen_empty flights seen e k = subst (λ fs. Seen same fs seen) (sym e) (record { differ = none_differ; same = λ q. ap (list_any (same q)) k })
+pub seen_empty : {S T : Type 0} (shared : HashSet FlightName S) (flights : List Flight) (seen : HashSet DatedNumber T) → flights ≡ [] → seen.keys ≡ [] → Seen same one_name shared flights seen
+seen_empty shared flights seen e k = subst (λ fs. Seen same one_name shared fs seen) (sym e) (record { differ = none_differ; same = λ q h. ap (list_any (same q)) k })
 
 pub row_cause : (places : List PlaceRow) (rows : List FlightRow) (fault : SchedFault) → RowFault places rows fault → RowCause places rows fault
 row_cause places rows (PlaceTwice line) (b, r, a, e, right, has, least) = has

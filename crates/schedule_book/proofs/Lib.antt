@@ -3,6 +3,7 @@ pub mod Rows
 pub mod PlaceRows
 pub mod Numbers
 pub mod RowFlights
+pub mod SharedNames
 pub mod OwnFaults
 pub mod Expanding
 pub mod Sorting

@@ -1,11 +1,16 @@
 -- The days that a row names, and its flights on them.
-use Rattle.std.proofs.Common.{◌≡◌, ℤ, ◌-◌, ◌^◌, ◌&&◌, ◌==◌, ◌≤ℤ◌, Bool, true, false, not, int_le, bit_and, IsBitSet, refl, arith}
-use Rattle.std.proofs.lemmas.Int.{ints}
+use Rattle.std.proofs.Common.{◌≡◌, ℤ, w32, to_z, of_z, ◌-◌, ◌^◌, ◌&&◌, ◌==◌, ◌≤ℤ◌, Bool, true, false, not, int_le, bit_and, IsBitSet, refl, arith}
+use mir.Val.{SFits}
+use Rattle.std.proofs.lemmas.Int.{ints, to_z-of_z}
 use Rattle.std.proofs.lemmas.Bool.{eqb-false, ne_eqb}
 use Rattle.fare_law.specs.declared.rows.FlightRow.{FlightRow}
 use Rattle.fare_law.specs.Days.{weekday}
 use Rattle.schedule_book.specs.Days.{names}
 use Rattle.law_lemmas.proofs.Tests.{untrue}
+
+-- a day as it is kept is that day
+pub plain : (z : ℤ) → SFits w32 z → to_z w32 (of_z w32 z) ≡ z
+plain z f = to_z-of_z w32 z f
 
 pub record Named (row : FlightRow) (day : ℤ) : Type 0 where
   pub first : row.first ≤ℤ day

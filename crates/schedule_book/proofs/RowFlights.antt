@@ -7,7 +7,7 @@ use Rattle.fare_law.specs.declared.rows.FlightRow.{FlightRow}
 use Rattle.fare_law.specs.Flights.{Dated, instant}
 use Rattle.fare_law.specs.Lists.{IsIn}
 use Rattle.schedule_book.specs.Days.{names, named_of}
-use Rattle.schedule_book.specs.Expansions.{AddsRow, IsAmong}
+use Rattle.schedule_book.specs.Expansions.{AddsRow, HasNone, IsAmong, name_in, name_of, number_of}
 use Rattle.schedule_book.proofs.RowDays.{names_told, named_true}
 use Rattle.law_lemmas.proofs.Members.{in_either, in_left, in_right}
 
@@ -22,6 +22,10 @@ dated_one row f g h k e =
     let d : f.dep ≡ g.dep = h.departs ∙ ap (λ day. instant day row.dep row.dep_offset) e ∙ sym k.departs in
     let r : f.arr ≡ g.arr = h.arrives ∙ ap (λ day. instant (day +ℤ row.shift) row.arr row.arr_offset) e ∙ sym k.arrives in
     λ i. record { carrier = a i; number = b i; from = x i; to = y i; day = e i; minute = m i; dep = d i; arr = r i }
+
+-- a flight of a row has the row's name
+pub named_dated : (row : FlightRow) (f : Flight) → Dated row f → name_in (number_of f) ≡ name_of row
+named_dated row f h = let a = h.carrier in let b = h.number in let x = h.from in λ i. record { carrier = a i; number = b i; from = x i }
 
 dated_names : (row : FlightRow) (f : Flight) → Dated row f → names row f.day ≡ true
 dated_names row f h = named_true row f.day (record { first = h.first; last = h.last; named = h.named })
@@ -153,6 +157,12 @@ far_repeated row day old new flight h e (f, i, s) = elim (in_either f old h.more
   where
     never : f.day ≡ day → f.day <ℤ day → ⊥
     never a b = omega (arith, ints)
+
+-- where none before is of the row's name, none so far has the number of the flight of a day
+pub far_new : (row : FlightRow) (day : ℤ) (old new : List Flight) (flight : Flight) → SoFar row day old new → HasNone (name_of row) old → Dated row flight → flight.day ≡ day → IsAmong flight new → ⊥
+far_new row day old new flight h none dated e among =
+    let (f, i, s) = far_repeated row day old new flight h e among in
+    none f i (ap name_in s ∙ named_dated row flight dated)
 
 pub far_first : (row : FlightRow) (old : List Flight) → SoFar row (row.first +ℤ pos 0) old old
 far_first row old = subst (λ d. SoFar row d old old) same (far_none row old)

@@ -1,4 +1,4 @@
-//! What names a dated flight.
+//! What names flights.
 ghost use Rattle.std.specs.Prelude.{◌≡◌};
 ghost use Rattle.schedule_book.specs.Hashing.{name_number};
 
@@ -14,6 +14,14 @@ pub struct DatedNumber {
     pub day: i32,
 }
 
+/// What tells the flights of one carrier, number and origin, on any day, from the others.
+#[derive(Clone, Copy, PartialEq, Eq, Debug)]
+pub struct FlightName {
+    pub carrier: Carrier,
+    pub number: u16,
+    pub from: Place,
+}
+
 // Two writes: letters would cost a write each.
 impl Hash for DatedNumber {
     ghost use Rattle.std.specs.Hash as fed;
@@ -27,6 +35,20 @@ impl Hash for DatedNumber {
 
     fn hash<H: Hasher>(&self, state: &mut H) {
         state.write_i32(self.day);
+        state.write_u64(name_number(self.carrier, self.number, self.from));
+    }
+}
+
+impl Hash for FlightName {
+    ghost use Rattle.std.specs.Hash as fed;
+    ghost use Rattle.std.specs.Cmp.Rules.{hashing};
+    ghost use Rattle.std.proofs.Common.{rules};
+
+    ghost hash_input = { λ n. fed.u64 (name_number n.carrier n.number n.from) };
+
+    ghost respects_eq = { Prim.search (hashing, rules) };
+
+    fn hash<H: Hasher>(&self, state: &mut H) {
         state.write_u64(name_number(self.carrier, self.number, self.from));
     }
 }

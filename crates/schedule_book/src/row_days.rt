@@ -3,9 +3,9 @@ ghost use Rattle.std.specs.Prelude.{◌≡◌, ◌+ℤ◌, ◌≤ℤ◌, ◌^◌
 ghost use Rattle.fare_law.specs.Days.{weekday};
 ghost use Rattle.fare_law.specs.Flights.{Dated, instant};
 ghost use Rattle.schedule_book.specs.Days.{names};
-ghost use Rattle.schedule_book.specs.Expansions.{number_of};
+ghost use Rattle.schedule_book.specs.Expansions.{name_of, number_of};
 
-use crate::dated::DatedNumber;
+use crate::dated::{DatedNumber, FlightName};
 use fare_law::{Flight, FlightRow};
 
 /// 1 for Monday to 7 for Sunday.
@@ -87,5 +87,16 @@ pub fn number_of(flight: &Flight) -> DatedNumber
         number: flight.number,
         from: flight.from,
         day: flight.day,
+    }
+}
+
+/// What names the flights of a row.
+pub fn name_of(row: &FlightRow) -> FlightName
+    ensures { result ≡ name_of row.now }
+{
+    FlightName {
+        carrier: row.carrier,
+        number: row.number,
+        from: row.from,
     }
 }

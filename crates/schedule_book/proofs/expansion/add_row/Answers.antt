@@ -1,60 +1,33 @@
-use Rattle.std.proofs.Common.{◌≡◌, rules, ℤ, pos, ◌++◌, ◌∷◌, [], ◌+ℤ◌, w32, to_z, of_z, true, false, refl, sym, ap, subst, ◌∙◌, inr, arith}
-use Rattle.std.specs.Bool.{MatchBool, OnTrue}
-use mir.Val.{SFits}
-use Rattle.std.proofs.lemmas.Int.{to_z-of_z}
-use Rattle.fare_law.specs.Flights.{Dated}
-use Rattle.schedule_book.specs.Days.{names}
-use Rattle.schedule_book.specs.Expansions.{Seen, IsAmong}
-use Rattle.schedule_book.proofs.Numbers.{same}
-use Rattle.schedule_book.proofs.RowFlights.{SoFar, far_first, far_named, far_unnamed, far_next, far_end, far_repeated}
+use Rattle.std.proofs.Common.{◌≡◌, List, true, false, sym, ap, subst, ◌∙◌}
+use Rattle.std.specs.HashSet.{HashSet, contains}
+use Rattle.std.specs.Prelude.{OnOk, Result, Ok, Err}
+use Rattle.fare_law.specs.declared.flights.Flight.{Flight}
+use Rattle.fare_law.specs.declared.rows.FlightRow.{FlightRow}
+use Rattle.law_lemmas.proofs.Tests.{true_false}
+use Rattle.schedule_book.specs.declared.dated.DatedNumber.{DatedNumber}
+use Rattle.schedule_book.specs.declared.dated.FlightName.{FlightName}
+use Rattle.schedule_book.specs.Expansions.{AddsRow, AllDiffer, Seen, name_in, name_of, number_of}
+use Rattle.schedule_book.proofs.Numbers.{same, other_names}
+use Rattle.schedule_book.proofs.RowFlights.{named_dated}
+use Rattle.schedule_book.proofs.SharedNames.{one_name}
 use Rattle.schedule_book.proofs.expansion.add_row.Goals as goal
-use Rattle.schedule_book.proofs.expansion.add_row.Goals.{then-names+in_ok-add_flight+else-not-branch, else-names}
 
-plain : (z : ℤ) → SFits w32 z → to_z w32 (of_z w32 z) ≡ z
-plain z f = to_z-of_z w32 z f
+-- what was seen still tells of the shared names where flights of another are added
+seen_apart : {S T : Type 0} (row : FlightRow) (shared : HashSet FlightName S) (old new : List Flight) (seen : HashSet DatedNumber T) → Seen same one_name shared old seen → contains one_name shared (name_of row) ≡ false → AddsRow row old new → AllDiffer same new → Seen same one_name shared new seen
+seen_apart row shared old new seen h apart adds differ = record {
+  differ = differ;
+  same = λ q t.
+      other_names old adds.more new seen (name_of row) adds.joined (λ f i. named_dated row f ((adds.are f).0 i)) q (λ e. true_false (subst (λ n. contains one_name shared n ≡ true) e t) apart) (h.same q t);
+}
 
-pub loop-offset-init : goal.loop-offset-init
-loop-offset-init c = (far_first c.args.row.now c.args.flights.now.items, c.requires.seen)
+both_ok : {X E A B C : Type 0} (r : Result X E) → OnOk r A → OnOk r B → (A → B → C) → OnOk r C
+both_ok (Ok x) a b f = f a b
+both_ok (Err e) a b f = tt
 
-pub returns-then-not-branch-clause-fault : goal.returns-then-not-branch-clause-fault
-returns-then-not-branch-clause-fault c =
-    let row = c.args.row.now in
-    let day = row.first +ℤ pos c.loop-offset.offset in
-    let raw_is : to_z w32 (of_z w32 c.day_after-day.result) ≡ row.first +ℤ pos c.loop-offset.offset = plain c.day_after-day.result (search rules) ∙ c.day_after-day.ensures ∙ ap (λ d. d +ℤ pos c.loop-offset.offset) (plain row.first (search rules)) in
-    let named : names row day ≡ true = subst (λ d. names row d ≡ true) raw_is (sym c.names.ensures ∙ c.if-names.true) in
-    let f = c.flight_on-flight.result in
-    let dated : Dated row f = c.flight_on-flight.ensures.flight (sym c.names.ensures ∙ c.if-names.true) in
-    let among : IsAmong f c.loop-offset.flights.items = subst (λ b. MatchBool b (c.add_flight.new.flights.items ≡ c.loop-offset.flights.items ++ f ∷ []) (IsAmong f c.loop-offset.flights.items)) c.if-not-branch.true c.in_ok-add_flight.ensures.added in
-    inr (refl, (f, dated, far_repeated row day c.args.flights.now.items c.loop-offset.flights.items f c.loop-offset.invariant.0 (c.flight_on-flight.ensures.day ∙ raw_is) among))
+pub add_apart-requires-clause-apart : goal.add_apart-requires-clause-apart
+add_apart-requires-clause-apart c = c.requires.apart (ap (contains one_name c.args.shared.now) (sym c.name_of.ensures) ∙ sym c.contains.ensures ∙ c.if-contains.false)
 
-pub loop-offset-preserved : goal.loop-offset-preserved
-loop-offset-preserved c =
-    let row = c.args.row.now in
-    let day = row.first +ℤ pos c.loop-offset.offset in
-    let raw_is : to_z w32 (of_z w32 c.day_after-day.result) ≡ row.first +ℤ pos c.loop-offset.offset = plain c.day_after-day.result (search rules) ∙ c.day_after-day.ensures ∙ ap (λ d. d +ℤ pos c.loop-offset.offset) (plain row.first (search rules)) in
-    let old = c.args.flights.now.items in
-    let before = c.loop-offset.flights.items in
-    elim c.if-names.branch [
-      | then-names+in_ok-add_flight+else-not-branch w ↦
-          let named : names row day ≡ true = subst (λ d. names row d ≡ true) raw_is (sym c.names.ensures ∙ w.if-names.true) in
-          let f = w.flight_on-flight.result in
-          let dated : Dated row f = w.flight_on-flight.ensures.flight (sym c.names.ensures ∙ w.if-names.true) in
-          let pushed : w.add_flight.new.flights.items ≡ before ++ f ∷ [] = subst (λ b. MatchBool b (w.add_flight.new.flights.items ≡ before ++ f ∷ []) (IsAmong f before)) w.if-not-branch.false w.in_ok-add_flight.ensures.added in
-          let items : c.if-names.flights.items ≡ w.add_flight.new.flights.items = ap (λ v. v.items) w.flights-is in
-          let kept = subst (λ b. OnTrue b (Seen same w.add_flight.new.flights.items w.add_flight.new.seen)) w.if-not-branch.false w.in_ok-add_flight.ensures.seen in (
-            far_next row c.loop-offset.offset old c.if-names.flights.items
-                (far_named row day old before c.if-names.flights.items f c.loop-offset.invariant.0 named dated (w.flight_on-flight.ensures.day ∙ raw_is) (items ∙ pushed)),
-            subst (λ fs. Seen same fs c.if-names.seen) (sym items) (subst (Seen same w.add_flight.new.flights.items) (sym w.seen-is) kept),
-          )
-      | else-names w ↦
-          let unnamed : names row day ≡ false = subst (λ d. names row d ≡ false) raw_is (sym c.names.ensures ∙ w.if-names.false) in
-          let items : c.if-names.flights.items ≡ before = ap (λ v. v.items) w.flights-is in (
-            far_next row c.loop-offset.offset old c.if-names.flights.items (subst (SoFar row (day +ℤ pos 1) old) (sym items) (far_unnamed row day old before c.loop-offset.invariant.0 unnamed)),
-            subst (λ fs. Seen same fs c.if-names.seen) (sym items) (subst (Seen same before) (sym w.seen-is) c.loop-offset.invariant.1),
-          )
-    ]
-
-pub returns-clause-added : goal.returns-clause-added
-returns-clause-added c =
-    far_end c.args.row.now c.loop-offset.offset c.day_count-offset-end.result c.args.flights.now.items c.loop-offset.flights.items c.requires.first c.requires.last c.day_count-offset-end.ensures
-    (omega (arith, c.loop-offset.auto.offset-end)) c.loop-offset.invariant.0
+pub returns-else-contains-clause-seen : goal.returns-else-contains-clause-seen
+returns-else-contains-clause-seen c =
+    let apart : contains one_name c.args.shared.now (name_of c.args.row.now) ≡ false = ap (contains one_name c.args.shared.now) (sym c.name_of.ensures) ∙ sym c.contains.ensures ∙ c.if-contains.false in
+    both_ok c.add_apart.result c.add_apart.ensures.added c.add_apart.ensures.differ (seen_apart c.args.row.now c.args.shared.now c.args.flights.now.items c.add_apart.new.flights.items c.args.seen.now c.requires.seen apart)
