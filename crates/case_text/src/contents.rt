@@ -1,11 +1,14 @@
 //! What stands in a case.
-ghost use Rattle.std.specs.Prelude.{◌≡◌, OnOk};
+ghost use Rattle.std.specs.Prelude.{◌≡◌, IfOk, OnOk};
 ghost use Rattle.case_text.specs.Contents.{added, line_added, no_contents, after_header};
 
 use crate::CaseLine;
 use crate::headers::Header;
 use fare_law::{FlightRow, List, Mem, PlaceRow, SeatRow, TextLine};
 use std::alloc::Global;
+
+/// So many seat rows a case may have.
+const MOST_SEATS: usize = 200_000;
 
 /// The rows and lines of a case by their sections. A section that the kind of case doesn't have is
 /// empty. Filings, requests and certificates are read where they stand in the text.
@@ -35,14 +38,15 @@ pub enum Entry<'a> {
 }
 
 impl<'a> Case<'a> {
-    /// A case with nothing in it.
-    pub(crate) fn new(alloc: Global) -> Case<'a>
-        ensures { result ≡ no_contents }
+    /// A case with nothing in it, with room for the seat rows of so many lines.
+    pub(crate) fn new(alloc: Global, lines: usize) -> Result<Case<'a>, Mem>
+        ensures { IfOk result (λ case. case ≡ no_contents) }
     {
-        Case {
+        let seats = Vec::with_capacity(alloc, lines.min(MOST_SEATS))?;
+        Ok(Case {
             places: List::new(alloc),
             flights: List::new(alloc),
-            seats: List::new(alloc),
+            seats: List::from_vec(seats),
             filings: List::new(alloc),
             later: List::new(alloc),
             requests: List::new(alloc),
@@ -50,7 +54,7 @@ impl<'a> Case<'a> {
             certificate: List::new(alloc),
             ticket: List::new(alloc),
             end: 0,
-        }
+        })
     }
 
     /// Adds an entry at the end of its section. A header adds nothing but the line of `#end`.

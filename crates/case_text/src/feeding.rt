@@ -13,12 +13,15 @@ use fare_law::Mem;
 use std::alloc::Global;
 use std::io::Read;
 
+/// Rows have room for so many bytes at first, at most.
+const MOST_ROOM: usize = 16_777_216;
+
 /// The text of the lines before the first that a reader doesn't take for one row.
 #[tactic(auto, using(crate::proofs::Feed::text_steps))]
 pub fn row_text(alloc: Global, lines: &[Line<'_>]) -> Result<Vec<u8>, Mem>
     ensures { IfOk result (λ text. text.items ≡ row_text_of (map shown lines.now)) }
 {
-    let mut text = Vec::new(alloc);
+    let mut text = Vec::with_capacity(alloc, lines.len().saturating_mul(64).min(MOST_ROOM))?;
     for line in lines {
         if !is_row(line.bytes) {
             return Ok(text);

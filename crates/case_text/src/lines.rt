@@ -38,7 +38,8 @@ pub fn numbered_lines(alloc: Global, bytes: &[u8]) -> Result<NumberedLines<'_>, 
     ensures lines { IfOk result (λ found. map shown found.lines.items ≡ text_lines bytes.now) }
     ensures next { IfOk result (λ found. found.next ≡ length (lines_of bytes.now) + 1) }
 {
-    let mut lines = Vec::new(alloc);
+    // Room that isn't written takes no memory, so few lists are moved as they grow.
+    let mut lines = Vec::with_capacity(alloc, bytes.len() / 64)?;
     let mut next = 1;
     let mut rest = bytes;
     while !rest.is_empty() {

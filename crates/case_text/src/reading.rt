@@ -59,7 +59,7 @@ fn read_with<'a, R: Read>(
     ensures rows { IfOk result HasRows }
 {
     let mut standing = Standing::at_start();
-    let mut case = Case::new(alloc);
+    let mut case = Case::new(alloc, lines.len())?;
     let mut row = ByteRecord::new(alloc);
     let mut in_step = true;
     for line in lines {

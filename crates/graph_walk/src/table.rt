@@ -14,6 +14,9 @@ const MOST: usize = 4_294_967_295;
 /// How many spots there are at first.
 const FEWEST: usize = 64;
 
+/// How many rows there may be room for at first. What isn't written takes no memory.
+const ROOM: usize = 1_000_000;
+
 /// Spreads keys over numbers. Keys whose numbers are near stand near each other in a table.
 pub trait Spread<K: Eq> {
     // The number of a key.
@@ -51,14 +54,15 @@ impl<K: Eq, N: Spread<K>> Model for Rows<K, N> {
 }
 
 impl<K: Eq + Copy, N: Spread<K>> Rows<K, N> {
-    /// No rows yet.
-    pub fn new(alloc: Global) -> Result<Rows<K, N>, AllocError>
+    /// No rows yet, with room for so many where there is: then none is moved as they come.
+    pub fn new(alloc: Global, most: u32) -> Result<Rows<K, N>, AllocError>
         ensures { IfOk result (λ rows. rows.entries ≡ []) }
     {
+        let room = (most as usize).min(ROOM);
         Ok(Rows {
-            entries: Vec::new(alloc),
-            marks: Vec::new(alloc),
-            links: Vec::new(alloc),
+            entries: with_room(alloc, room),
+            marks: with_room(alloc, room),
+            links: with_room(alloc, room),
             heads: Vec::from_elem(alloc, 0, FEWEST)?,
             by: PhantomData,
         })
@@ -200,6 +204,16 @@ impl<K: Eq + Copy, N: Spread<K>> Rows<K, N> {
         ensures { result ≡ K.eq key.now (slice_index_or (keys_of self.now.entries) place key.now) }
     {
         self.marks[place] == mark && *key == self.entries[place].0
+    }
+}
+
+/// An empty list, with room for so many items if there is as much.
+fn with_room<T>(alloc: Global, room: usize) -> Vec<T>
+    ensures { result.items ≡ [] }
+{
+    match Vec::with_capacity(alloc, room) {
+        Ok(items) => items,
+        Err(_) => Vec::new(alloc),
     }
 }
 

@@ -33,7 +33,7 @@ pub fn walk<K: Eq + Copy, C, S: Steps<K, C>, N: Spread<K>>(
     ensures later { S.later steps.old steps.new }
     ensures large { IfErr result (ExceedsIf (Reached (S.leads context.now) (S.state steps.old root)) budget) }
 {
-    let mut rows = Rows::new(alloc)?;
+    let mut rows = Rows::new(alloc, budget)?;
     least_from(alloc, context, root, budget, steps, &mut rows)?;
     Ok(rows)
 }

@@ -6,6 +6,7 @@ ghost use Rattle.fare_law.specs.Limits.{IsFlight};
 ghost use Rattle.fare_law.specs.Lists.{Each};
 ghost use Rattle.schedule_book.specs.Departures.{AreDepartures, Indexes, IsKey, origins, packed};
 
+use crate::parts::Parts;
 use fare_law::{Flight, Mem, Place};
 use std::alloc::Global;
 
@@ -17,6 +18,7 @@ pub struct Departures {
     numbers: Vec<u32>,
     /// Where the key of each flight stands. What is read here is looked up before it is believed.
     spots: Vec<u32>,
+    parts: Parts,
 }
 
 impl Departures {
@@ -30,10 +32,12 @@ impl Departures {
         keys.sort_unstable();
         let numbers = numbers_of(alloc, keys.as_slice())?;
         let spots = spots_of(alloc, numbers.as_slice())?;
+        let parts = Parts::of(alloc, keys.as_slice())?;
         Ok(Departures {
             keys,
             numbers,
             spots,
+            parts,
         })
     }
 
@@ -45,14 +49,30 @@ impl Departures {
         if hi <= lo {
             return &[];
         }
-        // most ranges begin and end with flights from the place
-        let begins = spot_of(self.spots.as_slice(), lo);
-        let ends = spot_of(self.spots.as_slice(), hi - 1) + 1;
-        let first = position(self.keys.as_slice(), begins, packed(place, lo));
-        let end = position(self.keys.as_slice(), ends, packed(place, hi));
+        let first = self.find(lo, packed(place, lo));
+        let end = self.find(hi, packed(place, hi));
         let (_, after) = self.numbers.as_slice().split_at(first);
         let (part, _) = after.split_at(end - first);
         part
+    }
+
+    /// How many keys come before that of a number. Most ranges begin and end with flights from their place, so it is
+    /// looked for first where that flight's key stands, and then among those of its place.
+    fn find(&self, number: u32, key: u64) -> usize
+        requires { IsSorted nat_cmp self.now.keys.items }
+        ensures bound { result ≤ length self.now.keys.items }
+        ensures point { IsPartitionPoint (λ k. is_lt (nat_cmp k key) ≡ true) (λ k. is_lt (nat_cmp k key) ≡ false) self.now.keys.items result }
+    {
+        let keys = self.keys.as_slice();
+        let spot = spot_of(self.spots.as_slice(), number);
+        if stands_at(keys, spot, key) {
+            return spot;
+        }
+        let near = self.parts.guess(keys, key);
+        if stands_at(keys, near, key) {
+            return near;
+        }
+        keys.partition_point(|k| *k < key)
     }
 }
 
@@ -110,18 +130,6 @@ fn packed(place: Place, number: u32) -> u64
     let [a, b, c] = place.0;
     let letters = (u64::from(a) * 256 + u64::from(b)) * 256 + u64::from(c);
     letters * 4294967296 + u64::from(number)
-}
-
-/// How many keys come before a key. A guess is looked at first.
-fn position(keys: &[u64], guess: usize, key: u64) -> usize
-    requires { IsSorted nat_cmp keys.now }
-    ensures bound { result ≤ length keys.now }
-    ensures point { IsPartitionPoint (λ k. is_lt (nat_cmp k key) ≡ true) (λ k. is_lt (nat_cmp k key) ≡ false) keys.now result }
-{
-    if stands_at(keys, guess, key) {
-        return guess;
-    }
-    keys.partition_point(|k| *k < key)
 }
 
 /// Whether it can be told at once that so many keys come before a key.

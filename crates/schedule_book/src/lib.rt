@@ -8,10 +8,12 @@ mod expansion;
 mod faults;
 mod laws;
 mod numbering;
+mod parts;
 mod places;
 mod row_days;
 mod row_faults;
 mod schedule;
+mod times;
 
 pub use faults::SchedFault;
 pub use laws::{one_fault_of_rows, one_list_of_flights, ordered_flights_ascend};

@@ -14,6 +14,7 @@ use crate::departures::Departures;
 use crate::expansion::expand;
 use crate::numbering::put_in_order;
 use crate::places::Places;
+use crate::times::Times;
 use fare_law::{Flight, FlightRow, List, Place, PlaceRow};
 use std::alloc::Global;
 use std::marker::Model;
@@ -25,6 +26,7 @@ pub struct Schedule {
     places: Places,
     flights: List<Flight>,
     departures: Departures,
+    times: Times,
 }
 
 impl Model for Schedule {
@@ -66,11 +68,13 @@ impl Schedule {
         };
         put_in_order(flights.as_mut_slice());
         let departures = Departures::of(alloc, flights.as_slice())?;
+        let times = Times::of(alloc, flights.as_slice())?;
         let flights = List::from_vec(flights);
         Ok(Schedule {
             places,
             flights,
             departures,
+            times,
         })
     }
 
@@ -105,7 +109,7 @@ impl Schedule {
     pub fn lower(&self, at: i64) -> u32
         ensures { result ≡ count_by (λ f. int_lt f.dep at) self.now.flights }
     {
-        self.flights.as_slice().partition_point(|f| f.dep < at) as u32
+        self.times.lower(self.flights.as_slice(), at) as u32
     }
     /// Tells that the places are within their limits: each is of three capital letters.
     pub fn limits(&self)

@@ -6,25 +6,25 @@ use Rattle.schedule_book.proofs.departures.Departures.between.Goals as goal
 pub overflow_sub-end : goal.overflow_sub-end
 overflow_sub-end c =
     let keys = c.args.self.now.keys.items in
-    let a = c.position-first.result in
-    let b = c.position-end.result in
+    let a = c.find-first.result in
+    let b = c.find-end.result in
     let order : c.args.lo < c.args.hi = omega arith in
-    let p : Point keys (packed (c.args.place, c.args.lo)) a = subst (λ k. Point keys k a) c.packed.ensures.value (subst (λ ks. Point ks c.packed.result a) c.as_slice-3.ensures.value c.position-first.ensures.point) in
-    let q : Point keys (packed (c.args.place, c.args.hi)) b = subst (λ k. Point keys k b) c.packed-2.ensures.value (subst (λ ks. Point ks c.packed-2.result b) c.as_slice-4.ensures.value c.position-end.ensures.point) in
-    let al : a ≤ length keys = omega (arith, c.position-first.ensures.bound, ap length c.as_slice-3.ensures.value) in
-    let bl : b ≤ length keys = omega (arith, c.position-end.ensures.bound, ap length c.as_slice-4.ensures.value) in
+    let p : Point keys (packed (c.args.place, c.args.lo)) a = subst (λ k. Point keys k a) c.packed.ensures.value c.find-first.ensures.point in
+    let q : Point keys (packed (c.args.place, c.args.hi)) b = subst (λ k. Point keys k b) c.packed-2.ensures.value c.find-end.ensures.point in
+    let al : a ≤ length keys = c.find-first.ensures.bound in
+    let bl : b ≤ length keys = c.find-end.ensures.bound in
     points_turn c.args.flights.now keys c.args.self.now.numbers.items c.requires c.args.place c.args.lo c.args.hi a b order c.packed.ensures.key c.packed-2.ensures.key al bl p q
 
 pub returns : goal.returns
 returns c =
     let keys = c.args.self.now.keys.items in
-    let a = c.position-first.result in
-    let b = c.position-end.result in
+    let a = c.find-first.result in
+    let b = c.find-end.result in
     let order : c.args.lo < c.args.hi = omega arith in
-    let p : Point keys (packed (c.args.place, c.args.lo)) a = subst (λ k. Point keys k a) c.packed.ensures.value (subst (λ ks. Point ks c.packed.result a) c.as_slice-3.ensures.value c.position-first.ensures.point) in
-    let q : Point keys (packed (c.args.place, c.args.hi)) b = subst (λ k. Point keys k b) c.packed-2.ensures.value (subst (λ ks. Point ks c.packed-2.result b) c.as_slice-4.ensures.value c.position-end.ensures.point) in
-    let al : a ≤ length keys = omega (arith, c.position-first.ensures.bound, ap length c.as_slice-3.ensures.value) in
-    let bl : b ≤ length keys = omega (arith, c.position-end.ensures.bound, ap length c.as_slice-4.ensures.value) in
+    let p : Point keys (packed (c.args.place, c.args.lo)) a = subst (λ k. Point keys k a) c.packed.ensures.value c.find-first.ensures.point in
+    let q : Point keys (packed (c.args.place, c.args.hi)) b = subst (λ k. Point keys k b) c.packed-2.ensures.value c.find-end.ensures.point in
+    let al : a ≤ length keys = c.find-first.ensures.bound in
+    let bl : b ≤ length keys = c.find-end.ensures.bound in
     let part = part_departs c.args.flights.now keys c.args.self.now.numbers.items c.requires c.args.place c.args.lo c.args.hi a b order c.packed.ensures.key c.packed-2.ensures.key al bl p q in
-    let is = c.split_at-2.ensures.front ∙ ap (take (b - a)) (c.split_at.ensures.back ∙ ap (drop a) c.as_slice-5.ensures.value) in
+    let is = c.split_at-2.ensures.front ∙ ap (take (b - a)) (c.split_at.ensures.back ∙ ap (drop a) c.as_slice.ensures.value) in
     subst (AreDepartures c.args.flights.now c.args.place c.args.lo c.args.hi) (sym is) part
