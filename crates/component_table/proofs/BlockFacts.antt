@@ -4,7 +4,7 @@ use Rattle.component_table.specs.declared.classes.PathClass.{PathClass}
 use Rattle.component_table.specs.declared.growing.Block.{Block}
 use Rattle.component_table.specs.declared.growing.Slot.{Slot}
 use Rattle.component_table.specs.declared.growing.Spot.{Spot}
-use Rattle.component_table.specs.declared.ways.Flown.{Flown}
+use Rattle.component_table.specs.declared.ways.Placed.{Placed}
 use Rattle.component_table.specs.declared.ways.Wanted.{Wanted}
 use Rattle.component_table.specs.Blocks.{AreSlots, HasBlock, HasOutline, IsSlot, IsSlotOf, TellsNoMore, TellsOne, outline_of, whole_class}
 use Rattle.component_table.specs.Classes.{IsOfClass}
@@ -82,8 +82,8 @@ pub block_outline : (blocks : List Block) (c : PathClass) (spot : Spot) → HasB
 block_outline blocks c spot h = record { one = h.one; stands = h.stands; outline = ap (λ x. outline_of x spot.key spot.reverse) (sym h.class_is) }
 
 -- so is that of a group that is wanted
-pub wanted_outline : (blocks : List Block) (flown : Flown) (r : Bool) (w : Wanted) → IsWanted flown r w → HasBlock blocks (whole_class flown.class) flown.block → HasOutline blocks w.spot (outline_of flown.class w.group.now.key r)
-wanted_outline blocks flown r w is h = record {
+pub wanted_outline : (blocks : List Block) (placed : Placed) (r : Bool) (w : Wanted) → IsWanted placed r w → HasBlock blocks (whole_class placed.path.now.class) placed.block → HasOutline blocks w.spot (outline_of placed.path.now.class w.group.now.key r)
+wanted_outline blocks placed r w is h = record {
   one = h.one;
   stands = ap (slice_get blocks) is.block_is ∙ h.stands;
   outline = ap (λ (c : PathClass). outline_of c w.group.now.key r) (sym h.class_is) ∙ ap (λ (k : GroupKey). outline_of h.one.class k r) (sym is.key_is) ∙ ap (λ x. outline_of h.one.class w.spot.key x) (sym is.reverse_is);

@@ -5,12 +5,13 @@ use Rattle.std.proofs.lemmas.List.Elements.{All-head, All-tail}
 use Rattle.component_table.specs.declared.classes.PathClass.{PathClass}
 use Rattle.component_table.specs.declared.markets.Market.{Market}
 use Rattle.component_table.specs.declared.settled.SettledClass.{SettledClass}
-use Rattle.component_table.specs.declared.ways.Flown.{Flown}
 use Rattle.component_table.specs.Blocks.{outline_of}
 use Rattle.component_table.specs.Classes.{GroupSettled, IsOfClass}
-use Rattle.component_table.specs.Tables.{GroupDone, HasBelow, HasGroup, HasRow, IsEntry, IsOver, IsPathOver, IsRowOf, Lowered}
+use Rattle.component_table.specs.Markets.{IsMarket}
+use Rattle.component_table.specs.Tables.{Flown, GroupDone, HasBelow, HasGroup, HasRow, IsEntry, IsOver, IsPathOver, IsRowOf, Lowered}
 use Rattle.component_table.proofs.BlockFacts.{class_outline}
 use Rattle.component_table.proofs.Lower.{goes_lowered, goes_self}
+use Rattle.fare_book.specs.Keeping.{Limited}
 use Rattle.fare_groups.specs.declared.group.FareGroup.{FareGroup}
 use Rattle.fare_groups.specs.declared.group.GroupKey.{GroupKey}
 use Rattle.fare_groups.specs.declared.group.GroupedFare.{GroupedFare}
@@ -99,35 +100,35 @@ share_alone mine extra = omega arith
 pub least_below : (mine charges price extra : ℕ) → price ≡ mine + charges → charges ≤ extra → price ≤ mine + extra
 least_below mine charges price extra e least = omega (arith, e, least)
 
-module _ (b : Book) (q : Request) (flown : Flown) (m : Market) (g : FareGroup) (is : IsOver b q flown m) (i : IsIn g m.groups) where
+module _ (b : Book) (m : Market) (g : FareGroup) (market : IsMarket b m) (limited : Limited b) (i : IsIn g m.groups) where
   live_of : (row : SheetRow) → IsIn row m.sheet.value.rows → IsLiveRow b m.sheet.value.from m.sheet.value.to row
-  live_of row j = (is.market_is.sheet.live row).0 j
+  live_of row j = (market.sheet.live row).0 j
 
   pub low_classes : Each (λ (f : GroupedFare). f.class ≤ 25) g.fares
-  low_classes = each_in (λ (x : FareGroup). Each (λ (f : GroupedFare). f.class ≤ 25) x.fares) m.groups g (classes_are_low m.sheet.value.rows m.groups is.market_is.groups
-      (each_from (λ (row : SheetRow). row.fare.class ≤ 25) m.sheet.value.rows (λ row j. (is.limited.fares row.fare.key row.fare (live_of row j).fare).1.class))) i
+  low_classes = each_in (λ (x : FareGroup). Each (λ (f : GroupedFare). f.class ≤ 25) x.fares) m.groups g (classes_are_low m.sheet.value.rows m.groups market.groups
+      (each_from (λ (row : SheetRow). row.fare.class ≤ 25) m.sheet.value.rows (λ row j. (limited.fares row.fare.key row.fare (live_of row j).fare).1.class))) i
 
   pub has_row : HasRow m.sheet.value.rows g
   has_row = record {
-    some = (each_in (IsGroup m.sheet.value.rows) m.groups g is.market_is.groups.each i).some;
-    are = λ f j. let x = fares_are_rows m.sheet.value.rows m.groups is.market_is.groups g i f j in (x.row, x.stands, x.key_is);
+    some = (each_in (IsGroup m.sheet.value.rows) m.groups g market.groups.each i).some;
+    are = λ f j. let x = fares_are_rows m.sheet.value.rows m.groups market.groups g i f j in (x.row, x.stands, x.key_is);
   }
 
   pub rule_live : (row : SheetRow) → IsRowOf m.sheet.value.rows g row → live_rule b g.key.carrier g.key.number ≡ Some row.rule
   rule_live row r = subst (λ (k : GroupKey). live_rule b k.carrier k.number ≡ Some row.rule) r.key (live_of row r.within).rule
 
   pub rule_within : (row : SheetRow) → IsRowOf m.sheet.value.rows g row → IsRule row.rule
-  rule_within row r = is.limited.rules row.fare.key.carrier row.fare.rule row.rule (live_of row r.within).rule
+  rule_within row r = limited.rules row.fare.key.carrier row.fare.rule row.rule (live_of row r.within).rule
 
   -- a least share is low
-  pub share_low : (least : ℕ) → Cheapest flown.classes g.fares (Some least) → least ≤ 1000000000
-  share_low least c =
-      let x = fares_are_rows m.sheet.value.rows m.groups is.market_is.groups g i c.fare c.within in
-      let amount = (is.limited.fares x.row.fare.key x.row.fare (live_of x.row (got_in m.sheet.value.rows c.fare.place x.row x.stands)).fare).1.amount in
+  pub share_low : (classes least : ℕ) → Cheapest classes g.fares (Some least) → least ≤ 1000000000
+  share_low classes least c =
+      let x = fares_are_rows m.sheet.value.rows m.groups market.groups g i c.fare c.within in
+      let amount = (limited.fares x.row.fare.key x.row.fare (live_of x.row (got_in m.sheet.value.rows c.fare.place x.row x.stands)).fare).1.amount in
       subst (λ n. n ≤ 1000000000) (sym (sym c.costs ∙ ap (λ (f : GroupedFare). f.share) x.fare)) (low_share x.row.fare.kind x.row.fare.amount amount)
 
 module _ (b : Book) (q : Request) (at : Position) (path : Path) (flown : Flown) (reverse : Bool) (m : Market) (g : FareGroup) (is : IsOver b q flown m) (i : IsIn g m.groups) where
-  over : IsPathOver b q at path flown reverse m → OverMarket b q at path flown.flights.now is.flown_is.legs.legs flown.classes reverse m.sheet.value m.groups
+  over : IsPathOver b q at path flown reverse m → OverMarket b q at path flown.flights is.flown_is.legs.legs flown.classes reverse m.sheet.value m.groups
   over p = record {
     path_is = p.is_of.path_is;
     legs_are = is.flown_is.legs.legs_are;
@@ -144,45 +145,45 @@ module _ (b : Book) (q : Request) (at : Position) (path : Path) (flown : Flown) 
     has = λ rule live permits least c. absurd (each_in (λ (f : GroupedFare). IsBitSet flown.classes f.class → ⊥) g.fares c.fare none c.within c.open_class);
   }
 
-  pub none_extra : (old : List Entry) (row : SheetRow) → IsRowOf m.sheet.value.rows g row → (Permits row.rule g.key.carrier flown.flights.now → ⊥) → GroupDone b q at path flown reverse g old old
+  pub none_extra : (old : List Entry) (row : SheetRow) → IsRowOf m.sheet.value.rows g row → (Permits row.rule g.key.carrier flown.flights → ⊥) → GroupDone b q at path flown reverse g old old
   none_extra old row r none = record {
     goes = goes_self b q at old;
-    has = λ rule live permits least c. absurd (none (subst (λ x. Permits x g.key.carrier flown.flights.now) (some_one (live_rule b g.key.carrier g.key.number) rule row.rule live (rule_live b q flown m g is i row r)) permits));
+    has = λ rule live permits least c. absurd (none (subst (λ x. Permits x g.key.carrier flown.flights) (some_one (live_rule b g.key.carrier g.key.number) rule row.rule live (rule_live b m g is.market_is is.limited i row r)) permits));
   }
 
   cheap_le : (mine least : ℕ) → Cheapest flown.classes g.fares (Some mine) → Cheapest flown.classes g.fares (Some least) → mine ≤ least
   cheap_le mine least cheap c = subst (λ n. mine ≤ n) c.costs (each_in (λ (f : GroupedFare). IsBitSet flown.classes f.class → mine ≤ f.share) g.fares c.fare cheap.below c.within c.open_class)
 
   -- where the outline stands at no more than the least share, nothing is to be put in
-  pub group_below : (table : List Entry) (mine : ℕ) (o : Outline) → Cheapest flown.classes g.fares (Some mine) → OutlineOver o path.after flown.flights.now g.key reverse → HasBelow table o mine → GroupDone b q at path flown reverse g table table
+  pub group_below : (table : List Entry) (mine : ℕ) (o : Outline) → Cheapest flown.classes g.fares (Some mine) → OutlineOver o path.after flown.flights g.key reverse → HasBelow table o mine → GroupDone b q at path flown reverse g table table
   group_below table mine o cheap oo low = record {
     goes = goes_self b q at table;
-    has = λ rule live permits least c. (low.entry, low.within, subst (λ (z : Outline). OutlineOver z path.after flown.flights.now g.key reverse) (sym low.outline) oo, sums least (extra_of rule flown.flights.now) (cheap_le mine least cheap c));
+    has = λ rule live permits least c. (low.entry, low.within, subst (λ (z : Outline). OutlineOver z path.after flown.flights g.key reverse) (sym low.outline) oo, sums least (extra_of rule flown.flights) (cheap_le mine least cheap c));
   }
     where
       sums : (least extra : ℕ) → mine ≤ least → low.entry.price ≤ least + extra
       sums least extra h = let k = low.below in omega (arith, h, k)
 
-  group_has : (table : List Entry) (row : SheetRow) (mine charges : ℕ) (o : Outline) → IsRowOf m.sheet.value.rows g row → Cheapest flown.classes g.fares (Some mine) → charges ≡ extra_of row.rule flown.flights.now → OutlineOver o path.after flown.flights.now g.key reverse → HasBelow table o (mine + charges)
-      → HasGroup b path flown.flights.now flown.classes reverse g table
+  group_has : (table : List Entry) (row : SheetRow) (mine charges : ℕ) (o : Outline) → IsRowOf m.sheet.value.rows g row → Cheapest flown.classes g.fares (Some mine) → charges ≡ extra_of row.rule flown.flights → OutlineOver o path.after flown.flights g.key reverse → HasBelow table o (mine + charges)
+      → HasGroup b path flown.flights flown.classes reverse g table
   group_has table row mine charges o r cheap extra oo has rule live permits least c =
-      let same = some_one (live_rule b g.key.carrier g.key.number) row.rule rule (rule_live b q flown m g is i row r) live in
-      (has.entry, has.within, subst (λ (z : Outline). OutlineOver z path.after flown.flights.now g.key reverse) (sym has.outline) oo, sums has.entry.price least charges (extra_of rule flown.flights.now) has.below (cheap_le mine least cheap c) (extra ∙ ap (λ z. extra_of z flown.flights.now) same))
+      let same = some_one (live_rule b g.key.carrier g.key.number) row.rule rule (rule_live b m g is.market_is is.limited i row r) live in
+      (has.entry, has.within, subst (λ (z : Outline). OutlineOver z path.after flown.flights g.key reverse) (sym has.outline) oo, sums has.entry.price least charges (extra_of rule flown.flights) has.below (cheap_le mine least cheap c) (extra ∙ ap (λ z. extra_of z flown.flights) same))
     where
       sums : (p least y z : ℕ) → p ≤ mine + y → mine ≤ least → y ≡ z → p ≤ least + z
       sums p least y z h k e = omega (arith, h, k, e)
 
   -- nor where it stands at no more than the price
-  pub group_dear : (table : List Entry) (row : SheetRow) (mine charges price : ℕ) (o : Outline) → IsRowOf m.sheet.value.rows g row → Cheapest flown.classes g.fares (Some mine) → charges ≡ extra_of row.rule flown.flights.now → OutlineOver o path.after flown.flights.now g.key reverse → price ≡ mine + charges → HasBelow table o price
+  pub group_dear : (table : List Entry) (row : SheetRow) (mine charges price : ℕ) (o : Outline) → IsRowOf m.sheet.value.rows g row → Cheapest flown.classes g.fares (Some mine) → charges ≡ extra_of row.rule flown.flights → OutlineOver o path.after flown.flights g.key reverse → price ≡ mine + charges → HasBelow table o price
       → GroupDone b q at path flown reverse g table table
   group_dear table row mine charges price o r cheap extra oo is has = record {
     goes = goes_self b q at table;
     has = group_has table row mine charges o r cheap extra oo (subst (HasBelow table o) is has);
   }
 
-  pub group_had : IsPathOver b q at path flown reverse m → (old new : List Entry) (row : SheetRow) (least charges : ℕ) (o : Outline) → IsRowOf m.sheet.value.rows g row → Cheapest flown.classes g.fares (Some least) → Permits row.rule g.key.carrier flown.flights.now → charges ≡ extra_of row.rule flown.flights.now
-      → OutlineOver o path.after flown.flights.now g.key reverse → Lowered (record { outline = o; rule = row.rule; price = least + charges }) old new → GroupDone b q at path flown reverse g old new
-  group_had p old new row mine charges o r cheap permits extra oo l = record {
+  pub group_had : All IsFlight flown.flights → IsPathOver b q at path flown reverse m → (old new : List Entry) (row : SheetRow) (least charges : ℕ) (o : Outline) → IsRowOf m.sheet.value.rows g row → Cheapest flown.classes g.fares (Some least) → Permits row.rule g.key.carrier flown.flights → charges ≡ extra_of row.rule flown.flights
+      → OutlineOver o path.after flown.flights g.key reverse → Lowered (record { outline = o; rule = row.rule; price = least + charges }) old new → GroupDone b q at path flown reverse g old new
+  group_had limits p old new row mine charges o r cheap permits extra oo l = record {
     goes = goes_lowered b q at x old new entry l;
     has = group_has new row mine charges o r cheap extra oo l.has;
   }
@@ -192,7 +193,7 @@ module _ (b : Book) (q : Request) (at : Position) (path : Path) (flown : Flown) 
 
       entry : IsEntry b q at x
       entry = record {
-        outlined = subst (λ n. Outlined b q at o (mine + n)) (sym extra) (groups_give b q at path flown.flights.now is.flown_is.legs.legs flown.classes reverse m.sheet.value m.groups (over p) g i row.rule (rule_live b q flown m g is i row r) permits mine cheap o oo);
-        rule = ap (λ c. live_rule b c o.number) oo.carrier ∙ ap (live_rule b g.key.carrier) oo.number ∙ rule_live b q flown m g is i row r;
-        within = record { first = first_day o.first flown.flights.now is.flown_is.limits oo.first; last = last_day o flown.flights.now is.flown_is.limits oo.ends; rule = rule_within b q flown m g is i row r };
+        outlined = subst (λ n. Outlined b q at o (mine + n)) (sym extra) (groups_give b q at path flown.flights is.flown_is.legs.legs flown.classes reverse m.sheet.value m.groups (over p) g i row.rule (rule_live b m g is.market_is is.limited i row r) permits mine cheap o oo);
+        rule = ap (λ c. live_rule b c o.number) oo.carrier ∙ ap (live_rule b g.key.carrier) oo.number ∙ rule_live b m g is.market_is is.limited i row r;
+        within = record { first = first_day o.first flown.flights limits oo.first; last = last_day o flown.flights limits oo.ends; rule = rule_within b m g is.market_is is.limited i row r };
       }

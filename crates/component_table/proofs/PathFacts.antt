@@ -2,11 +2,10 @@
 use Rattle.std.proofs.Common.{◌≡◌, ℕ, suc, ◌+◌, ◌<◌, Bool, true, false, List, [], ◌∷◌, ◌++◌, length, take, get_or, slice_get, Option, Some, refl, sym, ap, subst, ◌∙◌, inl, inr, arith}
 use Rattle.component_table.specs.declared.markets.Market.{Market}
 use Rattle.component_table.specs.declared.markets.MarketKey.{MarketKey}
-use Rattle.component_table.specs.declared.ways.Flown.{Flown}
 use Rattle.component_table.specs.Markets.{StandsAt}
 use Rattle.component_table.specs.Reaches.{end_from, end_to}
 use Rattle.component_table.specs.Tails.{HasNoFares}
-use Rattle.component_table.specs.Tables.{HasPut, IsDone, IsEntry, IsOfPath, IsOver, IsPathFrom, IsPathOver, IsTable, MarketDone, PathAdded, PutsIn, WayDone}
+use Rattle.component_table.specs.Tables.{Flown, HasPut, IsDone, IsEntry, IsOfPath, IsOver, IsPathFrom, IsPathOver, IsTable, MarketDone, PathAdded, PutsIn, WayDone}
 use Rattle.component_table.proofs.GroupFacts.{path_some}
 use Rattle.component_table.proofs.Lower.{goes_on, goes_self, path_done_on}
 use Rattle.fare_book.specs.Keeping.{NoFare}
@@ -64,18 +63,18 @@ module _ (b : Book) (q : Request) (at : Position) (ns : List ℕ) (fs : List Fli
       go (n ∷ ms) (f ∷ gs) h e some false = on_last_to (λ z. z.to ≡ place) (λ z. (at.place ≡ f.from) × (place ≡ z.to)) (f ∷ gs) (λ z k. (sym h.2.departs, sym k)) e
 
 module _ (b : Book) (q : Request) (at : Position) (path : Path) (flown : Flown) (reverse : Bool) where
-  pub none_done : (from to : Place) (old : List Entry) → MarketOver reverse flown.flights.now from to → NoFare b from to → WayDone b q at path flown.flights.now reverse old old
+  pub none_done : (from to : Place) (old : List Entry) → MarketOver reverse flown.flights from to → NoFare b from to → WayDone b q at path flown.flights reverse old old
   none_done from to old over none = record { goes = goes_self b q at old; done = record { from = from; to = to; market = over; done = inl none } }
 
-  pub market_over : (key : MarketKey) (ms : List Market) (n : ℕ) (m : Market) → StandsAt ms key n → slice_get ms n ≡ Some m → MarketOver reverse flown.flights.now key.from key.to → MarketOver reverse flown.flights.now m.sheet.value.from m.sheet.value.to
+  pub market_over : (key : MarketKey) (ms : List Market) (n : ℕ) (m : Market) → StandsAt ms key n → slice_get ms n ≡ Some m → MarketOver reverse flown.flights key.from key.to → MarketOver reverse flown.flights m.sheet.value.from m.sheet.value.to
   market_over key ms n m s stands over =
       let same : s.market ≡ m = some_is s.market m (sym s.stands ∙ stands) in
-      subst (λ (x : Market). MarketOver reverse flown.flights.now x.sheet.value.from x.sheet.value.to) same (subst (λ p. MarketOver reverse flown.flights.now s.market.sheet.value.from p) (sym s.to) (subst (λ p. MarketOver reverse flown.flights.now p key.to) (sym s.from) over))
+      subst (λ (x : Market). MarketOver reverse flown.flights x.sheet.value.from x.sheet.value.to) same (subst (λ p. MarketOver reverse flown.flights s.market.sheet.value.from p) (sym s.to) (subst (λ p. MarketOver reverse flown.flights p key.to) (sym s.from) over))
     where
       some_is : {X : Type 0} (x y : X) → Some x ≡ Some y → x ≡ y
       some_is x y e = cc
 
-  pub way_done : (m : Market) (old new : List Entry) (is : IsOver b q flown m) → IsPathOver b q at path flown reverse m → MarketDone b q at path flown reverse m old new → WayDone b q at path flown.flights.now reverse old new
+  pub way_done : (m : Market) (old new : List Entry) (is : IsOver b q flown m) → IsPathOver b q at path flown reverse m → MarketDone b q at path flown reverse m old new → WayDone b q at path flown.flights reverse old new
   way_done m old new is p d = record {
     goes = d.goes;
     done = record {
@@ -103,15 +102,15 @@ module _ (b : Book) (q : Request) (at : Position) (path : Path) (flown : Flown) 
 
 module _ (b : Book) (q : Request) (at : Position) where
   -- both ways
-  pub path_added : (path : Path) (flown : Flown) (old mid new : List Entry) → IsOfPath b q at path flown → WayDone b q at path flown.flights.now false old mid → WayDone b q at path flown.flights.now true mid new → PathAdded b q at path old new
+  pub path_added : (path : Path) (flown : Flown) (old mid new : List Entry) → IsOfPath b q at path flown → WayDone b q at path flown.flights false old mid → WayDone b q at path flown.flights true mid new → PathAdded b q at path old new
   path_added path flown old mid new is_of there back = record {
     goes = goes_on b q at old mid new there.goes back.goes;
-    done = λ fs is reverse. subst (λ gs. PathDone b q at path gs reverse new) (numbers_one b path.flights flown.flights.now fs (path_numbers b q at path.flights flown.flights.now path.after is_of.path_is) (path_numbers b q at path.flights fs path.after is)) (both reverse);
+    done = λ fs is reverse. subst (λ gs. PathDone b q at path gs reverse new) (numbers_one b path.flights flown.flights fs (path_numbers b q at path.flights flown.flights path.after is_of.path_is) (path_numbers b q at path.flights fs path.after is)) (both reverse);
   }
     where
-      both : (reverse : Bool) → PathDone b q at path flown.flights.now reverse new
+      both : (reverse : Bool) → PathDone b q at path flown.flights reverse new
       both true = back.done
-      both false = path_done_on b q at path flown.flights.now false mid new back.goes.covers there.done
+      both false = path_done_on b q at path flown.flights false mid new back.goes.covers there.done
 
   -- a path to a place that no fare is filed to or from is done of itself
   apart_done : (path : Path) (fs : List Flight) (place : Place) (table : List Entry) → HasNoFares b at.place place → IsPath b q.slices at path.flights fs path.after → OnLast (λ f. f.to ≡ place) fs → (reverse : Bool) → PathDone b q at path fs reverse table

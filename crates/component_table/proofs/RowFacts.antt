@@ -13,13 +13,12 @@ use Rattle.component_table.specs.declared.rows.Row.{Row}
 use Rattle.component_table.specs.declared.rows.Rows.{Rows}
 use Rattle.component_table.specs.declared.ways.Joint.{Joint}
 use Rattle.component_table.specs.declared.ways.Landed.{Landed}
-use Rattle.component_table.specs.Classes.{AreAmong, ClassDone, IsOfClass, LandsBy}
+use Rattle.component_table.specs.Classes.{AreAmong, ClassDone, IsLanded, IsOfClass}
 use Rattle.component_table.specs.Joints.{IsJoint, IsJointOf, Joins}
 use Rattle.component_table.specs.Kinds.{AreKindsOf, IsKindOf, joined_class}
 use Rattle.component_table.specs.Reaches.{IsEnd}
 use Rattle.component_table.specs.Rows.{AddsMask, AreRows, HasRows, IsHeadOf, IsMet, IsRow, IsRowAt, with_more}
-use Rattle.component_table.specs.Tables.{AddsNothing, AreLimited, Covers, HasLegs}
-use Rattle.component_table.proofs.Collected.{numbers_long}
+use Rattle.component_table.specs.Tables.{AddsNothing, Covers, HasLegs, numbers_of}
 use Rattle.component_table.proofs.FareFacts.{class_both, class_on}
 use Rattle.component_table.proofs.Halves.{joint_class, joint_legs}
 use Rattle.component_table.proofs.Lower.{set_only}
@@ -145,15 +144,19 @@ module _ (b : Book) (q : Request) (at : Position) (table : List Entry) (r : Rows
         x.class_is ∙ ap (λ d. joined_class d x.tail) (sym row.class_is) ∙ ap (λ (y : Row). joined_class y.class x.tail) same;
   }
 
--- the flights of a head and a tail land where their class ends
-pub joint_lands : (b : Book) (q : Request) (at : Position) (ms : List Market) (j : Joint) (l : Landed) (fs : List Flight) → IsJoint b q j → Numbers b (j.head.now.flights ++ j.tail.now.flights) fs → AreLimited b → IsEnd b at.place ms l.end.now → l.end.now.key ≡ record { place = j.class.end; carrier = j.class.carrier }
-    → l.class ≡ j.class → l.classes ≡ j.classes → LandsBy b q at ms l fs
-joint_lands b q at ms j l fs is numbers limited end key class classes = record {
+-- a path of a head and a tail lands where its class ends
+pub joint_lands : (b : Book) (q : Request) (at : Position) (ms : List Market) (j : Joint) (l : Landed) → IsJoint b q j → numbers_of l ≡ j.head.now.flights ++ j.tail.now.flights → IsEnd b at.place ms l.end.now → l.end.now.key ≡ record { place = j.class.end; carrier = j.class.carrier }
+    → l.class ≡ j.class → l.classes ≡ j.classes → IsLanded b q at ms l
+joint_lands b q at ms j l is numbers end key class classes = record {
+  path = record {
+    few = subst (λ n. n ≤ 4) (sym (ap length numbers ∙ length-append j.head.now.flights j.tail.now.flights)) is.few;
+    classes = λ fs m. subst (HasLegs b q fs) (sym classes) (is.classes fs (own fs m));
+    class = λ fs m. subst (λ (k : PathClass). IsOfClass k k.after fs) (sym class) (is.class fs (own fs m));
+  };
   end = end;
-  few = subst (λ n. n ≤ 4) (sym (numbers_long b (j.head.now.flights ++ j.tail.now.flights) fs numbers ∙ length-append j.head.now.flights j.tail.now.flights)) is.few;
-  limits = limited (j.head.now.flights ++ j.tail.now.flights) fs numbers;
-  legs = subst (HasLegs b q fs) (sym classes) (is.classes fs numbers);
-  class = subst (λ (k : PathClass). IsOfClass k k.after fs) (sym class) (is.class fs numbers);
   place_is = ap (λ (k : PathClass). k.end) class ∙ sym (ap (λ (x : EndKey). x.place) key);
   carrier_is = ap (λ (k : PathClass). k.carrier) class ∙ sym (ap (λ (x : EndKey). x.carrier) key);
 }
+  where
+    own : (fs : List Flight) → Numbers b (numbers_of l) fs → Numbers b (j.head.now.flights ++ j.tail.now.flights) fs
+    own fs = subst (λ ns. Numbers b ns fs) numbers

@@ -5,10 +5,9 @@ use Rattle.component_table.specs.declared.ends.End.{End}
 use Rattle.component_table.specs.declared.ends.EndKey.{EndKey}
 use Rattle.component_table.specs.declared.filed.Filed.{Filed}
 use Rattle.component_table.specs.declared.markets.Market.{Market}
-use Rattle.component_table.specs.declared.ways.Flown.{Flown}
 use Rattle.component_table.specs.Markets.{AreMarkets, IsMarket}
 use Rattle.component_table.specs.Reaches.{FiledAt, IsEnd, IsUnserved, StandBetween, end_from, end_to, filed_of}
-use Rattle.component_table.specs.Tables.{GoesOn, GroupDone, HasGroup, HasLegs, PathAdded}
+use Rattle.component_table.specs.Tables.{Flown, GoesOn, GroupDone, HasGroup, HasLegs, PathAdded}
 use Rattle.component_table.proofs.GroupFacts.{path_some, some_counted}
 use Rattle.component_table.proofs.Lower.{goes_on, goes_self, has_group_on}
 use Rattle.component_table.proofs.PathFacts.{path_numbers, path_over}
@@ -150,7 +149,7 @@ module _ (b : Book) (q : Request) (at : Position) (path : Path) (ms : List Marke
 -- the groups of a market from one place on and before another were put in
 pub record BetweenIn (b : Book) (q : Request) (at : Position) (path : Path) (flown : Flown) (reverse : Bool) (gs : List FareGroup) (from to : ℕ) (old new : List Entry) : Type 0 where
   pub goes : GoesOn b q at old new
-  pub has : (i : ℕ) (g : FareGroup) → slice_get gs i ≡ Some g → from ≤ i → i < to → HasGroup b path flown.flights.now flown.classes reverse g new
+  pub has : (i : ℕ) (g : FareGroup) → slice_get gs i ≡ Some g → from ≤ i → i < to → HasGroup b path flown.flights flown.classes reverse g new
 
 module _ (b : Book) (q : Request) (at : Position) (path : Path) (flown : Flown) (reverse : Bool) (gs : List FareGroup) where
   pub between_none : (from : ℕ) (old new : List Entry) → new ≡ old → BetweenIn b q at path flown reverse gs from from old new
@@ -160,7 +159,7 @@ module _ (b : Book) (q : Request) (at : Position) (path : Path) (flown : Flown) 
   between_more from n d x old mid new lt e h done = record {
     goes = goes_on b q at old mid new h.goes done.goes;
     has = λ i g got low high. elim (here_or_before i n high) [
-      | inl k ↦ has_group_on b path flown.flights.now flown.classes reverse g mid new done.goes.covers (h.has i g got low k)
-      | inr s ↦ subst (λ (y : FareGroup). HasGroup b path flown.flights.now flown.classes reverse y new) (some_one (slice_get gs n) x g (read_got gs n d x lt e) (ap (slice_get gs) (sym s) ∙ got)) done.has
+      | inl k ↦ has_group_on b path flown.flights flown.classes reverse g mid new done.goes.covers (h.has i g got low k)
+      | inr s ↦ subst (λ (y : FareGroup). HasGroup b path flown.flights flown.classes reverse y new) (some_one (slice_get gs n) x g (read_got gs n d x lt e) (ap (slice_get gs) (sym s) ∙ got)) done.has
     ];
   }

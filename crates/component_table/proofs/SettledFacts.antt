@@ -1,17 +1,15 @@
 -- Classes of paths that are settled: when one is, and that it stays so as the table grows.
-use Rattle.std.proofs.Common.{◌≡◌, ◌⊎◌, ℕ, ◌+◌, ◌<◌, ◌≤◌, All, Bool, true, false, List, [], ◌∷◌, length, get_or, slice_get, Option, Some, None, IsBitSet, bit_and, sym, ap, subst, ◌∙◌, inl, inr, arith}
-use Rattle.std.specs.Int.{IsInRange}
+use Rattle.std.proofs.Common.{◌≡◌, ◌⊎◌, ℕ, ◌+◌, ◌<◌, ◌≤◌, Bool, true, false, List, [], ◌∷◌, length, get_or, slice_get, Option, Some, None, IsBitSet, bit_and, sym, ap, subst, ◌∙◌, inl, inr, arith}
 use Rattle.component_table.specs.declared.classes.PathClass.{PathClass}
 use Rattle.component_table.specs.declared.ends.End.{End}
 use Rattle.component_table.specs.declared.filed.Filed.{Filed}
 use Rattle.component_table.specs.declared.markets.Market.{Market}
 use Rattle.component_table.specs.declared.settled.SettledClass.{SettledClass}
-use Rattle.component_table.specs.declared.ways.Flown.{Flown}
 use Rattle.component_table.specs.declared.ways.Landed.{Landed}
-use Rattle.component_table.specs.Classes.{AreAmong, AreSettled, BothSettled, ClassDone, GroupSettled, GroupsSettled, IsLanded, IsOfClass, LandsBy, WaySettled, class_landed}
-use Rattle.component_table.specs.Markets.{AreMarkets}
+use Rattle.component_table.specs.Classes.{AreAmong, AreSettled, BothSettled, ClassDone, GroupSettled, GroupsSettled, IsLanded, IsNumbered, IsOfClass, WaySettled, class_landed}
+use Rattle.component_table.specs.Markets.{AreMarkets, IsMarket}
 use Rattle.component_table.specs.Reaches.{filed_of}
-use Rattle.component_table.specs.Tables.{AreLimited, Covers, HasLegs, IsFlown, PathAdded}
+use Rattle.component_table.specs.Tables.{Covers, HasLegs, IsFlown, IsOver, PathAdded, flown_on, numbers_of}
 use Rattle.component_table.proofs.Collected.{numbers_long}
 use Rattle.component_table.proofs.FareFacts.{class_on, class_some, fares_done, path_of_class_done}
 use Rattle.component_table.proofs.Lower.{goes_self}
@@ -24,7 +22,6 @@ use Rattle.fare_groups.proofs.Bits.{both_set}
 use Rattle.fare_law.specs.declared.flights.Flight.{Flight}
 use Rattle.fare_law.specs.declared.requests.Request.{Request}
 use Rattle.fare_law.specs.Book.{Book}
-use Rattle.fare_law.specs.Limits.{IsFlight}
 use Rattle.fare_law.specs.Lists.{IsIn, OnFirst, OnLast}
 use Rattle.fare_law.specs.Parts.{Numbers, stopovers}
 use Rattle.flight_paths.specs.declared.positions.Path.{Path}
@@ -38,33 +35,24 @@ use Rattle.law_lemmas.proofs.Lists.{read_got}
 use Rattle.law_lemmas.proofs.Numbers.{here_or_before, le_on}
 use Rattle.law_lemmas.proofs.Options.{some_one}
 
--- what is known of flights that land, once their block is
-pub lands_flown : (b : Book) (q : Request) (at : Position) (ms : List Market) (l : Landed) (fs : List Flight) (flown : Flown) → LandsBy b q at ms l fs → flown.flights.now ≡ fs → flown.classes ≡ l.classes → IsFlown b q flown
-lands_flown b q at ms l fs flown is same classes = record {
-  count = subst (λ gs. IsInRange 1 4 (length gs)) (sym same) (class_some l.class l.class.after fs is.class, is.few);
-  limits = subst (λ gs. All IsFlight gs) (sym same) is.limits;
-  legs = subst (λ n. HasLegs b q flown.flights.now n) (sym classes) (subst (λ gs. HasLegs b q gs l.classes) (sym same) is.legs);
-}
+-- what is known of the flights of a path's numbers
+module _ (b : Book) (q : Request) (l : Landed) (fs : List Flight) (is : IsNumbered b q l) (numbers : Numbers b (numbers_of l) fs) where
+  pub numbered_flown : IsFlown b q (flown_on l fs)
+  numbered_flown = record {
+    count = (class_some l.class l.class.after fs (is.class fs numbers), subst (λ n. n ≤ 4) (sym (numbers_long b (numbers_of l) fs numbers)) is.few);
+    legs = is.classes fs numbers;
+  }
 
--- the flights of a path's numbers land, if they are so
-pub landed_lands : (b : Book) (q : Request) (at : Position) (ms : List Market) (ns : List ℕ) (l : Landed) (fs : List Flight) → IsLanded b q at ms ns l → length ns ≤ 4 → AreLimited b → Numbers b ns fs → LandsBy b q at ms l fs
-landed_lands b q at ms ns l fs is few limited numbers = record {
-  end = is.end;
-  few = subst (λ n. n ≤ 4) (sym (numbers_long b ns fs numbers)) few;
-  limits = limited ns fs numbers;
-  legs = is.classes fs numbers;
-  class = is.class fs numbers;
-  place_is = is.place_is;
-  carrier_is = is.carrier_is;
-}
+  pub numbered_over : (m : Market) → IsMarket b m → Limited b → IsOver b q (flown_on l fs) m
+  numbered_over m market limited = record { flown_is = numbered_flown; market_is = market; limited = limited }
 
 -- a path leads where its class does
 pub class_leads : (c : PathClass) (after : Option Position) (fs : List Flight) → after ≡ c.after → IsOfClass c c.after fs → IsOfClass c after fs
 class_leads c after fs e is = record { after_is = e; first = is.first; last = is.last; stops = is.stops }
 
 -- where the groups of a class are settled, the class is done
-pub class_done : (b : Book) (q : Request) (at : Position) (ms : List Market) (l : Landed) (fs : List Flight) (table : List Entry) → AreMarkets b ms → Limited b → LandsBy b q at ms l fs → BothSettled b ms l table → ClassDone b q at (class_landed l) table
-class_done b q at ms l fs table are limited is both = record {
+pub class_done : (b : Book) (q : Request) (at : Position) (ms : List Market) (l : Landed) (table : List Entry) → AreMarkets b ms → Limited b → IsLanded b q at ms l → BothSettled b ms l table → ClassDone b q at (class_landed l) table
+class_done b q at ms l table are limited is both = record {
   filed = record { markets = ms; are = are; end = l.end.now; is = is.end; place_is = is.place_is; carrier_is = is.carrier_is; limited = limited };
   fares = fares_done b q at ms l.end.now (class_landed l) table are is.end is.place_is is.carrier_is both;
 }

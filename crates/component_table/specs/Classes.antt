@@ -1,15 +1,14 @@
 -- Classes of paths, and when a class is settled.
-use Rattle.std.specs.Prelude.{◌≡◌, ℕ, ◌+◌, ◌≤◌, ◌<◌, Bool, List, length, slice_get, All, Option, Some, IsBitSet}
+use Rattle.std.specs.Prelude.{◌≡◌, ℕ, ◌+◌, ◌≤◌, ◌<◌, Bool, List, length, slice_get, Option, Some, IsBitSet}
 use Rattle.component_table.specs.declared.classes.PathClass.{PathClass}
 use Rattle.component_table.specs.declared.ends.End.{End}
 use Rattle.component_table.specs.declared.filed.Filed.{Filed}
 use Rattle.component_table.specs.declared.markets.Market.{Market}
 use Rattle.component_table.specs.declared.settled.SettledClass.{SettledClass}
-use Rattle.component_table.specs.declared.ways.Flown.{Flown}
 use Rattle.component_table.specs.declared.ways.Landed.{Landed}
 use Rattle.component_table.specs.Markets.{AreMarkets}
 use Rattle.component_table.specs.Reaches.{IsEnd, end_from, end_to, filed_of}
-use Rattle.component_table.specs.Tables.{HasLegs}
+use Rattle.component_table.specs.Tables.{HasLegs, numbers_of}
 use Rattle.fare_book.specs.Keeping.{Limited}
 use Rattle.fare_groups.specs.declared.group.FareGroup.{FareGroup}
 use Rattle.fare_groups.specs.declared.group.GroupedFare.{GroupedFare}
@@ -20,7 +19,6 @@ use Rattle.fare_law.specs.declared.names.Place.{Place}
 use Rattle.fare_law.specs.declared.rules.Rule.{Rule}
 use Rattle.fare_law.specs.declared.sheets.SheetRow.{SheetRow}
 use Rattle.fare_law.specs.Book.{Book, live_rule}
-use Rattle.fare_law.specs.Limits.{IsFlight}
 use Rattle.fare_law.specs.Lists.{Each, IsIn, OnFirst, OnLast}
 use Rattle.fare_law.specs.Parts.{Numbers, stopovers}
 use Rattle.fare_law.specs.Sheets.{IsLiveRow}
@@ -88,25 +86,16 @@ GroupsSettled b s reverse gs from to table = (i : ℕ) (g : FareGroup) → slice
 abbrev pub WaySettled : Book → List Market → End → SettledClass → Bool → List Entry → Type 0
 WaySettled b ms e s reverse table = (f : Filed) → filed_of e reverse ≡ Some f → (m : Market) → slice_get ms f.market ≡ Some m → GroupsSettled b s reverse m.groups f.from f.to table
 
--- the class of flights, for the classes of seats that are open in all of them
-abbrev pub class_flown : Flown → SettledClass
-class_flown f = record { class = f.class; classes = f.classes }
+-- The flights of a path's numbers are four at most; they are of its class, and its classes of seats are open in all of them.
+pub record IsNumbered (b : Book) (q : Request) (l : Landed) : Type 0 where
+  pub few : length (numbers_of l) ≤ 4
+  pub classes : (fs : List Flight) → Numbers b (numbers_of l) fs → HasLegs b q fs l.classes
+  pub class : (fs : List Flight) → Numbers b (numbers_of l) fs → IsOfClass l.class l.class.after fs
 
--- The flights of these numbers reach the end of their first carrier's fares, are of the class, and these classes of seats are open in all of them.
-pub record IsLanded (b : Book) (q : Request) (at : Position) (ms : List Market) (numbers : List ℕ) (l : Landed) : Type 0 where
+-- And they reach the end of their first carrier's fares.
+pub record IsLanded (b : Book) (q : Request) (at : Position) (ms : List Market) (l : Landed) : Type 0 where
+  pub path : IsNumbered b q l
   pub end : IsEnd b at.place ms l.end.now
-  pub classes : (fs : List Flight) → Numbers b numbers fs → HasLegs b q fs l.classes
-  pub class : (fs : List Flight) → Numbers b numbers fs → IsOfClass l.class l.class.after fs
-  pub place_is : l.class.end ≡ l.end.now.key.place
-  pub carrier_is : l.class.carrier ≡ l.end.now.key.carrier
-
--- These flights are so.
-pub record LandsBy (b : Book) (q : Request) (at : Position) (ms : List Market) (l : Landed) (fs : List Flight) : Type 0 where
-  pub end : IsEnd b at.place ms l.end.now
-  pub few : length fs ≤ 4
-  pub limits : All IsFlight fs
-  pub legs : HasLegs b q fs l.classes
-  pub class : IsOfClass l.class l.class.after fs
   pub place_is : l.class.end ≡ l.end.now.key.place
   pub carrier_is : l.class.carrier ≡ l.end.now.key.carrier
 

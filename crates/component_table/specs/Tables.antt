@@ -1,8 +1,10 @@
 -- A table as it grows: what it has stands there at no more, and each group of a path's market is put in.
 use Rattle.std.specs.Prelude.{◌≡◌, ◌≢◌, ◌⊎◌, ◌↔◌, ℕ, ◌+◌, ◌≤◌, ◌<◌, Bool, List, [], ◌++◌, length, slice_get, Option, Some, All, IsBitSet}
 use Rattle.std.specs.Int.{IsInRange}
+use Rattle.component_table.specs.declared.classes.PathClass.{PathClass}
 use Rattle.component_table.specs.declared.markets.Market.{Market}
-use Rattle.component_table.specs.declared.ways.Flown.{Flown}
+use Rattle.component_table.specs.declared.ways.Landed.{Landed}
+use Rattle.component_table.specs.declared.ways.Placed.{Placed}
 use Rattle.component_table.specs.declared.ways.Serving.{Serving}
 use Rattle.component_table.specs.declared.ways.Wanted.{Wanted}
 use Rattle.component_table.specs.Markets.{IsMarket}
@@ -78,11 +80,24 @@ pub record HasLegs (b : Book) (q : Request) (fs : List Flight) (classes : ℕ) :
   pub legs_are : AreLegs b q fs legs
   pub classes_are : (class : ℕ) → class < 32 → IsBitSet classes class ↔ HasClass class legs
 
--- One to four flights of the book, with the classes that are open in all of them.
+-- The flights of a path, with its class and the classes of seats.
+pub record Flown : Type 0 where
+  pub flights : List Flight
+  pub class : PathClass
+  pub classes : ℕ
+
+-- the numbers of the flights of a path
+abbrev pub numbers_of : Landed → List ℕ
+numbers_of l = l.front.now ++ l.back.now
+
+-- the path on these flights
+abbrev pub flown_on : Landed → List Flight → Flown
+flown_on l fs = record { flights = fs; class = l.class; classes = l.classes }
+
+-- One to four flights, with the classes that are open in all of them.
 pub record IsFlown (b : Book) (q : Request) (flown : Flown) : Type 0 where
-  pub count : IsInRange 1 4 (length flown.flights.now)
-  pub limits : All IsFlight flown.flights.now
-  pub legs : HasLegs b q flown.flights.now flown.classes
+  pub count : IsInRange 1 4 (length flown.flights)
+  pub legs : HasLegs b q flown.flights flown.classes
 
 -- Such flights, and a market of the book.
 pub record IsOver (b : Book) (q : Request) (flown : Flown) (m : Market) : Type 0 where
@@ -90,18 +105,27 @@ pub record IsOver (b : Book) (q : Request) (flown : Flown) (m : Market) : Type 0
   pub market_is : IsMarket b m
   pub limited : Limited b
 
--- The spot is the group's on the paths of the flights' class, this way, and the share is the least of its fares in the open classes.
-pub record IsWanted (flown : Flown) (reverse : Bool) (w : Wanted) : Type 0 where
-  pub block_is : w.spot.block ≡ flown.block
+-- The spot is the group's on the paths of the path's class, this way, and the share is the least of its fares in the open classes.
+pub record IsWanted (placed : Placed) (reverse : Bool) (w : Wanted) : Type 0 where
+  pub block_is : w.spot.block ≡ placed.block
   pub key_is : w.spot.key ≡ w.group.now.key
   pub reverse_is : w.spot.reverse ≡ reverse
-  pub share_is : Cheapest flown.classes w.group.now.fares (Some w.share)
+  pub share_is : Cheapest placed.path.now.classes w.group.now.fares (Some w.share)
 
 -- To some flights were added those of these numbers.
 pub record AddsFlights (b : Book) (ns : List ℕ) (old new : List Flight) : Type 0 where
   pub more : List Flight
   pub joined : new ≡ old ++ more
   pub are : Numbers b ns more
+
+-- These are the flights of these numbers, and keep to the limits of flights.
+pub record HasGathered (b : Book) (ns : List ℕ) (fs : List Flight) : Type 0 where
+  pub are : Numbers b ns fs
+  pub limits : All IsFlight fs
+
+-- they are, unless none is gathered yet
+abbrev pub AreGathered : Book → List ℕ → List Flight → Type 0
+AreGathered b ns fs = (fs ≡ []) ⊎ HasGathered b ns fs
 
 -- flights of the book keep to the limits of flights
 abbrev pub AreLimited : Book → Type 0
@@ -123,13 +147,13 @@ pub record IsServed (fs : List Flight) (s : Serving) : Type 0 where
 
 -- The flights are those of the path, which is one of the position and leads where the paths of the class do.
 pub record IsOfPath (b : Book) (q : Request) (at : Position) (path : Path) (flown : Flown) : Type 0 where
-  pub path_is : IsPath b q.slices at path.flights flown.flights.now path.after
+  pub path_is : IsPath b q.slices at path.flights flown.flights path.after
   pub after_is : path.after ≡ flown.class.after
 
 -- And fares of the market are filed over them this way.
 pub record IsPathOver (b : Book) (q : Request) (at : Position) (path : Path) (flown : Flown) (reverse : Bool) (m : Market) : Type 0 where
   pub is_of : IsOfPath b q at path flown
-  pub market : MarketOver reverse flown.flights.now m.sheet.value.from m.sheet.value.to
+  pub market : MarketOver reverse flown.flights m.sheet.value.from m.sheet.value.to
 
 -- a path of the position
 abbrev pub IsPathFrom : Book → Request → Position → Path → Type 0
@@ -148,12 +172,12 @@ pub record HasRow (rows : List SheetRow) (g : FareGroup) : Type 0 where
 -- a group was put in
 pub record GroupDone (b : Book) (q : Request) (at : Position) (path : Path) (flown : Flown) (reverse : Bool) (g : FareGroup) (old new : List Entry) : Type 0 where
   pub goes : GoesOn b q at old new
-  pub has : HasGroup b path flown.flights.now flown.classes reverse g new
+  pub has : HasGroup b path flown.flights flown.classes reverse g new
 
 -- the groups of a market were put in
 pub record MarketDone (b : Book) (q : Request) (at : Position) (path : Path) (flown : Flown) (reverse : Bool) (m : Market) (old new : List Entry) : Type 0 where
   pub goes : GoesOn b q at old new
-  pub has : (g : FareGroup) → IsIn g m.groups → HasGroup b path flown.flights.now flown.classes reverse g new
+  pub has : (g : FareGroup) → IsIn g m.groups → HasGroup b path flown.flights flown.classes reverse g new
 
 -- a path was put in with the fares that are filed this way
 pub record WayDone (b : Book) (q : Request) (at : Position) (path : Path) (fs : List Flight) (reverse : Bool) (old new : List Entry) : Type 0 where

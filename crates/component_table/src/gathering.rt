@@ -1,10 +1,11 @@
 //! What is known of the flights of a path.
 ghost use Rattle.std.specs.Prelude.{◌≡◌, ◌≢◌, ◌≤◌, ◌+◌, [], IfNone, IfSome, IsTrue, List as Items, false, length, option_copied, slice_get};
-ghost use Rattle.component_table.specs.Tables.{AddsFlights, AreLimited, BeginsWith, EndsWith};
+ghost use Rattle.component_table.specs.Tables.{AddsFlights, AreGathered, AreLimited, BeginsWith, EndsWith, HasGathered, numbers_of};
 ghost use Rattle.fare_law.specs.declared.flights.Flight.{Flight as DatedFlight};
 ghost use Rattle.fare_law.specs.Parts.{Numbers};
 ghost use Rattle.flight_paths.specs.Plans.{HasPlan};
 
+use crate::ways::Landed;
 use fare_book::Book;
 use fare_law::{ArrayVec, Flight};
 use schedule_book::Schedule;
@@ -53,8 +54,31 @@ pub fn last_flight<'a>(book: &'a Book, numbers: &[u32]) -> Option<&'a Flight>
     }
 }
 
+/// Gathers the flights of a path, if there is none yet. Whether each of its numbers is that of a flight: where one isn't,
+/// none is gathered.
+pub fn gather(book: &Book, path: &Landed, flights: &mut ArrayVec<Flight, 4>) -> bool
+    requires few { length (numbers_of path.now) ≤ 4 }
+    requires flights { AreGathered book.now (numbers_of path.now) flights.old }
+    ensures flights { AreGathered book.now (numbers_of path.now) flights.new }
+    ensures some { IsTrue result → HasGathered book.now (numbers_of path.now) flights.new }
+    ensures none { result ≡ false → (fs : Items DatedFlight) → Numbers book.now (numbers_of path.now) fs → ⊥ }
+{
+    if flights.len() > 0 {
+        return true;
+    }
+    if !add_flights(book, path.front, flights) {
+        *flights = ArrayVec::new();
+        return false;
+    }
+    if !add_flights(book, path.back, flights) {
+        *flights = ArrayVec::new();
+        return false;
+    }
+    true
+}
+
 /// Adds the flights of these numbers. Whether each number is that of a flight: where one isn't, the rest is left out.
-pub fn add_flights(book: &Book, numbers: &[u32], flights: &mut ArrayVec<Flight, 4>) -> bool
+fn add_flights(book: &Book, numbers: &[u32], flights: &mut ArrayVec<Flight, 4>) -> bool
     requires { length flights.old + length numbers.now ≤ 4 }
     ensures some { IsTrue result → AddsFlights book.now numbers.now flights.old flights.new }
     ensures none { result ≡ false → (fs : Items DatedFlight) → Numbers book.now numbers.now fs → ⊥ }

@@ -20,6 +20,7 @@ mod recent;
 mod rows;
 mod same;
 mod scenes;
+mod serving;
 mod settled;
 mod skipping;
 mod spots;

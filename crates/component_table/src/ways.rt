@@ -7,7 +7,7 @@ use crate::growing::Spot;
 use crate::markets::Market;
 use fare_book::Book;
 use fare_groups::FareGroup;
-use fare_law::{Flight, Request};
+use fare_law::Request;
 use flight_paths::{Path, Position};
 
 /// A position of a search: its book, its request, and where it stands.
@@ -18,10 +18,12 @@ pub struct Origin<'a> {
     pub at: &'a Position,
 }
 
-/// An end of the fares of a path's first carrier, to which the path leads, with the path's class and the classes of seats
-/// that are open in every leg.
+/// A path by the numbers of its flights, some and then more, and the end of the fares of its first carrier to which it
+/// leads. With the path's class, and the classes of seats that are open in every leg.
 #[derive(Clone, Copy)]
 pub struct Landed<'a> {
+    pub front: &'a [u32],
+    pub back: &'a [u32],
     pub end: &'a End,
     pub class: PathClass,
     pub classes: u32,
@@ -39,13 +41,10 @@ pub struct Joint<'a> {
     pub tail_class: usize,
 }
 
-/// The flights of a path, and the classes that are open in every leg.
+/// A path that leads to an end, and the number of the block of its class.
 #[derive(Clone, Copy)]
-pub struct Flown<'a> {
-    pub flights: &'a [Flight],
-    pub class: PathClass,
-    pub classes: u32,
-    /// The number of the block of its class.
+pub struct Placed<'a> {
+    pub path: &'a Landed<'a>,
     pub block: usize,
 }
 
@@ -55,6 +54,13 @@ pub struct Serving<'a> {
     pub market: &'a Market,
     pub filed: Filed,
     pub reverse: bool,
+}
+
+/// A group of a market, and where its slot stands.
+#[derive(Clone, Copy)]
+pub struct Slotted<'a> {
+    pub group: &'a FareGroup,
+    pub slot: usize,
 }
 
 /// A group that may cost less than its slot tells: its spot on the paths of a class, and the least share of its fares in

@@ -1,49 +1,15 @@
-use Rattle.std.proofs.Common.{length, length-append, ap, refl, slice_get, subst, sym, ◌++◌, ◌∙◌, arith}
+use Rattle.std.proofs.Common.{length, ap, refl, slice_get, subst, sym, ◌++◌, ◌∙◌, arith}
 use Rattle.component_table.specs.declared.classes.PathClass.{PathClass}
 use Rattle.component_table.specs.declared.ways.Landed.{Landed}
 use Rattle.component_table.specs.Classes.{ClassDone}
 use Rattle.component_table.specs.Markets.{AreMarkets}
 use Rattle.component_table.specs.Reaches.{IsEnd}
-use Rattle.component_table.specs.Tables.{AddsFlights}
-use Rattle.component_table.proofs.Collected.{numbers_long}
-use Rattle.component_table.proofs.Halves.{gathered, halves}
-use Rattle.component_table.proofs.PathFacts.{path_numbers}
 use Rattle.component_table.proofs.ReachFacts.{end_stands}
 use Rattle.component_table.proofs.RowFacts.{has_rows_on, joint_lands}
 use Rattle.component_table.proofs.SettledFacts.{class_done, settled_on}
-use Rattle.fare_law.specs.Parts.{Numbers}
 use Rattle.flight_paths.specs.Heads.{joined_path}
-use Rattle.flight_paths.specs.Positions.{IsPath}
-use Rattle.law_lemmas.proofs.LawFacts.{numbers_one}
 use Rattle.law_lemmas.proofs.Lists.{got_within}
 use Rattle.component_table.proofs.adding.add_joint.Goals as goal
-
-pub add_flights-requires : goal.add_flights-requires
-add_flights-requires c = omega (arith, c.requires.joint.few, ap length c.new-flights.ensures, ap length c.as_slice.ensures.items)
-
-pub add_flights-requires-2 : goal.add_flights-requires-2
-add_flights-requires-2 c =
-    let a = c.add_flights.ensures.some c.if-not-add_flights.false in
-    let long = numbers_long c.args.origin.now.book.now c.as_slice.result.now a.more a.are in
-    omega (arith, c.requires.joint.few, long, ap length a.joined, length-append c.new-flights.result a.more, ap length c.new-flights.ensures, ap length c.as_slice.ensures.items, ap length c.as_slice-2.ensures.items)
-
-pub returns-then-not-add_flights-clause-done : goal.returns-then-not-add_flights-clause-done
-returns-then-not-add_flights-clause-done c = λ p.
-    let o = c.args.origin.now in
-    let b = o.book.now in
-    let j = c.args.joint.now in
-    let ns = j.head.now.flights ++ j.tail.now.flights in
-    let h = halves b j.head.now.flights j.tail.now.flights p.0 (path_numbers b o.request.now o.at.now ns p.0 j.tail.now.after p.1) in
-    absurd (c.add_flights.ensures.none c.if-not-add_flights.true h.front (subst (λ l. Numbers b l h.front) (sym c.as_slice.ensures.items) h.fronts))
-
-pub returns-then-not-add_flights-2-clause-done : goal.returns-then-not-add_flights-2-clause-done
-returns-then-not-add_flights-2-clause-done c = λ p.
-    let o = c.args.origin.now in
-    let b = o.book.now in
-    let j = c.args.joint.now in
-    let ns = j.head.now.flights ++ j.tail.now.flights in
-    let h = halves b j.head.now.flights j.tail.now.flights p.0 (path_numbers b o.request.now o.at.now ns p.0 j.tail.now.after p.1) in
-    absurd (c.add_flights-2.ensures.none c.if-not-add_flights-2.true h.back (subst (λ l. Numbers b l h.back) (sym c.as_slice-2.ensures.items) h.backs))
 
 pub end_at-requires : goal.end_at-requires
 end_at-requires c =
@@ -58,17 +24,10 @@ add_both-requires-clause-landed c =
     let e = c.end_at.result.now in
     let ms = c.as_slice-markets.result.now in
     let is = end_stands b o.at.now.place c.end_of.result c.find.new.self.markets.kept.items c.find.new.self.ends.items c.in_ok-at.at e c.in_ok-at.ensures.end (ap (λ xs. slice_get xs c.in_ok-at.at) (sym c.as_slice-3.ensures.value) ∙ c.end_at.ensures) in
-    let l : Landed = record { end = c.end_at.result; class = j.class; classes = j.classes } in
+    let l : Landed = record { front = c.as_slice.result; back = c.as_slice-2.result; end = c.end_at.result; class = j.class; classes = j.classes } in
+    let numbers = ap (λ xs. xs ++ c.as_slice-2.result.now) c.as_slice.ensures.items ∙ ap (λ xs. j.head.now.flights ++ xs) c.as_slice-2.ensures.items in
     let end = subst (λ xs. IsEnd b o.at.now.place xs e) (sym c.as_slice-markets.ensures.value) is.end in
-    let one = c.add_flights.ensures.some c.if-not-add_flights.false in
-    let two = c.add_flights-2.ensures.some c.if-not-add_flights-2.false in
-    let heads = subst (λ ns. AddsFlights b ns c.new-flights.result c.add_flights.new.flights) c.as_slice.ensures.items one in
-    let tails = subst (λ ns. AddsFlights b ns c.add_flights.new.flights c.add_flights-2.new.flights) c.as_slice-2.ensures.items two in
-    let all = gathered b j.head.now.flights j.tail.now.flights c.new-flights.result c.add_flights.new.flights c.add_flights-2.new.flights c.new-flights.ensures heads tails in
-    let fs = c.as_slice-4.result.now in
-    let numbers = subst (Numbers b (j.head.now.flights ++ j.tail.now.flights)) (sym c.as_slice-4.ensures.items) all in
-    let lands = joint_lands b o.request.now o.at.now ms j l fs c.requires.joint numbers c.add_flights.ensures.limits end (is.key_is ∙ c.end_of.ensures) refl refl in
-    lands
+    joint_lands b o.request.now o.at.now ms j l c.requires.joint numbers end (is.key_is ∙ c.end_of.ensures) refl refl
 
 pub returns-in_err-add_both-clause-rows : goal.returns-in_err-add_both-clause-rows
 returns-in_err-add_both-clause-rows c = λ tails of has.
@@ -88,19 +47,13 @@ returns-then-branch-clause-rows c = λ tails of has.
     let e = c.end_at.result.now in
     let ms = c.as_slice-markets.result.now in
     let is = end_stands b o.at.now.place c.end_of.result c.find.new.self.markets.kept.items c.find.new.self.ends.items c.in_ok-at.at e c.in_ok-at.ensures.end (ap (λ xs. slice_get xs c.in_ok-at.at) (sym c.as_slice-3.ensures.value) ∙ c.end_at.ensures) in
-    let l : Landed = record { end = c.end_at.result; class = j.class; classes = j.classes } in
+    let l : Landed = record { front = c.as_slice.result; back = c.as_slice-2.result; end = c.end_at.result; class = j.class; classes = j.classes } in
+    let numbers = ap (λ xs. xs ++ c.as_slice-2.result.now) c.as_slice.ensures.items ∙ ap (λ xs. j.head.now.flights ++ xs) c.as_slice-2.ensures.items in
     let end = subst (λ xs. IsEnd b o.at.now.place xs e) (sym c.as_slice-markets.ensures.value) is.end in
-    let one = c.add_flights.ensures.some c.if-not-add_flights.false in
-    let two = c.add_flights-2.ensures.some c.if-not-add_flights-2.false in
-    let heads = subst (λ ns. AddsFlights b ns c.new-flights.result c.add_flights.new.flights) c.as_slice.ensures.items one in
-    let rest = subst (λ ns. AddsFlights b ns c.add_flights.new.flights c.add_flights-2.new.flights) c.as_slice-2.ensures.items two in
-    let all = gathered b j.head.now.flights j.tail.now.flights c.new-flights.result c.add_flights.new.flights c.add_flights-2.new.flights c.new-flights.ensures heads rest in
-    let fs = c.as_slice-4.result.now in
-    let numbers = subst (Numbers b (j.head.now.flights ++ j.tail.now.flights)) (sym c.as_slice-4.ensures.items) all in
-    let lands = joint_lands b o.request.now o.at.now ms j l fs c.requires.joint numbers c.add_flights.ensures.limits end (is.key_is ∙ c.end_of.ensures) refl refl in
+    let lands = joint_lands b o.request.now o.at.now ms j l c.requires.joint numbers end (is.key_is ∙ c.end_of.ensures) refl refl in
     let new = c.add_both.new.table.entries.items in
     let markets = subst (AreMarkets b) (sym c.as_slice-markets.ensures.value) c.in_ok-at.ensures.reach.markets in
-    let done = class_done b o.request.now o.at.now ms l fs new markets c.limits.ensures lands (c.in_ok-add_both.ensures.settled c.if-branch.true) in
+    let done = class_done b o.request.now o.at.now ms l new markets c.limits.ensures lands (c.in_ok-add_both.ensures.settled c.if-branch.true) in
     c.put.ensures.rows b o.request.now o.at.now tails new of.tail of.stands
     (λ one got. subst (λ (k : PathClass). ClassDone b o.request.now o.at.now (record { class = k; classes = j.classes }) new) (of.row one got) done)
     (has_rows_on b o.request.now o.at.now tails c.args.filling.now.table.entries.items new c.args.filling.now.rows c.in_ok-add_both.ensures.covers has)
@@ -121,43 +74,13 @@ returns-else-branch-clause-settled c =
     settled_on o.book.now o.request.now o.at.now c.args.filling.now.settled.kept.items c.args.filling.now.table.entries.items c.add_both.new.table.entries.items c.in_ok-add_both.ensures.covers c.requires.settled
 
 pub returns-then-branch-clause-done : goal.returns-then-branch-clause-done
-returns-then-branch-clause-done c = λ p.
-    let o = c.args.origin.now in
-    let b = o.book.now in
+returns-then-branch-clause-done c =
     let j = c.args.joint.now in
-    let e = c.end_at.result.now in
-    let ms = c.as_slice-markets.result.now in
-    let is = end_stands b o.at.now.place c.end_of.result c.find.new.self.markets.kept.items c.find.new.self.ends.items c.in_ok-at.at e c.in_ok-at.ensures.end (ap (λ xs. slice_get xs c.in_ok-at.at) (sym c.as_slice-3.ensures.value) ∙ c.end_at.ensures) in
-    let l : Landed = record { end = c.end_at.result; class = j.class; classes = j.classes } in
-    let end = subst (λ xs. IsEnd b o.at.now.place xs e) (sym c.as_slice-markets.ensures.value) is.end in
-    let one = c.add_flights.ensures.some c.if-not-add_flights.false in
-    let two = c.add_flights-2.ensures.some c.if-not-add_flights-2.false in
-    let heads = subst (λ ns. AddsFlights b ns c.new-flights.result c.add_flights.new.flights) c.as_slice.ensures.items one in
-    let tails = subst (λ ns. AddsFlights b ns c.add_flights.new.flights c.add_flights-2.new.flights) c.as_slice-2.ensures.items two in
-    let all = gathered b j.head.now.flights j.tail.now.flights c.new-flights.result c.add_flights.new.flights c.add_flights-2.new.flights c.new-flights.ensures heads tails in
-    let fs = c.as_slice-4.result.now in
-    let numbers = subst (Numbers b (j.head.now.flights ++ j.tail.now.flights)) (sym c.as_slice-4.ensures.items) all in
-    let lands = joint_lands b o.request.now o.at.now ms j l fs c.requires.joint numbers c.add_flights.ensures.limits end (is.key_is ∙ c.end_of.ensures) refl refl in
-    let own = subst (λ gs. IsPath b o.request.now.slices o.at.now (j.head.now.flights ++ j.tail.now.flights) gs j.tail.now.after) (numbers_one b (j.head.now.flights ++ j.tail.now.flights) p.0 fs (path_numbers b o.request.now o.at.now (j.head.now.flights ++ j.tail.now.flights) p.0 j.tail.now.after p.1) numbers) p.1 in
-    c.in_ok-add_both.ensures.done (joined_path j.head.now j.tail.now) c.requires.joint.after own
+    let numbers = ap (λ xs. xs ++ c.as_slice-2.result.now) c.as_slice.ensures.items ∙ ap (λ xs. j.head.now.flights ++ xs) c.as_slice-2.ensures.items in
+    c.in_ok-add_both.ensures.done (joined_path j.head.now j.tail.now) (sym numbers) c.requires.joint.after
 
 pub returns-else-branch-clause-done : goal.returns-else-branch-clause-done
-returns-else-branch-clause-done c = λ p.
-    let o = c.args.origin.now in
-    let b = o.book.now in
+returns-else-branch-clause-done c =
     let j = c.args.joint.now in
-    let e = c.end_at.result.now in
-    let ms = c.as_slice-markets.result.now in
-    let is = end_stands b o.at.now.place c.end_of.result c.find.new.self.markets.kept.items c.find.new.self.ends.items c.in_ok-at.at e c.in_ok-at.ensures.end (ap (λ xs. slice_get xs c.in_ok-at.at) (sym c.as_slice-3.ensures.value) ∙ c.end_at.ensures) in
-    let l : Landed = record { end = c.end_at.result; class = j.class; classes = j.classes } in
-    let end = subst (λ xs. IsEnd b o.at.now.place xs e) (sym c.as_slice-markets.ensures.value) is.end in
-    let one = c.add_flights.ensures.some c.if-not-add_flights.false in
-    let two = c.add_flights-2.ensures.some c.if-not-add_flights-2.false in
-    let heads = subst (λ ns. AddsFlights b ns c.new-flights.result c.add_flights.new.flights) c.as_slice.ensures.items one in
-    let tails = subst (λ ns. AddsFlights b ns c.add_flights.new.flights c.add_flights-2.new.flights) c.as_slice-2.ensures.items two in
-    let all = gathered b j.head.now.flights j.tail.now.flights c.new-flights.result c.add_flights.new.flights c.add_flights-2.new.flights c.new-flights.ensures heads tails in
-    let fs = c.as_slice-4.result.now in
-    let numbers = subst (Numbers b (j.head.now.flights ++ j.tail.now.flights)) (sym c.as_slice-4.ensures.items) all in
-    let lands = joint_lands b o.request.now o.at.now ms j l fs c.requires.joint numbers c.add_flights.ensures.limits end (is.key_is ∙ c.end_of.ensures) refl refl in
-    let own = subst (λ gs. IsPath b o.request.now.slices o.at.now (j.head.now.flights ++ j.tail.now.flights) gs j.tail.now.after) (numbers_one b (j.head.now.flights ++ j.tail.now.flights) p.0 fs (path_numbers b o.request.now o.at.now (j.head.now.flights ++ j.tail.now.flights) p.0 j.tail.now.after p.1) numbers) p.1 in
-    c.in_ok-add_both.ensures.done (joined_path j.head.now j.tail.now) c.requires.joint.after own
+    let numbers = ap (λ xs. xs ++ c.as_slice-2.result.now) c.as_slice.ensures.items ∙ ap (λ xs. j.head.now.flights ++ xs) c.as_slice-2.ensures.items in
+    c.in_ok-add_both.ensures.done (joined_path j.head.now j.tail.now) (sym numbers) c.requires.joint.after

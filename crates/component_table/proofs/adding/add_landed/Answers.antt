@@ -1,14 +1,11 @@
-use Rattle.std.proofs.Common.{length, ap, subst, sym, ◌++◌, ◌∙◌, arith}
+use Rattle.std.proofs.Common.{subst, sym}
 use Rattle.component_table.specs.declared.classes.PathClass.{PathClass}
 use Rattle.component_table.specs.declared.settled.SettledClass.{SettledClass}
 use Rattle.component_table.specs.Classes.{AreSettled, ClassDone, IsOfClass}
-use Rattle.component_table.proofs.PathFacts.{path_numbers}
 use Rattle.component_table.proofs.RowFacts.{has_rows_on}
-use Rattle.component_table.proofs.SettledFacts.{class_done, class_leads, landed_lands, settled_added, settled_more, settled_on}
+use Rattle.component_table.proofs.SettledFacts.{class_done, class_leads, settled_added, settled_more, settled_on}
 use Rattle.fare_law.specs.Parts.{Numbers}
-use Rattle.flight_paths.specs.Positions.{IsPath}
 use Rattle.law_lemmas.proofs.EachOne.{each_in}
-use Rattle.law_lemmas.proofs.LawFacts.{numbers_one}
 use Rattle.component_table.proofs.adding.add_landed.Goals as goal
 
 pub returns-then-has-clause-done : goal.returns-then-has-clause-done
@@ -19,8 +16,8 @@ returns-then-has-clause-done c = λ path numbers leads p.
     let h = c.has.ensures.has c.if-has.true in
     settled_added o.book.now o.request.now o.at.now path h.0 l.classes old
     (each_in (λ (s : SettledClass). ClassDone o.book.now o.request.now o.at.now s old) c.args.filling.now.settled.kept.items h.0 c.requires.settled h.1)
-    (λ fs m. subst (λ (k : PathClass). IsOfClass k path.after fs) (sym h.2) (class_leads l.class path.after fs leads (c.requires.landed.class fs (subst (λ ns. Numbers o.book.now ns fs) numbers m))))
-    (λ fs m. c.requires.landed.classes fs (subst (λ ns. Numbers o.book.now ns fs) numbers m)) h.3
+    (λ fs m. subst (λ (k : PathClass). IsOfClass k path.after fs) (sym h.2) (class_leads l.class path.after fs leads (c.requires.landed.path.class fs (subst (λ ns. Numbers o.book.now ns fs) numbers m))))
+    (λ fs m. c.requires.landed.path.classes fs (subst (λ ns. Numbers o.book.now ns fs) numbers m)) h.3
 
 pub returns-in_err-add_both-clause-settled : goal.returns-in_err-add_both-clause-settled
 returns-in_err-add_both-clause-settled c =
@@ -37,10 +34,7 @@ returns-in_err-put-clause-settled c =
     let new = c.add_both.new.table.entries.items in
     let had = c.has.new.self.kept.items in
     let kept = settled_on o.book.now o.request.now o.at.now had old new c.in_ok-add_both.ensures.covers (subst (λ k. AreSettled o.book.now o.request.now o.at.now k old) (sym c.has.ensures.same) c.requires.settled) in
-    let a = c.add_flights.ensures.some c.if-not-add_flights.false in
-    let own = subst (Numbers o.book.now c.args.numbers.now) (sym (c.as_slice.ensures.items ∙ a.joined ∙ ap (λ x. x ++ a.more) c.new-flights.ensures)) a.are in
-    let lands = landed_lands o.book.now o.request.now o.at.now c.args.markets.now c.args.numbers.now l c.as_slice.result.now c.requires.landed c.requires.few c.add_flights.ensures.limits own in
-    let done = class_done o.book.now o.request.now o.at.now c.args.markets.now l c.as_slice.result.now new c.requires.markets c.requires.limited lands (c.in_ok-add_both.ensures.settled c.if-branch.true) in
+    let done = class_done o.book.now o.request.now o.at.now c.args.markets.now l new c.requires.markets c.requires.limited c.requires.landed (c.in_ok-add_both.ensures.settled c.if-branch.true) in
     settled_more o.book.now o.request.now o.at.now had c.put.new.self.kept.items (record { class = l.class; classes = l.classes }) new kept done c.put.ensures
 
 pub returns-in_ok-put-clause-settled : goal.returns-in_ok-put-clause-settled
@@ -51,10 +45,7 @@ returns-in_ok-put-clause-settled c =
     let new = c.add_both.new.table.entries.items in
     let had = c.has.new.self.kept.items in
     let kept = settled_on o.book.now o.request.now o.at.now had old new c.in_ok-add_both.ensures.covers (subst (λ k. AreSettled o.book.now o.request.now o.at.now k old) (sym c.has.ensures.same) c.requires.settled) in
-    let a = c.add_flights.ensures.some c.if-not-add_flights.false in
-    let own = subst (Numbers o.book.now c.args.numbers.now) (sym (c.as_slice.ensures.items ∙ a.joined ∙ ap (λ x. x ++ a.more) c.new-flights.ensures)) a.are in
-    let lands = landed_lands o.book.now o.request.now o.at.now c.args.markets.now c.args.numbers.now l c.as_slice.result.now c.requires.landed c.requires.few c.add_flights.ensures.limits own in
-    let done = class_done o.book.now o.request.now o.at.now c.args.markets.now l c.as_slice.result.now new c.requires.markets c.requires.limited lands (c.in_ok-add_both.ensures.settled c.if-branch.true) in
+    let done = class_done o.book.now o.request.now o.at.now c.args.markets.now l new c.requires.markets c.requires.limited c.requires.landed (c.in_ok-add_both.ensures.settled c.if-branch.true) in
     settled_more o.book.now o.request.now o.at.now had c.put.new.self.kept.items (record { class = l.class; classes = l.classes }) new kept done c.put.ensures
 
 pub returns-else-branch-clause-settled : goal.returns-else-branch-clause-settled
@@ -83,48 +74,3 @@ pub returns-else-branch-clause-rows : goal.returns-else-branch-clause-rows
 returns-else-branch-clause-rows c = λ tails has.
     let o = c.args.origin.now in
     has_rows_on o.book.now o.request.now o.at.now tails c.args.filling.now.table.entries.items c.add_both.new.table.entries.items c.args.filling.now.rows c.in_ok-add_both.ensures.covers has
-
-pub add_flights-requires : goal.add_flights-requires
-add_flights-requires c = omega (arith, c.requires.few, ap length c.new-flights.ensures)
-
-pub returns-then-not-add_flights-clause-settled : goal.returns-then-not-add_flights-clause-settled
-returns-then-not-add_flights-clause-settled c =
-    let o = c.args.origin.now in
-    subst (λ k. AreSettled o.book.now o.request.now o.at.now k c.args.filling.now.table.entries.items) (sym c.has.ensures.same) c.requires.settled
-
-pub returns-then-not-add_flights-clause-done : goal.returns-then-not-add_flights-clause-done
-returns-then-not-add_flights-clause-done c = λ path numbers leads p.
-    let o = c.args.origin.now in
-    let b = o.book.now in
-    absurd (c.add_flights.ensures.none c.if-not-add_flights.true p.0 (subst (λ ns. Numbers b ns p.0) numbers (path_numbers b o.request.now o.at.now path.flights p.0 path.after p.1)))
-
-pub add_both-requires-clause-landed : goal.add_both-requires-clause-landed
-add_both-requires-clause-landed c =
-    let o = c.args.origin.now in
-    let l = c.args.landed.now in
-    let a = c.add_flights.ensures.some c.if-not-add_flights.false in
-    let own = subst (Numbers o.book.now c.args.numbers.now) (sym (c.as_slice.ensures.items ∙ a.joined ∙ ap (λ x. x ++ a.more) c.new-flights.ensures)) a.are in
-    let lands = landed_lands o.book.now o.request.now o.at.now c.args.markets.now c.args.numbers.now l c.as_slice.result.now c.requires.landed c.requires.few c.add_flights.ensures.limits own in
-    lands
-
-pub returns-in_ok-put-clause-done : goal.returns-in_ok-put-clause-done
-returns-in_ok-put-clause-done c = λ path numbers leads p.
-    let o = c.args.origin.now in
-    let b = o.book.now in
-    let l = c.args.landed.now in
-    let a = c.add_flights.ensures.some c.if-not-add_flights.false in
-    let fs = c.as_slice.result.now in
-    let own = subst (Numbers b c.args.numbers.now) (sym (c.as_slice.ensures.items ∙ a.joined ∙ ap (λ x. x ++ a.more) c.new-flights.ensures)) a.are in
-    let flies = subst (λ gs. IsPath b o.request.now.slices o.at.now path.flights gs path.after) (numbers_one b path.flights p.0 fs (path_numbers b o.request.now o.at.now path.flights p.0 path.after p.1) (subst (λ ns. Numbers b ns fs) (sym numbers) own)) p.1 in
-    c.in_ok-add_both.ensures.done path leads flies
-
-pub returns-else-branch-clause-done : goal.returns-else-branch-clause-done
-returns-else-branch-clause-done c = λ path numbers leads p.
-    let o = c.args.origin.now in
-    let b = o.book.now in
-    let l = c.args.landed.now in
-    let a = c.add_flights.ensures.some c.if-not-add_flights.false in
-    let fs = c.as_slice.result.now in
-    let own = subst (Numbers b c.args.numbers.now) (sym (c.as_slice.ensures.items ∙ a.joined ∙ ap (λ x. x ++ a.more) c.new-flights.ensures)) a.are in
-    let flies = subst (λ gs. IsPath b o.request.now.slices o.at.now path.flights gs path.after) (numbers_one b path.flights p.0 fs (path_numbers b o.request.now o.at.now path.flights p.0 path.after p.1) (subst (λ ns. Numbers b ns fs) (sym numbers) own)) p.1 in
-    c.in_ok-add_both.ensures.done path leads flies

@@ -64,9 +64,12 @@ add_landed-requires-clause-landed c =
     let is = end_stands b c.args.origin.now.at.now.place key c.find.new.self.markets.kept.items c.find.new.self.ends.items c.in_ok-at.at e c.in_ok-at.ensures.end (ap (λ xs. slice_get xs c.in_ok-at.at) (sym c.as_slice-ends.ensures.value) ∙ c.end_at-end.ensures) in
     let own = is.key_is ∙ c.key_of.ensures in
     record {
+      path = record {
+        few = omega (arith, c.as_slice-numbers.ensures.fits, ap length c.as_slice-numbers.ensures.items);
+        classes = λ fs m. c.in_ok-classes.ensures.classes fs m;
+        class = λ fs m. class_itself c.class_of.result c.args.path.now.after fs (of_class c.class_of.result c.in-Some.first.now c.in-Some-last_flight.last.now c.args.path.now.after fs c.class_of.ensures (c.in-Some.ensures.some fs m) (c.in-Some-last_flight.ensures.some.1 fs m));
+      };
       end = subst (λ ms. IsEnd b c.args.origin.now.at.now.place ms e) (sym c.as_slice-markets.ensures.value) is.end;
-      classes = λ fs m. c.in_ok-classes.ensures.classes fs m;
-      class = λ fs m. class_itself c.class_of.result c.args.path.now.after fs (of_class c.class_of.result c.in-Some.first.now c.in-Some-last_flight.last.now c.args.path.now.after fs c.class_of.ensures (c.in-Some.ensures.some fs m) (c.in-Some-last_flight.ensures.some.1 fs m));
       place_is = ap (λ (x : PathClass). x.end) c.class_of.ensures ∙ sym (ap (λ (x : EndKey). x.place) own);
       carrier_is = ap (λ (x : PathClass). x.carrier) c.class_of.ensures ∙ sym (ap (λ (x : EndKey). x.carrier) own);
     }

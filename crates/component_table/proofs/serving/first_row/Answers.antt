@@ -6,7 +6,7 @@ use Rattle.fare_law.specs.Lists.{IsIn}
 use Rattle.fare_law.specs.Sheets.{Sheet}
 use Rattle.law_lemmas.proofs.Lists.{got_same, got_within}
 use Rattle.law_lemmas.proofs.Members.{first_in, got_in}
-use Rattle.component_table.proofs.adding.first_row.Goals as goal
+use Rattle.component_table.proofs.serving.first_row.Goals as goal
 
 pub bounds-as_slice-place : goal.bounds-as_slice-place
 bounds-as_slice-place c =
