@@ -1,7 +1,8 @@
 //! The tails that the heads of a carrier at a place don't need, as gaps in the list of those that the place needs.
-ghost use Rattle.std.specs.Prelude.{◌≡◌, ◌≤◌, ℕ, true, IfOk, IfSome, IsTrue, Some, length, slice_get};
+ghost use Rattle.std.specs.Prelude.{◌≡◌, ◌≤◌, ℕ, true, IfOk, IfSome, IsTrue, OnOk, Some, length, slice_get};
 ghost use Rattle.component_table.specs.Gaps.{AreCarrierGaps, AreGaps, AreIdleFlags, AreIdleTails, EndIdle, EndedTails as Tails, IsIdleTail, TellsFlag, ended};
 ghost use Rattle.component_table.specs.Reaches.{IsReach};
+ghost use Rattle.fare_law.specs.declared.names.Carrier.{Carrier as CarrierName};
 ghost use Rattle.fare_law.specs.declared.names.Place.{Place as PlaceName};
 ghost use Rattle.fare_law.specs.declared.requests.Request.{Request as Asked};
 ghost use Rattle.fare_law.specs.Book.{Book as Version};
@@ -17,8 +18,8 @@ use std::alloc::Global;
 /// Places of a list of tails, from one up to another: a carrier has no fare to where these tails end, nor from there.
 #[derive(Clone, Copy)]
 pub struct Gap {
-    pub from: usize,
-    pub to: usize,
+    pub from: u32,
+    pub to: u32,
 }
 
 /// The gaps of a carrier, in order.
@@ -140,7 +141,7 @@ impl Gaps {
     pub fn first(&self, gaps: &[Gap], place: usize) -> usize {
         match self.next {
             Some(next) if next.place == place => next.gap,
-            _ => gaps.partition_point(|gap| gap.to <= place),
+            _ => gaps.partition_point(|gap| gap.to as usize <= place),
         }
     }
 
@@ -182,13 +183,27 @@ fn gaps_for(
     let mut from = 0;
     while from < count {
         let to = flags.idle_up_to(alloc, origin, reach, tails, from)?;
-        if from < to {
-            gaps.push(Gap { from, to })?;
-        }
+        put_gap(&mut gaps, from, to)?;
         from = to.saturating_add(1);
     }
     gaps.shrink_to_fit();
     Ok(CarrierGaps { carrier, gaps })
+}
+
+/// Adds a gap between two places, if there is any place between them. Beyond the greatest number a carrier has none.
+fn put_gap(gaps: &mut Vec<Gap>, from: usize, to: usize) -> Result<(), Mem>
+    ensures { OnOk result ((b : Version) (q : Asked) (place : PlaceName) (t : Tails) (carrier : CarrierName) → AreGaps b q place t carrier gaps.old.items → AreIdleTails b q place t carrier from to → AreGaps b q place t carrier gaps.new.items) }
+{
+    let Ok(from) = u32::try_from(from) else {
+        return Ok(());
+    };
+    let Ok(to) = u32::try_from(to) else {
+        return Ok(());
+    };
+    if from < to {
+        gaps.push(Gap { from, to })?;
+    }
+    Ok(())
 }
 
 impl EndFlags {

@@ -1,5 +1,5 @@
 //! What is known of the tails of a slice by themselves, so that a few loads tell of a path that goes on by one of them.
-ghost use Rattle.std.specs.Prelude.{◌≡◌, ◌≤ℤ◌, IfOk, IfSome, IsTrue, OnOk, [], Some, slice_get};
+ghost use Rattle.std.specs.Prelude.{◌≡◌, ◌≤ℤ◌, ◌<◌, false, length, IfOk, IfSome, IsTrue, OnOk, [], Some, slice_get};
 ghost use Rattle.component_table.specs.Kinds.{AreKinds, KindAdded, NumberGiven};
 ghost use Rattle.component_table.specs.Masks.{AreMasks};
 
@@ -27,7 +27,7 @@ pub struct TailClass {
 /// flights.
 #[derive(Clone, Copy, PartialEq, Eq, Debug)]
 pub struct TailKind {
-    pub class: usize,
+    pub class: u32,
     pub classes: u32,
 }
 
@@ -39,7 +39,7 @@ pub struct Kinds {
     /// The instant before which none of the tails departs.
     pub from: i64,
     /// Where a class may stand.
-    pub places: IndexMap<TailKey, usize>,
+    pub places: IndexMap<TailKey, u32>,
 }
 
 impl TailClass {
@@ -68,8 +68,16 @@ impl Kinds {
         }
     }
 
+    /// Whether one more class would have no number.
+    fn is_full(&self) -> bool
+        ensures { result ≡ false → length self.now.classes.items < 4294967295 }
+    {
+        self.classes.len() >= u32::MAX as usize
+    }
+
     /// Adds what is known of one more tail.
     fn add(&mut self, class: &TailClass, classes: u32) -> Result<(), Mem>
+        requires { length self.old.classes.items < 4294967295 }
         ensures { OnOk result (KindAdded class.now classes self.old.classes.items self.old.of.items self.new.classes.items self.new.of.items) }
     {
         let class = self.number(class)?;
@@ -78,7 +86,8 @@ impl Kinds {
     }
 
     /// The number of a class, which is added if it isn't there.
-    fn number(&mut self, class: &TailClass) -> Result<usize, Mem>
+    fn number(&mut self, class: &TailClass) -> Result<u32, Mem>
+        requires { length self.old.classes.items < 4294967295 }
         ensures same { self.new.of.items ≡ self.old.of.items }
         ensures number { IfOk result (NumberGiven class.now self.old.classes.items self.new.classes.items) }
     {
@@ -87,7 +96,7 @@ impl Kinds {
         if let Some(at) = known(self.classes.as_slice(), found, class) {
             return Ok(at);
         }
-        let at = self.classes.len();
+        let at = self.classes.len() as u32;
         self.places.insert(key, at)?;
         self.classes.push(*class)?;
         Ok(at)
@@ -95,15 +104,15 @@ impl Kinds {
 }
 
 /// A place, if the class stands there.
-fn known(classes: &[TailClass], found: Option<usize>, class: &TailClass) -> Option<usize>
+fn known(classes: &[TailClass], found: Option<u32>, class: &TailClass) -> Option<u32>
     ensures { IfSome result (λ at. slice_get classes.now at ≡ Some class.now) }
 {
     let at = found?;
-    let one = classes.get(at)?;
+    let one = classes.get(at as usize)?;
     if one.is(class) { Some(at) } else { None }
 }
 
-/// What is known of some tails, up to the first that has no last flight.
+/// What is known of some tails, up to the first that has no last flight, or for whose class there is no number left.
 pub fn kinds_of(
     alloc: Global,
     book: &Book,
@@ -118,6 +127,9 @@ pub fn kinds_of(
     let from = first_departure(book, tails);
     let mut kinds = Kinds::new(alloc, from);
     for at in 0..tails.len() {
+        if kinds.is_full() {
+            return Ok(kinds);
+        }
         let tail = &tails[at];
         let numbers = tail.flights.as_slice();
         let Some(first) = first_flight(book, numbers) else {

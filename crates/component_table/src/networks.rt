@@ -74,7 +74,7 @@ pub struct Network {
     pub places: IndexMap<TailsKey, usize>,
 }
 
-/// So many gaps are kept at most, but for those of one carrier: some 64 megabytes.
+/// So many gaps are kept at most, but for those of one carrier: some 32 megabytes.
 const MOST_GAPS: usize = 4_000_000;
 
 impl Network {

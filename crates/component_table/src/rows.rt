@@ -195,14 +195,14 @@ impl Rows {
             return None;
         }
         let kind = kinds.of.as_slice().get(number)?;
-        let class = kinds.classes.as_slice().get(kind.class)?;
+        let class = kinds.classes.as_slice().get(kind.class as usize)?;
         Some(Joint {
             head,
             tail,
             class: met.kind.class.joined(class),
             classes: met.kind.classes & kind.classes,
             row: met.kind.row,
-            tail_class: kind.class,
+            tail_class: kind.class as usize,
         })
     }
 

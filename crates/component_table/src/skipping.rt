@@ -30,8 +30,8 @@ impl Met<'_> {
         let mut gap = from.gap;
         while at < to {
             match gaps.get(gap) {
-                Some(one) if one.to <= at => gap += 1,
-                Some(one) if one.from <= at => at = one.to,
+                Some(one) if one.to as usize <= at => gap += 1,
+                Some(one) if one.from as usize <= at => at = one.to as usize,
                 _ => {
                     if !self.knows(at) {
                         return Looked { place: at, gap };
@@ -66,7 +66,7 @@ fn is_known(kinds: &[TailKind], masks: &[Option<u32>], classes: u32, number: usi
     let Some(kind) = kinds.get(number) else {
         return false;
     };
-    match known_for(masks, kind.class) {
+    match known_for(masks, kind.class as usize) {
         Some(mask) => are_among(classes & kind.classes, mask),
         None => false,
     }

@@ -1,8 +1,5 @@
 use Rattle.std.proofs.Common.{sym, subst, ◌∙◌}
-use Rattle.component_table.specs.declared.gaps.Gap.{Gap}
-use Rattle.component_table.specs.Gaps.{AreGaps, AreIdleFlags, AreIdleTails, ended}
-use Rattle.law_lemmas.proofs.EachOne.{each_more}
-use Rattle.component_table.proofs.gaps.gaps_for.Goals.{then-from-to+in_ok-push, else-from-to}
+use Rattle.component_table.specs.Gaps.{AreIdleFlags, AreIdleTails, ended}
 use Rattle.component_table.proofs.gaps.gaps_for.Goals as goal
 
 pub loop-from-preserved : goal.loop-from-preserved
@@ -18,9 +15,5 @@ loop-from-preserved c =
       reach = c.idle_up_to.ensures.reach;
       carrier = c.idle_up_to.ensures.carrier ∙ was.carrier;
       flags = subst (λ x. AreIdleFlags b q from c.args.tails.now.ends.now.places.keys x c.idle_up_to.new.self.idle.items) (sym c.idle_up_to.ensures.carrier) c.idle_up_to.ensures.flags;
-      gaps = elim c.if-from-to.branch [
-        | then-from-to+in_ok-push w ↦ subst (λ v. AreGaps b q from t c.args.carrier v.items) (sym w.gaps-is)
-            (subst (AreGaps b q from t c.args.carrier) (sym w.in_ok-push.ensures.items) (each_more (λ (g : Gap). AreIdleTails b q from t c.args.carrier g.from g.to) c.loop-from.gaps.items (record { from = c.loop-from.from; to = c.in_ok-to.to }) was.gaps own))
-        | else-from-to w ↦ subst (λ v. AreGaps b q from t c.args.carrier v.items) (sym w.gaps-is) was.gaps
-      ];
+      gaps = c.in_ok-put_gap.ensures b q from t c.args.carrier was.gaps own;
     }
