@@ -24,11 +24,11 @@ pub struct Block {
 /// What the table has for a group of fares and a class of paths: where the entry may stand, and a price that it costs at most.
 #[derive(Clone, Copy, PartialEq, Eq, Debug)]
 pub struct Slot {
-    pub block: usize,
+    pub block: u32,
+    pub at: u32,
+    pub price: u32,
     pub key: GroupKey,
     pub reverse: bool,
-    pub at: usize,
-    pub price: u64,
 }
 
 /// A class by its block, which way the fares are filed, and a slot of a group.
@@ -59,7 +59,7 @@ impl Slot {
         ensures key { IsTrue result → self.now.key ≡ spot.now.key }
         ensures reverse { IsTrue result → self.now.reverse ≡ spot.now.reverse }
     {
-        self.block == spot.block && self.key.is(spot.key) && self.reverse == spot.reverse
+        self.block as usize == spot.block && self.key.is(spot.key) && self.reverse == spot.reverse
     }
 }
 
@@ -177,7 +177,7 @@ impl Growing {
         ensures { IsTrue result → IsLow self.now → (o : OneOutline) → HasOutline self.now.blocks.items spot.now o → HasBelow self.now.entries.items o price }
     {
         match slot_of(self.slots.as_slice(), spot) {
-            Some(slot) => slot.price <= price,
+            Some(slot) => slot.price as u64 <= price,
             None => false,
         }
     }
@@ -242,19 +242,29 @@ fn add_slots(slots: &mut Vec<Option<Slot>>, count: usize) -> Result<(), Mem>
     Ok(())
 }
 
-/// Makes a spot's slot tell a place and a price.
+/// Makes a spot's slot tell a place and a price, unless these are beyond the greatest number.
 fn tell(slots: &mut Vec<Option<Slot>>, spot: &Spot, at: usize, price: u64)
     ensures { TellsOne (record { block = spot.now.block; key = spot.now.key; reverse = spot.now.reverse; at = at; price = price }) slots.old.items slots.new.items }
 {
+    let Some(slot) = slot_with(spot, at, price) else {
+        return;
+    };
     if spot.slot < slots.len() {
-        slots[spot.slot] = Some(Slot {
-            block: spot.block,
-            key: spot.key,
-            reverse: spot.reverse,
-            at,
-            price,
-        });
+        slots[spot.slot] = Some(slot);
     }
+}
+
+/// The slot of a spot that tells a place and a price.
+fn slot_with(spot: &Spot, at: usize, price: u64) -> Option<Slot>
+    ensures { IfSome result (λ slot. slot ≡ record { block = spot.now.block; key = spot.now.key; reverse = spot.now.reverse; at = at; price = price }) }
+{
+    Some(Slot {
+        block: u32::try_from(spot.block).ok()?,
+        at: u32::try_from(at).ok()?,
+        price: u32::try_from(price).ok()?,
+        key: spot.key,
+        reverse: spot.reverse,
+    })
 }
 
 /// Puts an outline in at a price, where its slot tells that it stands, or at the end. Returns where it stands.
@@ -285,7 +295,7 @@ fn put_in(
 fn found_at(entries: &[Entry], slot: Option<Slot>, outline: &Outline) -> Option<usize>
     ensures { IfSome result (HasAt entries.now outline.now) }
 {
-    let at = slot?.at;
+    let at = slot?.at as usize;
     let entry = entries.get(at)?;
     if same_outline(&entry.outline, outline) {
         Some(at)
