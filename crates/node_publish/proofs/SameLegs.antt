@@ -10,12 +10,12 @@ use Rattle.fare_law.proofs.SameNames.{carriers_tell, places_tell}
 flights_tell : (a b : Flight) → Decides (flight.ghosts.eq a b) (a ≡ b)
 flights_tell a b =
     Decides-like _ (λ e. whole e.0 e.1.0 e.1.1.0 e.1.1.1.0 e.1.1.1.1.0 e.1.1.1.1.1.0 e.1.1.1.1.1.1.0 e.1.1.1.1.1.1.1)
-    (λ e. (ap (λ x. x.carrier) e, (ap (λ x. x.number) e, (ap (λ x. x.from) e, (ap (λ x. x.to) e, (ap (λ x. x.day) e, (ap (λ x. x.minute) e, (ap (λ x. x.dep) e, ap (λ x. x.arr) e))))))))
-    (Decides-and _ _ (carriers_tell a.carrier b.carrier) (Decides-and _ _ (Decides-eqb a.number b.number) (Decides-and _ _ (places_tell a.from b.from) (Decides-and _ _ (places_tell a.to b.to)
-    (Decides-and _ _ (Decides-int_eq a.day b.day) (Decides-and _ _ (Decides-eqb a.minute b.minute) (Decides-and _ _ (Decides-int_eq a.dep b.dep) (Decides-int_eq a.arr b.arr))))))))
+    (λ e. (ap (λ x. x.dep) e, (ap (λ x. x.arr) e, (ap (λ x. x.day) e, (ap (λ x. x.minute) e, (ap (λ x. x.number) e, (ap (λ x. x.carrier) e, (ap (λ x. x.from) e, ap (λ x. x.to) e))))))))
+    (Decides-and _ _ (Decides-int_eq a.dep b.dep) (Decides-and _ _ (Decides-int_eq a.arr b.arr) (Decides-and _ _ (Decides-int_eq a.day b.day) (Decides-and _ _ (Decides-eqb a.minute b.minute)
+    (Decides-and _ _ (Decides-eqb a.number b.number) (Decides-and _ _ (carriers_tell a.carrier b.carrier) (Decides-and _ _ (places_tell a.from b.from) (places_tell a.to b.to))))))))
   where
-    whole : a.carrier ≡ b.carrier → a.number ≡ b.number → a.from ≡ b.from → a.to ≡ b.to → a.day ≡ b.day → a.minute ≡ b.minute → a.dep ≡ b.dep → a.arr ≡ b.arr → a ≡ b
-    whole c n f t d m x y = λ i. record { carrier = c i; number = n i; from = f i; to = t i; day = d i; minute = m i; dep = x i; arr = y i }
+    whole : a.dep ≡ b.dep → a.arr ≡ b.arr → a.day ≡ b.day → a.minute ≡ b.minute → a.number ≡ b.number → a.carrier ≡ b.carrier → a.from ≡ b.from → a.to ≡ b.to → a ≡ b
+    whole x y d m n c f t = λ i. record { carrier = c i; number = n i; from = f i; to = t i; day = d i; minute = m i; dep = x i; arr = y i }
 
 pub legs_tell : (a b : Leg) → Decides (leg.ghosts.eq a b) (a ≡ b)
 legs_tell a b =
