@@ -6,6 +6,7 @@ mod dated;
 mod departures;
 mod expansion;
 mod faults;
+mod gathering;
 mod laws;
 mod numbering;
 mod parts;
@@ -13,6 +14,7 @@ mod places;
 mod row_days;
 mod row_faults;
 mod schedule;
+mod spans;
 mod times;
 
 pub use faults::SchedFault;

@@ -66,7 +66,7 @@ impl Schedule {
             Ok(flights) => flights,
             Err(fault) => return Err(fault),
         };
-        put_in_order(flights.as_mut_slice());
+        put_in_order(alloc, flights.as_mut_slice())?;
         let departures = Departures::of(alloc, flights.as_slice())?;
         let times = Times::of(alloc, flights.as_slice())?;
         let flights = List::from_vec(flights);

@@ -5,21 +5,20 @@ ghost use Rattle.fare_law.specs.Flights.{Earlier};
 ghost use Rattle.fare_law.specs.Lists.{EachPair};
 
 use crate::parts::fill_up;
+use crate::spans::Spans;
 use fare_law::{Flight, Mem};
 use std::alloc::Global;
 
-/// A span of time has two to this power minutes, or more where there would be too many.
+/// A span of time has two to this power minutes at least.
 const LEAST: u32 = 3;
 
 /// So many spans are told apart, at most.
-const MOST: u64 = 65_536;
+const MOST: usize = 65_536;
 
 /// How many flights depart up to the end of each span of time. What is read here is looked up before it is believed.
 #[derive(Drop)]
 pub struct Times {
-    first: i64,
-    /// A span has two to this power minutes.
-    power: u32,
+    spans: Spans,
     counts: Vec<u32>,
 }
 
@@ -30,22 +29,17 @@ impl Times {
             [first, .., last] => (first.dep, last.dep),
             _ => (0, 0),
         };
-        let power = power_of(last.abs_diff(first));
-        let spans = span_of(first, power, last);
-        let mut counts = vec![in alloc; 0; spans.saturating_add(1)]?;
+        let spans = Spans::of(first, last, LEAST, MOST);
+        let mut counts = vec![in alloc; 0; spans.at(last).saturating_add(1)]?;
         let mut count = 0_u32;
         for flight in flights {
             count = count.saturating_add(1);
-            if let Some(one) = counts.get_mut(span_of(first, power, flight.dep)) {
+            if let Some(one) = counts.get_mut(spans.at(flight.dep)) {
                 *one = count;
             }
         }
         fill_up(counts.as_mut_slice());
-        Ok(Times {
-            first,
-            power,
-            counts,
-        })
+        Ok(Times { spans, counts })
     }
 
     /// How many of these flights depart before an instant.
@@ -63,14 +57,14 @@ impl Times {
 
     /// How many of them may depart before an instant.
     fn guess(&self, flights: &[Flight], at: i64) -> usize {
-        let span = span_of(self.first, self.power, at);
+        let span = self.spans.at(at);
         let from = match span.checked_sub(1) {
             Some(before) => self.count(before),
             None => 0,
         };
         let to = self.count(span);
         if from <= to && to <= flights.len() {
-            from.saturating_add(flights[from..to].partition_point(|f| f.dep < at))
+            from.saturating_add(flights[from..to].partition_point(|flight| flight.dep < at))
         } else {
             0
         }
@@ -83,28 +77,6 @@ impl Times {
             None => 0,
         }
     }
-}
-
-/// The span of an instant, where they begin with this one.
-fn span_of(first: i64, power: u32, at: i64) -> usize {
-    if at < first {
-        return 0;
-    }
-    at.abs_diff(first).checked_shr(power).unwrap_or(0) as usize
-}
-
-/// The power of a span where so many minutes are told apart.
-fn power_of(minutes: u64) -> u32 {
-    let mut power = LEAST;
-    let mut spans = minutes >> LEAST;
-    for _ in 0..64 {
-        if spans < MOST {
-            return power;
-        }
-        power = power.saturating_add(1);
-        spans /= 2;
-    }
-    power
 }
 
 /// Whether it can be told at once that so many flights depart before an instant.

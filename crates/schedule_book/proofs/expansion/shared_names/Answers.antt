@@ -21,10 +21,10 @@ loop-row-preserved c =
       | then-not-branch+in_ok-insert-2 w ↦
           let grows : Takes c.loop-row.shared (name_of row) c.if-not-branch.shared = subst (λ s. Takes c.loop-row.shared (name_of row) s) (sym w.shared-is) (subst (λ n. Takes c.loop-row.shared n w.insert-then-not-branch.new.self) c.name_of-name.ensures w.in_ok-insert-2.ensures.updates.0) in
           names_next rows i no_row row c.loop-row-test.true refl c.loop-row.names c.insert.new.self c.loop-row.shared c.if-not-branch.shared c.loop-row.invariant takes (takes_more c.loop-row.shared c.if-not-branch.shared (name_of row) grows)
-              (λ _. takes_one c.loop-row.shared c.if-not-branch.shared (name_of row) grows)
+          (λ _. takes_one c.loop-row.shared c.if-not-branch.shared (name_of row) grows)
       | else-not-branch w ↦
           names_next rows i no_row row c.loop-row-test.true refl c.loop-row.names c.insert.new.self c.loop-row.shared c.if-not-branch.shared c.loop-row.invariant takes (λ q h. subst (λ s. contains one_name s q ≡ true) (sym w.shared-is) h)
-              (λ t. absurd (true_false (subst (λ n. contains one_name c.loop-row.names n ≡ true) (sym c.name_of-name.ensures) t) (not-true (contains one_name c.loop-row.names c.name_of-name.result) (sym c.in_ok-insert.ensures.added ∙ w.if-not-branch.false))))
+          (λ t. absurd (true_false (subst (λ n. contains one_name c.loop-row.names n ≡ true) (sym c.name_of-name.ensures) t) (not-true (contains one_name c.loop-row.names c.name_of-name.result) (sym c.in_ok-insert.ensures.added ∙ w.if-not-branch.false))))
     ]
 
 pub returns-clause-shared : goal.returns-clause-shared

@@ -19,7 +19,7 @@ of-requires-2-clause-limits c =
     let new = c.put_in_order.new.flights in
     let same = subst (λ xs. IsPermutation xs new) c.as_mut_slice.ensures.value c.put_in_order.ensures.same in
     let kept = c.as_slice.ensures.value ∙ written c.in-Ok.flights.len old new (omega (arith, c.in-Ok.flights.ok.0)) (sorted_length old new same) in
-    flights_within rows c.as_slice.result.now c.requires.rows (subst (AreFlights rows) (sym kept) (flights_are rows old new c.in-Ok.ensures.expansion c.put_in_order.ensures.order same))
+    flights_within rows c.as_slice.result.now c.requires.rows (subst (AreFlights rows) (sym kept) (flights_are rows old new c.in-Ok.ensures.expansion c.in_ok-put_in_order.ensures.order same))
 
 pub returns-clause-flights : goal.returns-clause-flights
 returns-clause-flights c =
@@ -27,7 +27,7 @@ returns-clause-flights c =
     let new = c.put_in_order.new.flights in
     let same = subst (λ xs. IsPermutation xs new) c.as_mut_slice.ensures.value c.put_in_order.ensures.same in
     let kept = c.from_vec-flights.ensures ∙ written c.in-Ok.flights.len old new (omega (arith, c.in-Ok.flights.ok.0)) (sorted_length old new same) in
-    subst (AreFlights c.args.rows.now) (sym kept) (flights_are c.args.rows.now old new c.in-Ok.ensures.expansion c.put_in_order.ensures.order same)
+    subst (AreFlights c.args.rows.now) (sym kept) (flights_are c.args.rows.now old new c.in-Ok.ensures.expansion c.in_ok-put_in_order.ensures.order same)
 
 pub invariant_of-result : goal.invariant_of-result
 invariant_of-result c =
@@ -36,7 +36,7 @@ invariant_of-result c =
     let new = c.put_in_order.new.flights in
     let same = subst (λ xs. IsPermutation xs new) c.as_mut_slice.ensures.value c.put_in_order.ensures.same in
     let kept = c.from_vec-flights.ensures ∙ written c.in-Ok.flights.len old new (omega (arith, c.in-Ok.flights.ok.0)) (sorted_length old new same) in
-    let are = subst (AreFlights rows) (sym kept) (flights_are rows old new c.in-Ok.ensures.expansion c.put_in_order.ensures.order same) in (
+    let are = subst (AreFlights rows) (sym kept) (flights_are rows old new c.in-Ok.ensures.expansion c.in_ok-put_in_order.ensures.order same) in (
       are.in_order,
       omega (arith, c.in-Ok.ensures.few, sorted_length old new same, ap length kept),
       subst (λ fs. Indexes fs c.in_ok-departures.departures.keys.items c.in_ok-departures.departures.numbers.items) (c.as_slice.ensures.value ∙ sym c.from_vec-flights.ensures) c.in_ok-departures.ensures,
