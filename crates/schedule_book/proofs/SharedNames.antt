@@ -1,5 +1,5 @@
 -- The names that several rows have.
-use Rattle.std.proofs.Common.{◌≡◌, pos, ◌<◌, ◌⊎◌, ℕ, ◌+◌, Bool, true, false, cond, List, [], ◌∷◌, ◌++◌, length, take, get_or, Decides, refl, sym, ap, subst, ◌∙◌, inl, inr}
+use Rattle.std.proofs.Common.{◌≡◌, pos, ◌<◌, ℕ, ◌+◌, Bool, true, false, cond, List, [], ◌∷◌, ◌++◌, length, take, get_or, Decides, refl, sym, ap, subst, ◌∙◌, inl, inr}
 use Rattle.std.specs.HashSet.{HashSet, contains}
 use Rattle.std.proofs.lemmas.Bool.Decides.{Decides-like, Decides-and, Decides-eqb}
 use Rattle.fare_law.specs.declared.flights.Flight.{Flight}
@@ -9,7 +9,7 @@ use Rattle.fare_law.specs.Lists.{IsIn}
 use Rattle.fare_law.proofs.SameNames.{carriers_tell, places_tell}
 use Rattle.schedule_book.specs.contracts.dated.FlightNamePartialEq.TheImpl as named
 use Rattle.schedule_book.specs.declared.dated.FlightName.{FlightName}
-use Rattle.schedule_book.specs.Expansions.{HasNone, HasShared, IsNamed, name_in, name_of, number_of}
+use Rattle.schedule_book.specs.Expansions.{HasNone, HasShared, IsNamed, name_of}
 use Rattle.schedule_book.proofs.RowFlights.{named_dated}
 use Rattle.schedule_book.proofs.Rows.{split_push}
 use Rattle.law_lemmas.proofs.Lists.{front_read, no_middle}

@@ -1,4 +1,4 @@
-use Rattle.std.proofs.Common.{◌≡◌, rules, ℤ, pos, ◌++◌, ◌∷◌, [], ◌+ℤ◌, w32, to_z, of_z, true, false, sym, ap, subst, ◌∙◌, arith}
+use Rattle.std.proofs.Common.{◌≡◌, rules, pos, ◌++◌, ◌∷◌, [], ◌+ℤ◌, w32, to_z, of_z, true, false, sym, ap, subst, ◌∙◌, arith}
 use Rattle.std.proofs.lemmas.Int.{ints}
 use Rattle.fare_law.specs.Flights.{Dated}
 use Rattle.schedule_book.specs.Days.{names}

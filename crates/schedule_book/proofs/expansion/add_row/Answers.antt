@@ -6,7 +6,7 @@ use Rattle.fare_law.specs.declared.rows.FlightRow.{FlightRow}
 use Rattle.law_lemmas.proofs.Tests.{true_false}
 use Rattle.schedule_book.specs.declared.dated.DatedNumber.{DatedNumber}
 use Rattle.schedule_book.specs.declared.dated.FlightName.{FlightName}
-use Rattle.schedule_book.specs.Expansions.{AddsRow, AllDiffer, Seen, name_in, name_of, number_of}
+use Rattle.schedule_book.specs.Expansions.{AddsRow, AllDiffer, Seen, name_of}
 use Rattle.schedule_book.proofs.Numbers.{same, other_names}
 use Rattle.schedule_book.proofs.RowFlights.{named_dated}
 use Rattle.schedule_book.proofs.SharedNames.{one_name}

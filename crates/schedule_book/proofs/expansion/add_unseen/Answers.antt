@@ -1,4 +1,4 @@
-use Rattle.std.proofs.Common.{◌≡◌, rules, ℤ, pos, ◌++◌, ◌∷◌, [], ◌+ℤ◌, w32, to_z, of_z, true, false, refl, sym, ap, subst, ◌∙◌, inr, arith}
+use Rattle.std.proofs.Common.{◌≡◌, rules, pos, ◌++◌, ◌∷◌, [], ◌+ℤ◌, w32, to_z, of_z, true, false, refl, sym, ap, subst, ◌∙◌, inr, arith}
 use Rattle.std.specs.Bool.{MatchBool, OnTrue}
 use Rattle.fare_law.specs.Flights.{Dated}
 use Rattle.schedule_book.specs.Days.{names}

@@ -1,10 +1,8 @@
-use Rattle.std.proofs.Common.{◌≡◌, pos, [], true, get_or, take, refl, sym, ap, subst, ◌∙◌}
-use Rattle.std.specs.HashSet.{HashSet, contains}
-use Rattle.std.proofs.lemmas.Bool.{not-true, not-false}
+use Rattle.std.proofs.Common.{◌≡◌, true, get_or, refl, sym, subst, ◌∙◌}
+use Rattle.std.specs.HashSet.{contains}
+use Rattle.std.proofs.lemmas.Bool.{not-true}
 use Rattle.std.proofs.lemmas.List.{take_all}
-use Rattle.fare_law.specs.declared.rows.FlightRow.{FlightRow}
 use Rattle.law_lemmas.proofs.Tests.{true_false}
-use Rattle.schedule_book.specs.declared.dated.FlightName.{FlightName}
 use Rattle.schedule_book.specs.Expansions.{HasShared, name_of}
 use Rattle.schedule_book.proofs.SharedNames.{Takes, names_next, no_row, one_name, takes_more, takes_one}
 use Rattle.schedule_book.proofs.expansion.shared_names.Goals as goal
