@@ -1,8 +1,8 @@
 -- The fares over the paths of a class: when the table has them, and what follows for a path.
-use Rattle.std.proofs.Common.{◌≡◌, ◌⊎◌, ℕ, suc, ◌+◌, ◌<◌, ◌≤◌, max, Bool, List, [], ◌∷◌, length, slice_get, Option, Some, None, MatchOption, IsBitSet, bit_or, zero, refl, sym, ap, subst, ◌∙◌, inl, inr, arith}
+use Rattle.std.proofs.Common.{◌≡◌, ◌⊎◌, ℕ, suc, ◌+◌, ◌<◌, ◌≤◌, max, Bool, List, [], ◌∷◌, length, slice_get, Option, Some, None, MatchOption, IsBitSet, bit_or, zero, ◌^◌, refl, sym, ap, subst, ◌∙◌, inl, inr, arith}
 use Rattle.std.specs.Int.{bit_at}
 use Rattle.std.proofs.lemmas.Nat.{bit_set_by_shift}
-use Rattle.std.proofs.lemmas.Nat.Bits.{bit_at-lt, bit_at_or, shr_and_one}
+use Rattle.std.proofs.lemmas.Nat.Bits.{bit_at-lt, bit_at_or, bit_at-pow_other, shr_and_one}
 use Rattle.component_table.specs.declared.classes.PathClass.{PathClass}
 use Rattle.component_table.specs.declared.ends.End.{End}
 use Rattle.component_table.specs.declared.filed.Filed.{Filed}
@@ -160,3 +160,18 @@ class_both b q at c some others table h k = record {
     | inr x ↦ k.fares path fs is of r row live x permits
   ];
 }
+
+-- what is done for some classes of seats is done for those among them that fares may have
+pub class_fewer : (b : Book) (q : Request) (at : Position) (c : PathClass) (some others : ℕ) (table : List Entry) → ClassDone b q at (record { class = c; classes = some }) table → ((k : ℕ) → k ≤ 25 → IsBitSet others k → IsBitSet some k) → ClassDone b q at (record { class = c; classes = others }) table
+class_fewer b q at c some others table h fewer = record {
+  filed = h.filed;
+  fares = λ path fs is of r row live open_class permits. h.fares path fs is of r row live (fewer row.fare.class (h.filed.limited.fares row.fare.key row.fare live.fare).1.class open_class) permits;
+}
+
+-- no fare has the class of seats that is put to those that are known
+no_fares : (k : ℕ) → k ≤ 25 → IsBitSet (2 ^ 31) k → ⊥
+no_fares k low h = let one = set_is_one (2 ^ 31) k h in let none = bit_at-pow_other 31 k (λ e. absurd (omega (arith, low, e))) in absurd (omega (arith, one, none))
+
+-- which may be left out
+pub class_marked : (b : Book) (q : Request) (at : Position) (c : PathClass) (some had : ℕ) (table : List Entry) → ClassDone b q at (record { class = c; classes = some }) table → ((k : ℕ) → IsBitSet had k → IsBitSet some k) → ClassDone b q at (record { class = c; classes = bit_or had (2 ^ 31) }) table
+class_marked b q at c some had table h fewer = class_fewer b q at c some (bit_or had (2 ^ 31)) table h (λ k low set. elim (either_set had (2 ^ 31) k set) [ inl x ↦ fewer k x | inr x ↦ absurd (no_fares k low x) ])

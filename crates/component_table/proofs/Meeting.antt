@@ -10,7 +10,7 @@ use Rattle.component_table.specs.Classes.{ClassDone}
 use Rattle.component_table.specs.Gaps.{AreIdleTails, IsIdleTail, ended}
 use Rattle.component_table.specs.Kinds.{joined_class}
 use Rattle.component_table.specs.Meetings.{HasMet, NeedsNone}
-use Rattle.component_table.specs.Rows.{AreRows, IsKnownTail, IsRow, IsRowAt, TailAddsNothing}
+use Rattle.component_table.specs.Rows.{AreRows, IsKnownAs, IsKnownTail, IsRow, IsRowAt, TailAddsNothing}
 use Rattle.component_table.specs.Tails.{EndsAt}
 use Rattle.component_table.proofs.Halves.{halves, joint_class}
 use Rattle.component_table.proofs.PathFacts.{path_numbers}
@@ -48,7 +48,7 @@ first_is (f ∷ fs) day carrier h = h.1
 
 -- what the row of a head's class tells of a class of tails
 pub told_by_row : (b : Book) (q : Request) (at : Position) (classes : List TailClass) (table : List Entry) (rows : List Row) (k : HeadKind) → AreRows b q at classes table rows → (row : IsRowAt rows k.class k.row) → (n mask : ℕ) (c : TailClass)
-    → slice_get row.row.masks.items n ≡ Some (Some mask) → slice_get classes n ≡ Some c → ClassDone b q at (record { class = joined_class k.class c; classes = mask }) table
+    → IsKnownAs row.row.masks.items n mask → slice_get classes n ≡ Some c → ClassDone b q at (record { class = joined_class k.class c; classes = mask }) table
 told_by_row b q at classes table rows k are row n mask c known got =
     subst (λ x. ClassDone b q at (record { class = joined_class x c; classes = mask }) table) row.class_is (each_in (IsRow b q at classes table) rows row.row are (got_in rows k.row row.row row.stands) n mask c known got)
 

@@ -1,5 +1,5 @@
 -- Paths of a head and a tail that add nothing to a table, by what is known of the two.
-use Rattle.std.proofs.Common.{◌≡◌, ◌⊎◌, ℕ, ◌+◌, zero, suc, List, [], ◌∷◌, ◌++◌, length, length-append, set, slice_get, Option, Some, None, IfSome, bit_and, refl, sym, ap, subst, ◌∙◌, inl, inr, ◌≤◌}
+use Rattle.std.proofs.Common.{◌≡◌, ◌⊎◌, ℕ, ◌+◌, zero, suc, List, [], ◌∷◌, ◌++◌, length, length-append, set, slice_get, Option, Some, None, IfSome, bit_and, bit_or, refl, sym, ap, subst, ◌∙◌, inl, inr, ◌≤◌}
 use Rattle.component_table.specs.declared.classes.PathClass.{PathClass}
 use Rattle.component_table.specs.declared.ends.EndKey.{EndKey}
 use Rattle.component_table.specs.declared.kinds.Kinds.{Kinds}
@@ -17,12 +17,13 @@ use Rattle.component_table.specs.Classes.{AreAmong, ClassDone, IsLanded, IsOfCla
 use Rattle.component_table.specs.Joints.{IsJoint, IsJointOf, Joins}
 use Rattle.component_table.specs.Kinds.{AreKindsOf, IsKindOf, joined_class}
 use Rattle.component_table.specs.Reaches.{IsEnd}
-use Rattle.component_table.specs.Rows.{AddsMask, AreRows, HasRows, IsHeadOf, IsMet, IsRow, IsRowAt, with_more}
+use Rattle.component_table.specs.Rows.{AddsMask, AreRows, HasRows, IsHeadOf, IsKnownAs, IsMet, IsRow, IsRowAt, with_more}
 use Rattle.component_table.specs.Tables.{AddsNothing, Covers, HasLegs, numbers_of}
-use Rattle.component_table.proofs.FareFacts.{class_both, class_on}
+use Rattle.component_table.proofs.FareFacts.{class_both, class_marked, class_on, either_set}
 use Rattle.component_table.proofs.Halves.{joint_class, joint_legs}
 use Rattle.component_table.proofs.Lower.{set_only}
 use Rattle.component_table.proofs.SettledFacts.{settled_added}
+use Rattle.component_table.proofs.SomeLegs.{no_class}
 use Rattle.fare_law.specs.declared.flights.Flight.{Flight}
 use Rattle.fare_law.specs.declared.requests.Request.{Request}
 use Rattle.fare_law.specs.Book.{Book}
@@ -93,9 +94,9 @@ module _ (rows : List Row) (i : ℕ) (old new : Row) (stands : slice_get rows i 
       now_for : (k : TailClass) (m : ℕ) → DoneFor old.class k m → DoneFor new.class k m
       now_for k m d = subst (λ x. DoneFor x k m) (sym class_same) d
 
-      with_known : (n : ℕ) (k : TailClass) (had : Option ℕ) → slice_get old.masks.items n ≡ Some had → slice_get classes n ≡ Some k → DoneFor old.class k mask → DoneFor old.class k (with_more had mask)
-      with_known n k None got at_n d = d
-      with_known n k (Some m) got at_n d = class_both b q at (joined_class old.class k) m mask table (was n m k got at_n) d
+      with_known : (n : ℕ) (k : TailClass) (had : ℕ) → slice_get old.masks.items n ≡ Some had → slice_get classes n ≡ Some k → DoneFor old.class k mask → DoneFor old.class k (with_more had mask)
+      with_known n k zero got at_n d = class_marked b q at (joined_class old.class k) mask (bit_or 0 mask) table d (λ x set. elim (either_set 0 mask x set) [ inl h ↦ absurd (no_class 0 x refl h) | inr h ↦ h ])
+      with_known n k (suc m) got at_n d = class_marked b q at (joined_class old.class k) (bit_or (suc m) mask) (bit_or (suc m) mask) table (class_both b q at (joined_class old.class k) (suc m) mask table (was n (suc m) k (got, λ e. cc) at_n) d) (λ x set. set)
 
       own : IsRow b q at classes table new
       own n m k got at_n = elim (puts n m got) [
@@ -106,7 +107,7 @@ module _ (rows : List Row) (i : ℕ) (old new : Row) (stands : slice_get rows i 
       ]
 
 -- one row more, in which nothing is known
-pub rows_more : (b : Book) (q : Request) (at : Position) (classes : List TailClass) (table : List Entry) (rows : List Row) (row : Row) → ((n mask : ℕ) → slice_get row.masks.items n ≡ Some (Some mask) → ⊥) → AreRows b q at classes table rows → AreRows b q at classes table (rows ++ row ∷ [])
+pub rows_more : (b : Book) (q : Request) (at : Position) (classes : List TailClass) (table : List Entry) (rows : List Row) (row : Row) → ((n mask : ℕ) → IsKnownAs row.masks.items n mask → ⊥) → AreRows b q at classes table rows → AreRows b q at classes table (rows ++ row ∷ [])
 rows_more b q at classes table rows row none h = each_more (IsRow b q at classes table) rows row h (λ n mask c got known. absurd (none n mask got))
 
 -- what is known of a path of the head at hand and a known tail

@@ -6,7 +6,7 @@ use Rattle.component_table.specs.declared.skipping.Met.{Met}
 use Rattle.component_table.specs.Classes.{ClassDone}
 use Rattle.component_table.specs.Gaps.{AreGaps, IsInGap, ended}
 use Rattle.component_table.specs.Kinds.{AreKinds, joined_class}
-use Rattle.component_table.specs.Rows.{IsHeadOf, IsKnownTail}
+use Rattle.component_table.specs.Rows.{IsHeadOf, IsKnownAs, IsKnownTail}
 use Rattle.component_table.specs.Tails.{AreEnds}
 use Rattle.fare_law.specs.declared.requests.Request.{Request}
 use Rattle.fare_law.specs.Book.{Book}
@@ -20,7 +20,7 @@ pub record HasMet (b : Book) (q : Request) (at : Position) (m : Met) (gaps : Lis
   pub kinds : AreKinds b q tails m.tails.kinds.now
   pub ends : AreEnds b tails m.tails.ends.now
   pub idle : AreGaps b q at.place (ended m.tails) m.head.class.carrier gaps
-  pub row : (n mask : ℕ) (c : TailClass) → slice_get m.masks.now n ≡ Some (Some mask) → slice_get m.tails.kinds.now.classes.items n ≡ Some c → ClassDone b q at (record { class = joined_class m.head.class c; classes = mask }) table
+  pub row : (n mask : ℕ) (c : TailClass) → IsKnownAs m.masks.now n mask → slice_get m.tails.kinds.now.classes.items n ≡ Some c → ClassDone b q at (record { class = joined_class m.head.class c; classes = mask }) table
 
 -- the head needs no tail whose number stands from one place up to another: it is in a gap, or its row tells enough
 abbrev pub NeedsNone : Met → List Gap → ℕ → ℕ → Type 0

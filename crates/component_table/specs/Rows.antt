@@ -1,5 +1,5 @@
 -- What is known of the paths that begin with a head and go on by a tail, class by class.
-use Rattle.std.specs.Prelude.{◌≡◌, ◌⊎◌, ◌≤ℤ◌, ◌+ℤ◌, pos, ℕ, List, ◌++◌, Option, Some, None, bit_and, bit_or, IfSome, slice_get}
+use Rattle.std.specs.Prelude.{◌≡◌, ◌≢◌, ◌⊎◌, ◌^◌, ◌≤ℤ◌, ◌+ℤ◌, pos, ℕ, List, ◌++◌, Option, Some, bit_and, bit_or, IfSome, slice_get}
 use Rattle.component_table.specs.declared.kinds.TailClass.{TailClass}
 use Rattle.component_table.specs.declared.kinds.TailKind.{TailKind}
 use Rattle.component_table.specs.declared.rows.HeadClass.{HeadClass}
@@ -29,9 +29,13 @@ pub record BeginsAs (b : Book) (q : Request) (k : HeadKind) (fs : List Flight) :
 abbrev pub IsHeadOf : Book → Request → List ℕ → HeadKind → Type 0
 IsHeadOf b q numbers k = (fs : List Flight) → Numbers b numbers fs → BeginsAs b q k fs
 
--- Where classes of seats stand in a row by the class of a tail, each path of the two on which none but these are open is done.
+-- these classes of seats are known at this place
+abbrev pub IsKnownAs : List ℕ → ℕ → ℕ → Type 0
+IsKnownAs masks n mask = (slice_get masks n ≡ Some mask) × (mask ≢ 0)
+
+-- Where classes of seats are known in a row by the class of a tail, each path of the two on which none but these are open is done.
 abbrev pub IsRow : Book → Request → Position → List TailClass → List Entry → Row → Type 0
-IsRow b q at classes table row = (n mask : ℕ) (c : TailClass) → slice_get row.masks.items n ≡ Some (Some mask) → slice_get classes n ≡ Some c → ClassDone b q at (record { class = joined_class row.class c; classes = mask }) table
+IsRow b q at classes table row = (n mask : ℕ) (c : TailClass) → IsKnownAs row.masks.items n mask → slice_get classes n ≡ Some c → ClassDone b q at (record { class = joined_class row.class c; classes = mask }) table
 
 abbrev pub AreRows : Book → Request → Position → List TailClass → List Entry → List Row → Type 0
 AreRows b q at classes table rows = Each (IsRow b q at classes table) rows
@@ -52,21 +56,20 @@ pub record HasRows (b : Book) (q : Request) (at : Position) (classes : List Tail
   pub each : AreRows b q at classes table r.kept.items
   pub head : IfSome r.head (IsMet b q r.kept.items)
 
--- more classes of seats beside those that are known
-abbrev pub with_more : Option ℕ → ℕ → ℕ
-with_more None more = more
-with_more (Some had) more = bit_or had more
+-- more classes of seats beside those that are known, and one that no fare has, so that it isn't 0
+abbrev pub with_more : ℕ → ℕ → ℕ
+with_more had more = bit_or (bit_or had more) (2 ^ 31)
 
 -- each mask that is known was known before, or has these classes of seats more, at their place
-abbrev pub AddsMask : ℕ → ℕ → List (Option ℕ) → List (Option ℕ) → Type 0
-AddsMask at more old new = (n mask : ℕ) → slice_get new n ≡ Some (Some mask) → (slice_get old n ≡ Some (Some mask)) ⊎ ((n ≡ at) × ((had : Option ℕ) × (slice_get old n ≡ Some had) × (mask ≡ with_more had more)))
+abbrev pub AddsMask : ℕ → ℕ → List ℕ → List ℕ → Type 0
+AddsMask at more old new = (n mask : ℕ) → IsKnownAs new n mask → IsKnownAs old n mask ⊎ ((n ≡ at) × ((had : ℕ) × (slice_get old n ≡ Some had) × (mask ≡ with_more had more)))
 
 -- Enough classes of seats stand in a row for the class of the tail of this number, where these are open in the head.
-pub record IsKnownTail (kinds : List TailKind) (masks : List (Option ℕ)) (classes number : ℕ) : Type 0 where
+pub record IsKnownTail (kinds : List TailKind) (masks : List ℕ) (classes number : ℕ) : Type 0 where
   pub kind : TailKind
   pub stands : slice_get kinds number ≡ Some kind
   pub mask : ℕ
-  pub known : slice_get masks kind.class ≡ Some (Some mask)
+  pub known : IsKnownAs masks kind.class mask
   pub among : AreAmong (bit_and classes kind.classes) mask
 
 -- a path that goes on from a head of these numbers by the tail of this number adds nothing to the table

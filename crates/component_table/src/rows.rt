@@ -9,7 +9,7 @@ ghost use Rattle.component_table.specs.Classes.{ClassDone};
 ghost use Rattle.component_table.specs.Joints.{Joins};
 ghost use Rattle.component_table.specs.Masks.{AreMasks};
 ghost use Rattle.component_table.specs.Kinds.{joined_class};
-ghost use Rattle.component_table.specs.Rows.{AddsMask, AreRows, HasRows, IsMet, IsRowAt, with_more};
+ghost use Rattle.component_table.specs.Rows.{AddsMask, AreRows, HasRows, IsKnownAs, IsMet, IsRowAt, with_more};
 ghost use Rattle.fare_law.specs.declared.requests.Request.{Request as Asked};
 ghost use Rattle.fare_law.specs.Book.{Book as Version};
 ghost use Rattle.flight_paths.specs.declared.positions.Position.{Position as At};
@@ -52,11 +52,11 @@ pub struct MetHead {
 }
 
 /// For the paths that begin with a head of a class: by the number of a tail's class, the classes of seats with which the
-/// table needs no more paths of the class. None says nothing.
+/// table needs no more paths of the class, and one that no fare has. 0 says nothing.
 #[derive(Drop)]
 pub struct Row {
     pub class: HeadClass,
-    pub masks: Vec<Option<u32>>,
+    pub masks: Vec<u32>,
 }
 
 /// The rows of a position, and the head at hand.
@@ -207,7 +207,7 @@ impl Rows {
     }
 
     /// The classes of seats that are known in a row, by the numbers of classes of tails. None where there is no such row.
-    pub fn masks(&self, row: usize) -> &[Option<u32>]
+    pub fn masks(&self, row: usize) -> &[u32]
         ensures { (one : OneRow) → slice_get self.now.kept.items row ≡ Some one → result.now ≡ one.masks.items }
     {
         match self.kept.as_slice().get(row) {
@@ -233,32 +233,29 @@ fn put_in(row: &mut Row, class: usize, mask: u32)
     ensures masks { AddsMask class mask row.old.masks.items row.new.masks.items }
 {
     if class < row.masks.len() {
-        row.masks[class] = Some(with_more(row.masks[class], mask));
+        row.masks[class] = with_more(row.masks[class], mask);
     }
 }
 
-/// More classes of seats beside those that are known.
-fn with_more(known: Option<u32>, more: u32) -> u32
+/// More classes of seats beside those that are known, and the one that no fare has.
+fn with_more(known: u32, more: u32) -> u32
     ensures { result ≡ with_more known more }
 {
-    match known {
-        Some(had) => had | more,
-        None => more,
-    }
+    known | more | 0x8000_0000
 }
 
 /// The classes of seats that are known for a class of tails.
-pub fn known_for(masks: &[Option<u32>], class: usize) -> Option<u32>
-    ensures { IfSome result (λ mask. slice_get masks.now class ≡ Some (Some mask)) }
+pub fn known_for(masks: &[u32], class: usize) -> Option<u32>
+    ensures { IfSome result (IsKnownAs masks.now class) }
 {
     match masks.get(class) {
-        Some(Some(mask)) => Some(*mask),
+        Some(mask) if *mask != 0 => Some(*mask),
         _ => None,
     }
 }
 
 /// The row of a class of heads.
-fn row_with(class: &HeadClass, masks: Vec<Option<u32>>) -> Row
+fn row_with(class: &HeadClass, masks: Vec<u32>) -> Row
     ensures class { result.class ≡ class.now }
     ensures masks { result.masks ≡ masks }
 {
@@ -269,12 +266,12 @@ fn row_with(class: &HeadClass, masks: Vec<Option<u32>>) -> Row
 }
 
 /// Nothing known of so many classes.
-fn no_masks(alloc: Global, width: usize) -> Result<Vec<Option<u32>>, Mem>
-    ensures { IfOk result (λ masks. (n mask : ℕ) → slice_get masks.items n ≡ Some (Some mask) → ⊥) }
+fn no_masks(alloc: Global, width: usize) -> Result<Vec<u32>, Mem>
+    ensures { IfOk result (λ masks. (n mask : ℕ) → IsKnownAs masks.items n mask → ⊥) }
 {
     let mut masks = Vec::with_capacity(alloc, width)?;
     for _ in 0..width {
-        masks.push(None)?;
+        masks.push(0)?;
     }
     Ok(masks)
 }

@@ -13,7 +13,7 @@ use crate::settled::are_among;
 #[derive(Clone, Copy)]
 pub struct Met<'a> {
     pub tails: PlaceTails<'a>,
-    pub masks: &'a [Option<u32>],
+    pub masks: &'a [u32],
     pub head: HeadKind,
 }
 
@@ -60,7 +60,7 @@ impl Met<'_> {
 }
 
 /// Whether a row tells that the tail of this number adds nothing.
-fn is_known(kinds: &[TailKind], masks: &[Option<u32>], classes: u32, number: usize) -> bool
+fn is_known(kinds: &[TailKind], masks: &[u32], classes: u32, number: usize) -> bool
     ensures { IsTrue result → IsKnownTail kinds.now masks.now classes number }
 {
     let Some(kind) = kinds.get(number) else {

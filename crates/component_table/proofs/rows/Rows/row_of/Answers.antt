@@ -1,5 +1,5 @@
 use Rattle.std.proofs.Common.{◌≡◌, ℕ, [], ◌∷◌, ◌++◌, Some, ap, length, slice_get, subst, sym, ◌∙◌, arith}
-use Rattle.component_table.specs.Rows.{AreRows, IsRowAt}
+use Rattle.component_table.specs.Rows.{AreRows, IsKnownAs, IsRowAt}
 use Rattle.component_table.proofs.RowFacts.{rows_more}
 use Rattle.law_lemmas.proofs.Lists.{got_last}
 use Rattle.component_table.proofs.rows.Rows.row_of.Goals as goal
@@ -9,7 +9,7 @@ returns-in-Some-clause-row c = subst (λ xs. IsRowAt xs c.args.class.now c.in-So
 
 pub returns-clause-rows : goal.returns-clause-rows
 returns-clause-rows c = λ b q at classes table h.
-    let none : (n mask : ℕ) → slice_get c.row_with.result.masks.items n ≡ Some (Some mask) → ⊥ = λ n mask got. c.in_ok-masks.ensures n mask (ap (λ v. slice_get v.items n) (sym c.row_with.ensures.masks) ∙ got) in
+    let none : (n mask : ℕ) → IsKnownAs c.row_with.result.masks.items n mask → ⊥ = λ n mask got. c.in_ok-masks.ensures n mask (subst (λ v. IsKnownAs v.items n mask) c.row_with.ensures.masks got) in
     subst (AreRows b q at classes table) (sym c.in_ok-push.ensures.items) (rows_more b q at classes table c.args.self.now.kept.items c.row_with.result none h)
 
 pub returns-clause-row : goal.returns-clause-row

@@ -3,7 +3,7 @@ use Rattle.component_table.specs.declared.rows.HeadKind.{HeadKind}
 use Rattle.component_table.specs.declared.skipping.Met.{Met}
 use Rattle.component_table.specs.Gaps.{AreCarrierGaps, EndedTails, ended}
 use Rattle.component_table.specs.Kinds.{AreKinds}
-use Rattle.component_table.specs.Rows.{IsHeadOf, IsMet, IsRowAt}
+use Rattle.component_table.specs.Rows.{IsHeadOf, IsKnownAs, IsMet, IsRowAt}
 use Rattle.component_table.specs.Tails.{AreEnds}
 use Rattle.component_table.proofs.Meeting.{none_adds, told_by_row}
 use Rattle.component_table.proofs.PathFacts.{added_for, put_more}
@@ -96,6 +96,6 @@ returns-clause-skipped g c = λ tails numbers known i lt number got tail stands 
       kinds = subst (λ ts. AreKinds own asked ts s.tails.kinds.now) (sym known.0) was.kinds;
       ends = subst (λ ts. AreEnds own ts s.tails.ends.now) (sym known.0) was.ends;
       idle = c.gaps_of-gaps.ensures own asked here.place (ended s.tails) (c.turn_to.ensures.gaps was.gaps);
-      row = λ n mask k at_n at_k. told_by_row own asked here s.tails.kinds.now.classes.items es rows.kept.items kind has.each row n mask k (subst (λ ms. slice_get ms n ≡ Some (Some mask)) (c.masks.ensures row.row row.stands) at_n) at_k;
+      row = λ n mask k at_n at_k. told_by_row own asked here s.tails.kinds.now.classes.items es rows.kept.items kind has.each row n mask k (subst (λ ms. IsKnownAs ms n mask) (c.masks.ensures row.row row.stands) at_n) at_k;
     }) few c.args.place c.first_needed-found.result.place c.first_needed-found.ensures.none (c.args.place + i) number low high (subst (λ ns. slice_get ns (c.args.place + i) ≡ Some number) stand got) tail stands in
     put_more b q at joined before es es (added_for b q at own asked here was.book_is was.request_is was.at_is joined es es (nothing joined flights after)) h
