@@ -1,5 +1,5 @@
 -- What is known of the paths that begin with a head and go on by a tail, class by class.
-use Rattle.std.specs.Prelude.{◌≡◌, ◌≢◌, ◌⊎◌, ◌^◌, ◌≤ℤ◌, ◌+ℤ◌, pos, ℕ, List, ◌++◌, Option, Some, bit_and, bit_or, IfSome, slice_get}
+use Rattle.std.specs.Prelude.{◌≡◌, ◌≢◌, ◌⊎◌, ◌^◌, ◌≤ℤ◌, ◌+ℤ◌, pos, ℕ, List, ◌++◌, Some, bit_and, bit_or, IfSome, slice_get}
 use Rattle.component_table.specs.declared.kinds.TailClass.{TailClass}
 use Rattle.component_table.specs.declared.kinds.TailKind.{TailKind}
 use Rattle.component_table.specs.declared.rows.HeadClass.{HeadClass}

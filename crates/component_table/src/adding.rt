@@ -1,5 +1,5 @@
 //! The paths of a position, put into its table.
-ghost use Rattle.std.specs.Prelude.{◌≡◌, ◌<◌, ◌≤◌, List as Items, length, slice_get, IfOk, IsTrue, OnOk, Some};
+ghost use Rattle.std.specs.Prelude.{◌≡◌, ◌<◌, List as Items, length, slice_get, IfOk, IsTrue, OnOk, Some};
 ghost use Rattle.component_table.specs.declared.kinds.TailClass.{TailClass as OneClass};
 ghost use Rattle.component_table.specs.Blocks.{IsLow};
 ghost use Rattle.component_table.specs.Classes.{AreSettled, BothSettled, IsLanded};

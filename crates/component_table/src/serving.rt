@@ -1,5 +1,5 @@
 //! The groups of fares over a path, put into the table of its position.
-ghost use Rattle.std.specs.Prelude.{◌≡◌, ◌⊎◌, ◌<◌, ◌≤◌, ◌+◌, List as Items, length, slice_get, IfOk, IsTrue, OnOk, Some};
+ghost use Rattle.std.specs.Prelude.{◌≡◌, ◌<◌, ◌≤◌, ◌+◌, List as Items, length, slice_get, IfOk, IsTrue, OnOk, Some};
 ghost use Rattle.component_table.specs.Blocks.{HasBlock, IsLow, outline_of, whole_class};
 ghost use Rattle.component_table.specs.Classes.{GroupSettled, GroupsSettled, IsNumbered, WaySettled, class_landed};
 ghost use Rattle.component_table.specs.Markets.{AreMarkets, IsMarket};

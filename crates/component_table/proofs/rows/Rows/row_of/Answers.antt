@@ -1,4 +1,4 @@
-use Rattle.std.proofs.Common.{◌≡◌, ℕ, [], ◌∷◌, ◌++◌, Some, ap, length, slice_get, subst, sym, ◌∙◌, arith}
+use Rattle.std.proofs.Common.{◌≡◌, ℕ, [], ◌∷◌, ◌++◌, ap, length, slice_get, subst, sym, ◌∙◌, arith}
 use Rattle.component_table.specs.Rows.{AreRows, IsKnownAs, IsRowAt}
 use Rattle.component_table.proofs.RowFacts.{rows_more}
 use Rattle.law_lemmas.proofs.Lists.{got_last}
