@@ -60,19 +60,6 @@ pub record IsList (Is : Entry → Mark → Type 0) (table : List Entry) (list : 
   pub attained : Each (λ x. (e : Entry) × IsIn e table × Is e x.mark × (x.price ≡ e.price)) list
   pub covered : (e : Entry) → IsIn e table → (m : Mark) → Is e m → (x : Listed) × IsIn x list × (x.mark ≡ m) × (x.price ≤ e.price)
 
--- whatever entries a list was of, it is of one more
-abbrev pub ListsOneMore : (Entry → Mark → Type 0) → Entry → List Listed → List Listed → Type 0
-ListsOneMore Is e old new = (table : List Entry) → IsList Is table old → IsList Is (table ++ e ∷ []) new
-
--- the list has the mark of an entry's component that closes a unit, at no higher price
-abbrev pub HasClosing : List Listed → Entry → Type 0
-HasClosing list e = (x : Listed) × IsIn x list × (x.mark ≡ mark_of e None) × (x.price ≤ e.price)
-
--- a mark was added with a price, where there is one
-abbrev pub Marked : Option Mark → ℕ → List Listed → List Listed → Type 0
-Marked None price old new = new ≡ old
-Marked (Some m) price old new = new ≡ old ++ record { mark = m; price = price } ∷ []
-
 -- the lists of a residual: those of its position, and that of its position and each of its open units
 pub record AreLists (q : Request) (r : State) (table : List Entry) (alone opens : List Listed) (of_unit : ℕ → List Listed) : Type 0 where
   pub alone_is : IsList (IsAlone r.at.place q.sale) table alone

@@ -12,6 +12,7 @@ pub mod UnitRanges
 pub mod SameKeys
 pub mod LeftByNumber
 pub mod ListsByNumber
+pub mod ListedSteps
 pub mod RowsByNumber
 pub mod OfferedFacts
 pub mod ServedPaths

@@ -1,5 +1,5 @@
 -- Lists of steps: what they give, and that they stay while numbers grow.
-use Rattle.std.proofs.Common.{◌≡◌, ◌≢◌, ◌⊎◌, ◌∙◌, ℕ, suc, ◌<◌, ◌≤◌, ◌+◌, List, [], ◌∷◌, ◌++◌, length, take, get_or, slice_get, Option, Some, None, refl, sym, ap, subst, inl, inr, arith}
+use Rattle.std.proofs.Common.{◌≡◌, ◌≢◌, ◌⊎◌, ◌∙◌, ℕ, suc, zero, ◌<◌, ◌≤◌, ◌+◌, List, [], ◌∷◌, ◌++◌, length, take, get_or, slice_get, Option, Some, None, refl, sym, ap, subst, inl, inr, arith}
 use Rattle.std.proofs.Math.Seq.{take-suc}
 use Rattle.std.proofs.lemmas.List.{take_all}
 use Rattle.fare_law.specs.declared.requests.Request.{Request}
@@ -12,7 +12,7 @@ use Rattle.outlines.specs.declared.marks.Listed.{Listed}
 use Rattle.outlines.specs.declared.outline.Outcome.{Outcome as Tried}
 use Rattle.outlines.specs.declared.marks.Mark.{Mark}
 use Rattle.outlines.specs.declared.outline.Entry.{Entry}
-use Rattle.outlines.specs.Marks.{IsAlone, IsList, IsOfUnit, IsOpening, ListsAreOutcomes}
+use Rattle.outlines.specs.Marks.{IsAlone, IsList, IsOfUnit, IsOpening, ListsAreOutcomes, mark_of}
 use Rattle.outlines.specs.Outcomes.{AreOutcomes as TriedAre, Grows as Given}
 use Rattle.outlines.proofs.Growing.{grows_like, grows_none, grows_then}
 use Rattle.residual_keys.specs.Kept.{PartKept}
@@ -29,7 +29,7 @@ use Rattle.search_steps.specs.declared.numbered.UnitSteps.{UnitSteps}
 use Rattle.search_steps.specs.declared.tables.PositionTable.{PositionTable}
 use Rattle.search_steps.specs.Giving.{GivenBy, OpenedBy, UnitBy, UnitGiven}
 use Rattle.search_steps.specs.Leads.{leads_of}
-use Rattle.search_steps.specs.Numbers.{AddsAll, AddsOne, ArePositionSteps, AreStepLists, AreSteps, AreStepsOf, AreUnitSteps, IsStep, StepsAt, UnitStandsAt, UnitStepsAt, tried_in, tried_of}
+use Rattle.search_steps.specs.Numbers.{AddsAll, AddsOne, AreBare, ArePositionSteps, AreStepLists, AreSteps, AreStepsOf, AreUnitSteps, IsBare, IsStep, ListsAt, StepsAt, UnitStandsAt, UnitStepsAt, tried_in, tried_of}
 use Rattle.search_steps.specs.Placed.{AddsFour, AddsOfUnit, ArePlaced, MayStand}
 use Rattle.search_steps.specs.Tables.{AsTried, HasTable, IsOwnTable, outcome_tried}
 use Rattle.search_steps.proofs.Given.{four_are, opening_not, unit_not}
@@ -122,6 +122,19 @@ step_stays t u g x s h = record {
 pub steps_stay : (t u : Numbers) → Grows t u → (xs : List Listed) (ss : List Step) → AreSteps t xs ss → AreSteps u xs ss
 steps_stay t u g xs ss h = matched_weaker (IsStep t) (IsStep u) (λ x s k. step_stays t u g x s k) xs ss h
 
+pub bare_stay : (t u : Numbers) → Grows t u → (es : List Entry) (ss : List Step) → AreBare t es ss → AreBare u es ss
+bare_stay t u g es ss h = matched_weaker (IsBare t) (IsBare u) (λ e s k. step_stays t u g (record { mark = mark_of e None; price = e.price }) s k) es ss h
+
+matched_at : {X Y : Type 0} (R : X → Y → Type 0) (xs : List X) (ys : List Y) (n : ℕ) (x : X) (y : Y) → Matched R xs ys → n < length xs → R (get_or xs n x) (get_or ys n y)
+matched_at R [] ys n x y h lt = absurd (omega (arith, lt))
+matched_at R (z ∷ zs) [] n x y h lt = absurd h
+matched_at R (z ∷ zs) (w ∷ ws) zero x y h lt = h.0
+matched_at R (z ∷ zs) (w ∷ ws) (suc n) x y h lt = matched_at R zs ws n x y h.1 (omega (arith, lt))
+
+-- what stands at one place of both
+pub bare_at : (t : Numbers) (es : List Entry) (ss : List Step) (n : ℕ) (e d : Entry) (s : Step) → n < length es → e ≡ get_or es n d → AreBare t es ss → IsBare t e (get_or ss n s)
+bare_at t es ss n e d s lt is h = subst (λ z. IsBare t z (get_or ss n s)) (sym is) (matched_at (IsBare t) es ss n d s h lt)
+
 -- they go on to be a list of these marks
 pub marks_stay : (t u : Numbers) (Is : Entry → Mark → Type 0) (table : List Entry) (ss : List Step) → Grows t u → AreStepsOf t Is table ss → AreStepsOf u Is table ss
 marks_stay t u Is table ss g h = record { list = h.list; is = h.is; steps = steps_stay t u g h.list ss h.steps }
@@ -139,6 +152,7 @@ position_stays q t u ts us g keeps s h = record {
   at = g.positions s.position h.table.at h.at;
   alone = marks_stay t u (IsAlone h.table.at.place q.sale) h.table.entries s.alone.items g h.alone;
   opening = marks_stay t u (IsOpening h.table.at.place q.sale) h.table.entries s.opening.items g h.opening;
+  bare = bare_stay t u g h.table.entries s.bare.items h.bare;
 }
 
 pub unit_stays : (q : Request) (t u : Numbers) (ts us : List PositionTable) → Grows t u → KeepsNumbers ts us → (s : UnitSteps) → AreUnitSteps q t ts s → AreUnitSteps q u us s
@@ -234,15 +248,15 @@ module _ (b : Book) (q : Request) (ts : List PositionTable) (l : StepLists) (k :
   pub live_by_number : LeadToLive (IsLive l.numbers) found
   live_by_number = four_by_number.1
 
--- one more step of a list
-pub steps_next : (t u : Numbers) (xs : List Listed) (i : ℕ) (d : Listed) (ss ss' : List Step) (s : Step) → Grows t u → i < length xs → AreSteps t (take i xs) ss → IsStep u (get_or xs i d) s → ss' ≡ ss ++ s ∷ [] → AreSteps u (take (i + 1) xs) ss'
-steps_next t u xs i d ss ss' s g lt h k e =
+-- one more step without a unit
+pub bare_next : (t u : Numbers) (es : List Entry) (i : ℕ) (d : Entry) (ss ss' : List Step) (s : Step) → Grows t u → i < length es → AreBare t (take i es) ss → IsBare u (get_or es i d) s → ss' ≡ ss ++ s ∷ [] → AreBare u (take (i + 1) es) ss'
+bare_next t u es i d ss ss' s g lt h k e =
     let next : i + 1 ≡ suc i = omega arith in
-    let front : take (i + 1) xs ≡ take i xs ++ get_or xs i d ∷ [] = ap (λ (n : ℕ). take n xs) next ∙ take-suc xs i d lt in
-    subst (λ ys. AreSteps u ys ss') (sym front) (subst (AreSteps u (take i xs ++ get_or xs i d ∷ [])) (sym e) (matched_more (IsStep u) (take i xs) ss (get_or xs i d) s (steps_stay t u g (take i xs) ss h) k))
+    let front : take (i + 1) es ≡ take i es ++ get_or es i d ∷ [] = ap (λ (n : ℕ). take n es) next ∙ take-suc es i d lt in
+    subst (λ ys. AreBare u ys ss') (sym front) (subst (AreBare u (take i es ++ get_or es i d ∷ [])) (sym e) (matched_more (IsBare u) (take i es) ss (get_or es i d) s (bare_stay t u g (take i es) ss h) k))
 
-pub steps_whole : (t : Numbers) (xs : List Listed) (i : ℕ) (ss : List Step) → length xs ≤ i → AreSteps t (take i xs) ss → AreSteps t xs ss
-steps_whole t xs i ss h are = subst (λ ys. AreSteps t ys ss) (take_all i xs h) are
+pub bare_whole : (t : Numbers) (es : List Entry) (i : ℕ) (ss : List Step) → length es ≤ i → AreBare t (take i es) ss → AreBare t es ss
+bare_whole t es i ss h are = subst (λ ys. AreBare t ys ss) (take_all i es h) are
 
 -- the lists of all, where numbers and tables grew
 pub lists_stay : (q : Request) (ts us : List PositionTable) (u : Numbers) (l m : StepLists) → Grows l.numbers u → KeepsNumbers ts us → m.numbers ≡ u → m.positions.items ≡ l.positions.items → m.units.items ≡ l.units.items → AreStepLists q ts l → AreStepLists q us m
@@ -300,6 +314,18 @@ has_table_of q ts l position at s h found is =
     let same : s ≡ found.steps = is ∙ got_is l.positions.items at s found.steps found.stands in
     let a = each_got (ArePositionSteps q l.numbers ts) l.positions.items at found.steps h.positions found.stands in
     (a.table, ap (λ (z : PositionSteps). slice_get ts z.place) same ∙ a.stands)
+
+-- and that it is of them
+pub lists_at : (l : List PositionSteps) (position at : ℕ) (s : PositionSteps) → StepsAt l position at → s ≡ get_or l at s → ListsAt l at s.place
+lists_at l position at s found is = (s, found.stands ∙ ap Some (sym (is ∙ got_is l at s found.steps found.stands)), refl)
+
+-- what the entries of a table are without a unit
+pub bare_of_table : (q : Request) (ts : List PositionTable) (l : StepLists) (at place : ℕ) (s : PositionSteps) → AreStepLists q ts l → ListsAt l.positions.items at place → s ≡ get_or l.positions.items at s → (t : PositionTable) → slice_get ts place ≡ Some t → AreBare l.numbers t.entries s.bare.items
+bare_of_table q ts l at place s h found is t there =
+    let same : s ≡ found.0 = is ∙ got_is l.positions.items at s found.0 found.1 in
+    let a = each_got (ArePositionSteps q l.numbers ts) l.positions.items at found.0 h.positions found.1 in
+    let table : a.table ≡ t = some_one (slice_get ts place) a.table t (ap (slice_get ts) (sym found.2) ∙ a.stands) there in
+    subst (λ (z : PositionSteps). AreBare l.numbers t.entries z.bare.items) (sym same) (subst (λ (z : PositionTable). AreBare l.numbers z.entries found.0.bare.items) table a.bare)
 
 -- the slots of a live key
 pub live_slots : (t u : Numbers) (k : ResidualKey) → Grows t u → IsLive t k → HasSlot u.units k.first × HasSlot u.units k.second

@@ -1,5 +1,5 @@
 -- Steps without what another of the list makes idle are a list of the same marks.
-use Rattle.std.proofs.Common.{◌≡◌, ◌⊎◌, ◌∙◌, ℕ, ℤ, zero, suc, ◌+◌, ◌≤◌, ◌<◌, List, [], ◌∷◌, ◌++◌, length, take, get_or, slice_get, slice_set, Option, Some, None, refl, sym, ap, subst, inl, inr, arith}
+use Rattle.std.proofs.Common.{◌≡◌, ◌⊎◌, ◌∙◌, ℕ, zero, suc, ◌+◌, ◌≤◌, ◌<◌, List, [], ◌∷◌, ◌++◌, length, take, get_or, slice_get, slice_set, Option, Some, None, refl, sym, ap, subst, inl, inr, arith}
 use Rattle.std.proofs.Math.Seq.{take-suc}
 use Rattle.fare_law.specs.Lists.{Each, IsIn}
 use Rattle.outlines.specs.declared.marks.Listed.{Listed}
@@ -143,7 +143,7 @@ slot_one xs m n (Some x) (Some y) e h k =
     let same : h.0 ≡ k.0 = omega (arith, e, p, q) in
     ap Some (some_one (slice_get xs k.0) x y (ap (slice_get xs) (sym same) ∙ h.2) k.2)
 
-mark_one : (t : Numbers) (x y : Listed) (s u : Step) → IsStep t x s → IsStep t y u → HaveOneMark u s → y.mark ≡ x.mark
+pub mark_one : (t : Numbers) (x y : Listed) (s u : Step) → IsStep t x s → IsStep t y u → HaveOneMark u s → y.mark ≡ x.mark
 mark_one t x y s u h k e =
     let after : y.mark.after ≡ x.mark.after = slot_one t.positions u.after s.after y.mark.after x.mark.after e.after k.after h.after in
     let unit : y.mark.unit ≡ x.mark.unit = slot_one t.units u.unit s.unit y.mark.unit x.mark.unit e.unit k.unit h.unit in
@@ -198,7 +198,3 @@ list_of_steps t Is table xs ss has h = record {
   where
     Attained : Listed → Type 0
     Attained x = (e : Entry) × IsIn e table × Is e x.mark × (x.price ≡ e.price)
-
--- a list as a call asks for it
-pub told : (Is : ℤ → Entry → Mark → Type 0) (sale day : ℤ) (table entries : List Entry) (list : List Listed) → sale ≡ day → table ≡ entries → IsList (Is sale) table list → IsList (Is day) entries list
-told Is sale day table entries list e f h = subst (λ es. IsList (Is day) es list) f (subst (λ d. IsList (Is d) table list) e h)

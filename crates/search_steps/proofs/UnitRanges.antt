@@ -1,27 +1,22 @@
 -- What opens a unit of a list, or goes on in one, leaves the unit in its ranges.
-use Rattle.std.proofs.Common.{◌≡◌, ℤ, pos, List, IfSome, refl, sym, subst, inl, inr, arith}
+use Rattle.std.proofs.Common.{ℤ, pos, refl, arith}
 use Rattle.std.proofs.lemmas.Nat.{and_le_l}
 use Rattle.fare_law.specs.declared.names.Place.{Place}
 use Rattle.fare_law.specs.declared.tickets.Piece.{Piece}
 use Rattle.fare_law.specs.Days.{IsCalendarDay}
-use Rattle.fare_law.specs.Lists.{Each, IsIn}
 use Rattle.open_unit.specs.declared.units.OpenUnit.{OpenUnit}
 use Rattle.open_unit.specs.OpenUnits.{MayGoOn, demand_so_far, gone_on, opened}
 use Rattle.open_unit.specs.Ranges.{PieceInRanges, UnitInRanges}
 use Rattle.open_unit.proofs.RoleLemmas.{gone_on_in_ranges}
-use Rattle.outlines.specs.declared.marks.Listed.{Listed}
-use Rattle.outlines.specs.declared.marks.Mark.{Mark}
 use Rattle.outlines.specs.declared.outline.Entry.{Entry}
-use Rattle.outlines.specs.Marks.{IsAlone, IsList, IsOfUnit, IsOpening, written}
+use Rattle.outlines.specs.Marks.{written}
 use Rattle.outlines.specs.Outcomes.{EntryWithin}
 use Rattle.rule_unit.specs.Demands.{demand_of, kinds_of}
 use Rattle.rule_unit.specs.Ranges.{DemandInRange, IsDayWithin}
 use Rattle.rule_unit.proofs.RangeLemmas.{fields_within, met_within, rule_stays}
-use Rattle.search_steps.specs.Tables.{UnitsKept}
-use Rattle.law_lemmas.proofs.EachOne.{each_member, each_weaker}
 use Rattle.residual_keys.proofs.NamesKept.{day_within}
 
-piece_within : (begin : Place) (sale : ℤ) (e : Entry) → IsCalendarDay sale → EntryWithin e → PieceInRanges (written begin sale e)
+pub piece_within : (begin : Place) (sale : ℤ) (e : Entry) → IsCalendarDay sale → EntryWithin e → PieceInRanges (written begin sale e)
 piece_within begin sale e s h = record { first_day = h.first; last_day = h.last; sale = day_within sale s; rule = rule_stays e.rule h.rule }
 
 demand_within : (p : Piece) (day : ℤ) → PieceInRanges p → IsDayWithin (pos 99000) day → DemandInRange (demand_of p.rule day)
@@ -45,24 +40,3 @@ gone_on_within : (u : OpenUnit) (p : Piece) → UnitInRanges u → PieceInRanges
 gone_on_within u p h k may =
     let so_far : DemandInRange (demand_so_far u) = record { least = h.least; greatest = h.greatest; by = h.by; kinds = h.kinds; partner = h.partner } in
     gone_on_in_ranges u p _ (record { demand = refl; carrier = refl; rule = refl }) h (met_within (demand_so_far u) (demand_of p.rule u.first_day) so_far (demand_within p u.first_day k h.first)) may.count
-
-module _ (begin : Place) (sale : ℤ) (s : IsCalendarDay sale) (table : List Entry) (within : Each EntryWithin table) where
-  piece_of_in : (e : Entry) → IsIn e table → PieceInRanges (written begin sale e)
-  piece_of_in e i = piece_within begin sale e s (each_member EntryWithin e table within i)
-
-  pub opening_kept : (list : List Listed) → IsList (IsOpening begin sale) table list → UnitsKept list
-  opening_kept list h =
-      each_weaker (λ x. (e : Entry) × IsIn e table × IsOpening begin sale e x.mark × (x.price ≡ e.price)) (λ x. IfSome x.mark.unit UnitInRanges)
-      (λ x a. subst (λ (m : Mark). IfSome m.unit UnitInRanges) (sym a.2.1) (opened_within (written begin sale a.0) (piece_of_in a.0 a.1))) list h.attained
-
-  pub alone_kept : (list : List Listed) → IsList (IsAlone begin sale) table list → UnitsKept list
-  alone_kept list h =
-      each_weaker (λ x. (e : Entry) × IsIn e table × IsAlone begin sale e x.mark × (x.price ≡ e.price)) (λ x. IfSome x.mark.unit UnitInRanges) (λ x a. subst (λ (m : Mark). IfSome m.unit UnitInRanges) (sym a.2.1) tt) list h.attained
-
-  of_unit : (u : OpenUnit) → UnitInRanges u → (e : Entry) → IsIn e table → (m : Mark) → IsOfUnit begin sale u e m → IfSome m.unit UnitInRanges
-  of_unit u h e i m (inl a) = subst (λ (m : Mark). IfSome m.unit UnitInRanges) (sym a.1) (gone_on_within u (written begin sale e) h (piece_of_in e i) a.0.1)
-  of_unit u h e i m (inr c) = subst (λ (m : Mark). IfSome m.unit UnitInRanges) (sym c.1) tt
-
-  pub unit_kept : (u : OpenUnit) → UnitInRanges u → (list : List Listed) → IsList (IsOfUnit begin sale u) table list → UnitsKept list
-  unit_kept u k list h =
-      each_weaker (λ x. (e : Entry) × IsIn e table × IsOfUnit begin sale u e x.mark × (x.price ≡ e.price)) (λ x. IfSome x.mark.unit UnitInRanges) (λ x a. of_unit u k a.0 a.1 x.mark a.2) list h.attained

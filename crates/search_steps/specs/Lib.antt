@@ -7,6 +7,7 @@ pub mod Within
 pub mod Giving
 pub mod Shortening
 pub mod Numbers
+pub mod Listing
 pub mod Placed
 pub mod Settling
 pub mod Spreading

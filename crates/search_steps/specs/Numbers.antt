@@ -12,7 +12,7 @@ use Rattle.outlines.specs.declared.marks.Listed.{Listed}
 use Rattle.outlines.specs.declared.outline.Outcome.{Outcome as Tried}
 use Rattle.outlines.specs.declared.marks.Mark.{Mark}
 use Rattle.outlines.specs.declared.outline.Entry.{Entry}
-use Rattle.outlines.specs.Marks.{IsAlone, IsList, IsOfUnit, IsOpening}
+use Rattle.outlines.specs.Marks.{IsAlone, IsList, IsOfUnit, IsOpening, mark_of}
 use Rattle.outlines.specs.Outcomes.{Grows as Given}
 use Rattle.residual_keys.specs.declared.parts.TicketPart.{TicketPart}
 use Rattle.residual_keys.specs.declared.residual.Next.{Next}
@@ -37,6 +37,14 @@ pub record IsStep (t : Numbers) (x : Listed) (s : Step) : Type 0 where
 
 abbrev pub AreSteps : Numbers → List Listed → List Step → Type 0
 AreSteps t xs steps = Matched (IsStep t) xs steps
+
+-- the step is the mark of an entry that leaves no unit open, with its price, by numbers
+abbrev pub IsBare : Numbers → Entry → Step → Type 0
+IsBare t e s = IsStep t (record { mark = mark_of e None; price = e.price }) s
+
+-- the steps are these marks, one for each entry
+abbrev pub AreBare : Numbers → List Entry → List Step → Type 0
+AreBare t es ss = Matched (IsBare t) es ss
 
 -- The steps are a list of these marks of a table's entries, by numbers.
 pub record AreStepsOf (t : Numbers) (Is : Entry → Mark → Type 0) (table : List Entry) (ss : List Step) : Type 0 where
@@ -89,13 +97,14 @@ AddsOne P k s old new = (t : Numbers) (r : State) (x : Listed) → StandsFor t k
 abbrev pub AddsAll : (State → Listed → Tried → Type 0) → ResidualKey → List Step → List (Outcome ResidualKey) → List (Outcome ResidualKey) → Type 0
 AddsAll P k steps old new = (t : Numbers) (r : State) (xs : List Listed) → StandsFor t k r → AreSteps t xs steps → Adds t (GivenBy (P r) xs) old new
 
--- These are the lists of the table that stands at its place, where its components stand alone and where they open a unit, by numbers.
+-- These are the lists of the table that stands at its place, where its components stand alone and where they open a unit, and what they are without a unit, by numbers.
 pub record ArePositionSteps (q : Request) (t : Numbers) (ts : List PositionTable) (s : PositionSteps) : Type 0 where
   pub table : PositionTable
   pub stands : slice_get ts s.place ≡ Some table
   pub at : slice_get t.positions s.position ≡ Some table.at
   pub alone : AreStepsOf t (IsAlone table.at.place q.sale) table.entries s.alone.items
   pub opening : AreStepsOf t (IsOpening table.at.place q.sale) table.entries s.opening.items
+  pub bare : AreBare t table.entries s.bare.items
 
 -- This is the list of an open unit, from the table that stands at its place, by numbers.
 pub record AreUnitSteps (q : Request) (t : Numbers) (ts : List PositionTable) (s : UnitSteps) : Type 0 where
@@ -115,6 +124,10 @@ pub record StepsAt (ss : List PositionSteps) (position n : ℕ) : Type 0 where
   pub steps : PositionSteps
   pub stands : slice_get ss n ≡ Some steps
   pub of_position : steps.position ≡ position
+
+-- the lists of a position whose table stands at a place stand at this place
+abbrev pub ListsAt : List PositionSteps → ℕ → ℕ → Type 0
+ListsAt ss n place = (s : PositionSteps) × (slice_get ss n ≡ Some s) × (s.place ≡ place)
 
 -- The list of an open unit, from the table at a place, stands at this place.
 pub record UnitStandsAt (us : List UnitSteps) (place slot n : ℕ) : Type 0 where

@@ -1,5 +1,5 @@
 -- The tables of positions, and the lists that are made of them.
-use Rattle.std.specs.Prelude.{◌≡◌, ℕ, List, map, slice_get, Some, IfSome}
+use Rattle.std.specs.Prelude.{◌≡◌, ℕ, List, map, slice_get, Some}
 use Rattle.component_table.specs.Networks.{IsNetwork}
 use Rattle.component_table.specs.Tables.{IsTable}
 use Rattle.fare_law.specs.declared.requests.Request.{Request}
@@ -7,17 +7,11 @@ use Rattle.fare_law.specs.Book.{Book}
 use Rattle.fare_law.specs.Lists.{Each}
 use Rattle.flight_paths.specs.declared.positions.Position.{Position}
 use Rattle.graph_walk.specs.declared.outcome.Outcome.{Outcome}
-use Rattle.open_unit.specs.Ranges.{UnitInRanges}
-use Rattle.outlines.specs.declared.marks.Listed.{Listed}
 use Rattle.outlines.specs.declared.outline.Outcome.{Outcome as Tried}
 use Rattle.residual_keys.specs.Residuals.{State}
 use Rattle.search_steps.specs.declared.tables.PositionTable.{PositionTable}
 use Rattle.search_steps.specs.declared.tables.Tables.{Tables}
 use Rattle.search_steps.specs.Leads.{state_of}
-
--- the units that marks leave open are in their ranges
-abbrev pub UnitsKept : List Listed → Type 0
-UnitsKept xs = Each (λ x. IfSome x.mark.unit UnitInRanges) xs
 
 -- it is the table of its position
 abbrev pub IsOwnTable : Book → Request → PositionTable → Type 0

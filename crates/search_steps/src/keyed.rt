@@ -72,9 +72,9 @@ fn placed_of(
     let steps = &lists.positions[at];
     let place = steps.place;
     let slot = key.first;
-    let first = lists.find_unit(alloc, case, tables, UnitSlot { place, slot })?;
+    let first = lists.find_unit(alloc, case, tables, at, UnitSlot { place, slot })?;
     let slot = key.second;
-    let second = lists.find_unit(alloc, case, tables, UnitSlot { place, slot })?;
+    let second = lists.find_unit(alloc, case, tables, at, UnitSlot { place, slot })?;
     Ok(Placed { at, first, second })
 }
 

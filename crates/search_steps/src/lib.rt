@@ -12,6 +12,7 @@ mod keying;
 mod laws;
 mod least;
 mod leaving;
+mod listing;
 mod nearest;
 mod numbered;
 mod numbered_case;

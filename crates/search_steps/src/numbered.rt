@@ -28,6 +28,8 @@ pub struct PositionSteps {
     pub place: usize,
     pub alone: Vec<Step>,
     pub opening: Vec<Step>,
+    /// For each entry of the table its mark where it leaves no unit open.
+    pub bare: Vec<Step>,
 }
 
 /// What they are where they go on in an open unit or close it.

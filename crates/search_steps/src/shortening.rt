@@ -64,7 +64,7 @@ fn lower(kept: &mut [Step], place: usize, step: &Step)
 }
 
 /// Whether the steps have one mark.
-fn have_one_mark(one: &Step, other: &Step) -> bool
+pub fn have_one_mark(one: &Step, other: &Step) -> bool
     ensures { IsTrue result ↔ HaveOneMark one.now other.now }
 {
     one.after == other.after

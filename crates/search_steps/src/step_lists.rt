@@ -1,19 +1,18 @@
 //! The lists of positions and of open units by numbers, each made once.
-ghost use Rattle.std.specs.Prelude.{◌≡◌, ◌≢◌, ◌<◌, IfOk, IfSome, Some, length};
+ghost use Rattle.std.specs.Prelude.{◌≡◌, ◌≢◌, ◌<◌, IfOk, IfSome, Some, length, slice_get};
 ghost use Rattle.fare_law.specs.Limits.{IsRequest};
-ghost use Rattle.open_unit.specs.Ranges.{UnitInRanges};
-ghost use Rattle.residual_table.specs.Keys.{Grows, HasSlot, IsSlot, KeepsNumbers};
-ghost use Rattle.search_steps.specs.Numbers.{ArePositionSteps, AreStepLists, AreUnitSteps, StepsAt, UnitStandsAt, UnitStepsAt};
+ghost use Rattle.residual_table.specs.Keys.{Grows, HasSlot, KeepsNumbers};
+ghost use Rattle.search_steps.specs.declared.tables.PositionTable.{PositionTable as Table};
+ghost use Rattle.search_steps.specs.Numbers.{AreBare, ArePositionSteps, AreStepLists, AreUnitSteps, ListsAt, StepsAt, UnitStandsAt, UnitStepsAt};
 ghost use Rattle.search_steps.specs.Tables.{AreTables, HasTable};
 
 use crate::Case;
-use crate::numbered::{PositionSteps, StepLists, UnitSlot, UnitSteps};
-use crate::stepping::steps_of;
-use crate::tables::Tables;
+use crate::listing::{Doing, Listing, steps_of};
+use crate::numbered::{PositionSteps, Step, StepLists, UnitSlot, UnitSteps};
+use crate::stepping::bare_steps;
+use crate::tables::{PositionTable, Tables};
 use crate::unit_spots::{add_place, find_unit_steps, unit_at};
 use fare_law::Mem;
-use open_unit::OpenUnit;
-use outlines::{alone_list, opening_list, unit_list};
 use residual_table::ResidualParts;
 use std::alloc::Global;
 
@@ -53,8 +52,10 @@ impl StepLists {
         alloc: Global,
         case: &Case,
         tables: &Tables,
+        at: usize,
         key: UnitSlot,
     ) -> Result<Option<usize>, Mem>
+        requires lists { ListsAt self.old.positions.items at key.place }
         requires request { IsRequest case.now.request.now }
         requires slot { HasSlot self.old.numbers.units key.slot }
         requires place { HasTable tables.now.kept.items key.place }
@@ -71,11 +72,11 @@ impl StepLists {
         }
         let spot = self.unit_places.near_spot(key.slot, key.place);
         let guess = self.unit_places.get(spot);
-        if let Some(at) = unit_at(self.units.as_slice(), guess, &key) {
-            return Ok(Some(at));
+        if let Some(found) = unit_at(self.units.as_slice(), guess, &key) {
+            return Ok(Some(found));
         }
-        let at = self.find_elsewhere(alloc, case, tables, key)?;
-        Ok(Some(at))
+        let found = self.find_elsewhere(alloc, case, tables, at, key)?;
+        Ok(Some(found))
     }
 
     /// Where the list of an open unit stands, which isn't at the first spot of its key. It is made where it isn't known.
@@ -86,8 +87,10 @@ impl StepLists {
         alloc: Global,
         case: &Case,
         tables: &Tables,
+        at: usize,
         key: UnitSlot,
     ) -> Result<usize, Mem>
+        requires lists { ListsAt self.old.positions.items at key.place }
         requires request { IsRequest case.now.request.now }
         requires slot { HasSlot self.old.numbers.units key.slot }
         requires is_open { key.slot ≢ 0 }
@@ -101,14 +104,14 @@ impl StepLists {
         ensures found { IfOk result (UnitStandsAt self.new.units.items key.place key.slot) }
     {
         let known = find_unit_steps(self.units.as_slice(), &self.unit_places, &key);
-        if let Some(at) = known {
-            return Ok(at);
+        if let Some(found) = known {
+            return Ok(found);
         }
-        let steps = self.made_unit(alloc, case, tables, key)?;
-        let at = self.units.len();
+        let steps = self.made_unit(alloc, case, tables, at, key)?;
+        let end = self.units.len();
         add_place(alloc, &mut self.unit_places, self.units.as_slice(), &key)?;
         self.units.push(steps)?;
-        Ok(at)
+        Ok(end)
     }
 
     /// The lists of a position, which stand nowhere yet.
@@ -138,8 +141,10 @@ impl StepLists {
         alloc: Global,
         case: &Case,
         tables: &Tables,
+        at: usize,
         key: UnitSlot,
     ) -> Result<UnitSteps, Mem>
+        requires lists { ListsAt self.old.positions.items at key.place }
         requires request { IsRequest case.now.request.now }
         requires slot { HasSlot self.old.numbers.units key.slot }
         requires is_open { key.slot ≢ 0 }
@@ -154,7 +159,8 @@ impl StepLists {
         ensures place { IfOk result (λ s. s.place ≡ key.place) }
         ensures slot { IfOk result (λ s. s.slot ≡ key.slot) }
     {
-        unit_steps(alloc, case, tables, &mut self.numbers, key)
+        let bare = self.positions[at].bare.as_slice();
+        unit_steps(alloc, case, tables, &mut self.numbers, bare, key)
     }
 }
 
@@ -178,18 +184,30 @@ fn position_steps(
     let at = numbers.position_at(position);
     let place = tables.find(alloc, case, &at)?;
     let table = &tables.kept[place];
-    let begin = table.at.place;
-    let sale = case.request.sale;
-    let alone = alone_list(alloc, begin, sale, table.entries.as_slice())?;
-    let alone = steps_of(alloc, numbers, alone.as_slice())?;
-    let opening = opening_list(alloc, begin, sale, table.entries.as_slice())?;
-    let opening = steps_of(alloc, numbers, opening.as_slice())?;
+    let entries = table.entries.as_slice();
+    let bare = bare_steps(alloc, numbers, entries)?;
+    let alone = listing(case, table, Doing::Alone);
+    let alone = steps_of(alloc, numbers, &alone, entries, bare.as_slice())?;
+    let opening = listing(case, table, Doing::Opening);
+    let opening = steps_of(alloc, numbers, &opening, entries, bare.as_slice())?;
     Ok(PositionSteps {
         position,
         place,
         alone,
         opening,
+        bare,
     })
+}
+
+/// A list of what the components of a table do.
+fn listing(case: &Case, table: &PositionTable, doing: Doing) -> Listing
+    ensures { result ≡ record { doing = doing; begin = table.now.at.place; sale = case.now.request.now.sale } }
+{
+    Listing {
+        doing,
+        begin: table.at.place,
+        sale: case.request.sale,
+    }
 }
 
 /// The list of an open unit by numbers.
@@ -198,6 +216,7 @@ fn unit_steps(
     case: &Case,
     tables: &Tables,
     numbers: &mut ResidualParts,
+    bare: &[Step],
     key: UnitSlot,
 ) -> Result<UnitSteps, Mem>
     requires request { IsRequest case.now.request.now }
@@ -205,51 +224,26 @@ fn unit_steps(
     requires is_open { key.slot ≢ 0 }
     requires place { HasTable tables.now.kept.items key.place }
     requires tables { AreTables case.now.book.now case.now.request.now tables.now }
+    requires bare { (t : Table) → slice_get tables.now.kept.items key.place ≡ Some t → AreBare numbers.old t.entries bare.now }
     ensures grows { Grows numbers.old numbers.new }
     ensures steps { IfOk result (AreUnitSteps case.now.request.now numbers.new tables.now.kept.items) }
     ensures place { IfOk result (λ s. s.place ≡ key.place) }
     ensures slot { IfOk result (λ s. s.slot ≡ key.slot) }
 {
     match numbers.unit_in(key.slot) {
-        Some(unit) => steps_of_unit(alloc, case, tables, numbers, key, &unit),
+        Some(unit) => {
+            let table = &tables.kept[key.place];
+            let listing = listing(case, table, Doing::Joining(unit));
+            let entries = table.entries.as_slice();
+            let steps = steps_of(alloc, numbers, &listing, entries, bare)?;
+            Ok(UnitSteps {
+                place: key.place,
+                slot: key.slot,
+                steps,
+            })
+        }
         None => unreachable!(),
     }
-}
-
-/// The list of this open unit by numbers.
-fn steps_of_unit(
-    alloc: Global,
-    case: &Case,
-    tables: &Tables,
-    numbers: &mut ResidualParts,
-    key: UnitSlot,
-    unit: &OpenUnit,
-) -> Result<UnitSteps, Mem>
-    requires request { IsRequest case.now.request.now }
-    requires slot { IsSlot numbers.old.units key.slot (Some unit.now) }
-    requires unit { UnitInRanges unit.now }
-    requires place { HasTable tables.now.kept.items key.place }
-    requires tables { AreTables case.now.book.now case.now.request.now tables.now }
-    ensures grows { Grows numbers.old numbers.new }
-    ensures steps { IfOk result (AreUnitSteps case.now.request.now numbers.new tables.now.kept.items) }
-    ensures place { IfOk result (λ s. s.place ≡ key.place) }
-    ensures slot { IfOk result (λ s. s.slot ≡ key.slot) }
-{
-    let table = &tables.kept[key.place];
-    let begin = table.at.place;
-    let list = unit_list(
-        alloc,
-        begin,
-        case.request.sale,
-        unit,
-        table.entries.as_slice(),
-    )?;
-    let steps = steps_of(alloc, numbers, list.as_slice())?;
-    Ok(UnitSteps {
-        place: key.place,
-        slot: key.slot,
-        steps,
-    })
 }
 
 /// The place, if the lists of the position stand there.

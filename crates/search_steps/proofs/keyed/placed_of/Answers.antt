@@ -1,9 +1,18 @@
-use Rattle.std.proofs.Common.{refl}
-use Rattle.search_steps.proofs.ListsByNumber.{grows_on, has_table_of, live_position, live_slots, placed_are}
+use Rattle.std.proofs.Common.{refl, subst, sym}
+use Rattle.search_steps.proofs.ListsByNumber.{grows_on, has_table_of, lists_at, live_position, live_slots, placed_are}
+use Rattle.search_steps.specs.Numbers.{ListsAt}
 use Rattle.search_steps.proofs.keyed.placed_of.Goals as goal
 
 pub find-requires-clause-number : goal.find-requires-clause-number
 find-requires-clause-number c = live_position c.args.lists.now.numbers c.args.key c.requires.live
+
+pub find_unit-requires-clause-lists : goal.find_unit-requires-clause-lists
+find_unit-requires-clause-lists c = lists_at c.find.new.self.positions.items c.args.key.position c.in_ok-at.at c.index-steps.result.now c.in_ok-at.ensures.found c.index-steps.ensures
+
+pub find_unit-requires-2-clause-lists : goal.find_unit-requires-2-clause-lists
+find_unit-requires-2-clause-lists c =
+    let s = c.index-steps.result.now in
+    subst (λ ps. ListsAt ps c.in_ok-at.at s.place) (sym c.find_unit.ensures.positions) (lists_at c.find.new.self.positions.items c.args.key.position c.in_ok-at.at s c.in_ok-at.ensures.found c.index-steps.ensures)
 
 pub find_unit-requires-clause-slot : goal.find_unit-requires-clause-slot
 find_unit-requires-clause-slot c = (live_slots c.args.lists.now.numbers c.find.new.self.numbers c.args.key c.find.ensures.grows c.requires.live).0

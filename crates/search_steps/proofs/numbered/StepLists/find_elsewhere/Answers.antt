@@ -15,4 +15,4 @@ returns-clause-stays c =
 
 pub returns-clause-found : goal.returns-clause-found
 returns-clause-found c =
-    unit_steps_last c.made_unit.new.self.units.items c.push.new.self.items c.in_ok-steps.steps c.args.key.place c.args.key.slot c.len-at.result c.in_ok-push.ensures.items (omega (arith, c.len-at.ensures)) c.in_ok-steps.ensures.place c.in_ok-steps.ensures.slot c.requires.is_open
+    unit_steps_last c.made_unit.new.self.units.items c.push.new.self.items c.in_ok-steps.steps c.args.key.place c.args.key.slot c.len-end.result c.in_ok-push.ensures.items (omega (arith, c.len-end.ensures)) c.in_ok-steps.ensures.place c.in_ok-steps.ensures.slot c.requires.is_open
