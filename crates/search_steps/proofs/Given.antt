@@ -8,6 +8,8 @@ use Rattle.flight_paths.specs.declared.positions.Position.{Position}
 use Rattle.component_table.specs.Tables.{IsTable}
 use Rattle.open_unit.specs.declared.units.OpenUnit.{OpenUnit}
 use Rattle.outlines.specs.declared.marks.Listed.{Listed}
+use Rattle.outlines.specs.declared.marks.Mark.{Mark}
+use Rattle.outlines.specs.declared.outline.Entry.{Entry}
 use Rattle.outlines.specs.declared.outline.Outcome.{Outcome as Tried}
 use Rattle.outlines.specs.Marks.{GivenByUnit, IsAlone, IsGiven, IsList, IsOfUnit, IsOpening, ListsAreOutcomes, MarkLeaves, part_by, units_by}
 use Rattle.outlines.specs.Outcomes.{AreOutcomes, Grows}
@@ -197,3 +199,22 @@ four_are b q r ts place t alone opening f1 f2 f3 f4 law few stands at table alon
 
     there : ListedAt b q r.at t alone opening
     there = subst (λ (a : Position). ListedAt b q a t alone opening) at (record { table = table; alone_is = alone_is; opening_is = opening_is })
+
+-- a table without entries gives nothing
+none_listed : (Is : Entry → Mark → Type 0) (entries : List Entry) → entries ≡ [] → IsList Is entries []
+none_listed Is entries empty = record { attained = tt; covered = λ e i m k. absurd (subst (IsIn e) empty i) }
+
+pub none_are : (b : Book) (q : Request) (r : State) (entries : List Entry) → ListsAreOutcomes b q r → IsTable b q r.at entries → entries ≡ [] → AreOutcomes b q r []
+none_are b q r entries law table empty =
+    law entries [] [] (λ slot. []) [] table.rules table.tabled
+    (record {
+      alone_is = none_listed (IsAlone r.at.place q.sale) entries empty;
+      opens_is = none_listed (IsOpening r.at.place q.sale) entries empty;
+      units_are = λ slot u e. none_listed (IsOfUnit r.at.place q.sale u) entries empty;
+    })
+    (λ o. (λ i. absurd i, λ g. none_given o g))
+  where
+    none_given : (o : Tried) → IsGiven r [] [] (λ slot. []) o → ⊥
+    none_given o (inl a) = absurd a.within
+    none_given o (inr (inl b)) = absurd b.within
+    none_given o (inr (inr c)) = absurd c.within

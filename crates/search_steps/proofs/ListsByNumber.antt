@@ -1,7 +1,9 @@
 -- Lists of steps: what they give, and that they stay while numbers grow.
-use Rattle.std.proofs.Common.{◌≡◌, ◌≢◌, ◌⊎◌, ◌∙◌, ℕ, suc, zero, ◌<◌, ◌≤◌, ◌+◌, List, [], ◌∷◌, ◌++◌, length, take, get_or, slice_get, Option, Some, None, refl, sym, ap, subst, inl, inr, arith}
+use Rattle.std.proofs.Common.{◌≡◌, ◌≢◌, ◌⊎◌, ◌∙◌, ℕ, suc, zero, ◌<◌, ◌≤◌, ◌+◌, eqb, true, List, [], ◌∷◌, ◌++◌, length, take, get_or, slice_get, Option, Some, None, refl, sym, ap, subst, inl, inr, arith}
 use Rattle.std.proofs.Math.Seq.{take-suc}
+use borrow.Author.Tests.{eqb-true}
 use Rattle.std.proofs.lemmas.List.{take_all}
+use Rattle.component_table.specs.Tables.{IsTable}
 use Rattle.fare_law.specs.declared.requests.Request.{Request}
 use Rattle.fare_law.specs.Book.{Book}
 use Rattle.fare_law.specs.Lists.{Each, Matched}
@@ -32,7 +34,7 @@ use Rattle.search_steps.specs.Leads.{leads_of}
 use Rattle.search_steps.specs.Numbers.{AddsAll, AddsOne, AreBare, ArePositionSteps, AreStepLists, AreSteps, AreStepsOf, AreUnitSteps, IsBare, IsStep, ListsAt, StepsAt, UnitStandsAt, UnitStepsAt, tried_in, tried_of}
 use Rattle.search_steps.specs.Placed.{AddsFour, AddsOfUnit, ArePlaced, MayStand}
 use Rattle.search_steps.specs.Tables.{AsTried, HasTable, IsOwnTable, outcome_tried}
-use Rattle.search_steps.proofs.Given.{four_are, opening_not, unit_not}
+use Rattle.search_steps.proofs.Given.{four_are, none_are, opening_not, unit_not}
 use Rattle.search_steps.proofs.LeftByNumber.{at_most_two, no_room}
 use Rattle.search_steps.proofs.TableFacts.{tried_are}
 use Rattle.law_lemmas.proofs.EachOne.{each_got, each_more, each_weaker}
@@ -247,6 +249,22 @@ module _ (b : Book) (q : Request) (ts : List PositionTable) (l : StepLists) (k :
 
   pub live_by_number : LeadToLive (IsLive l.numbers) found
   live_by_number = four_by_number.1
+
+pub none_bare : (ss : List Step) → eqb (length ss) 0 ≡ true → ss ≡ []
+none_bare [] h = refl
+none_bare (s ∷ ss) h = absurd (omega (arith, eqb-true (length (s ∷ ss)) 0 h))
+
+-- where the table of its position is empty, a residual has none
+pub no_outcomes : (b : Book) (q : Request) (ts : List PositionTable) (l : StepLists) (k : ResidualKey) (r : State) (at : ℕ) → ListsAreOutcomes b q r → Each (IsOwnTable b q) ts → AreStepLists q ts l → StandsFor l.numbers k r → (found : StepsAt l.positions.items k.position at) → found.steps.bare.items ≡ []
+    → AreOutcomes (leads_of b q) r (outcomes_of (residual_at l.numbers) [])
+no_outcomes b q ts l k r n law tables lists stands found empty =
+    let t = l.numbers in
+    let s = found.steps in
+    let h = each_got (ArePositionSteps q t ts) l.positions.items n s lists.positions found.stands in
+    let at : h.table.at ≡ r.at = some_one (slice_get t.positions k.position) h.table.at r.at (ap (slice_get t.positions) (sym found.of_position) ∙ h.at) stands.at in
+    let own = each_got (IsOwnTable b q) ts s.place h.table tables h.stands in
+    let none = matched_none (IsBare t) h.table.entries (subst (AreBare t h.table.entries) empty h.bare) in
+    tried_are b q r [] (outcomes_of (residual_at t) []) (none_are b q r h.table.entries law (subst (λ a. IsTable b q a h.table.entries) at own) none) (as_tried t [])
 
 -- one more step without a unit
 pub bare_next : (t u : Numbers) (es : List Entry) (i : ℕ) (d : Entry) (ss ss' : List Step) (s : Step) → Grows t u → i < length es → AreBare t (take i es) ss → IsBare u (get_or es i d) s → ss' ≡ ss ++ s ∷ [] → AreBare u (take (i + 1) es) ss'

@@ -6,7 +6,7 @@ ghost use Rattle.residual_keys.specs.Kept.{PartKept};
 ghost use Rattle.residual_table.specs.Keys.{Grows, IsLive, residual_at};
 ghost use Rattle.search_steps.specs.Giving.{UnitBy};
 ghost use Rattle.search_steps.specs.Leads.{leads_of};
-ghost use Rattle.search_steps.specs.Numbers.{AreStepLists};
+ghost use Rattle.search_steps.specs.Numbers.{AreStepLists, StepsAt};
 ghost use Rattle.search_steps.specs.Placed.{AddsFour, AddsOfUnit, ArePlaced, MayStand};
 ghost use Rattle.search_steps.specs.Tables.{AreTables};
 
@@ -28,7 +28,7 @@ pub struct Placed {
     pub second: Option<usize>,
 }
 
-/// The outcomes of a residual by its key.
+/// The outcomes of a residual by its key. A position whose table is empty has none, so that no list is asked for there.
 pub fn outcomes_of_key(
     alloc: Global,
     case: &Case,
@@ -47,30 +47,33 @@ pub fn outcomes_of_key(
     ensures live { IfOk result (λ v. LeadToLive (IsLive lists.new.numbers) v.items) }
 {
     lists_give_outcomes();
-    let placed = placed_of(alloc, case, tables, lists, key)?;
+    let at = lists.find(alloc, case, tables, key.position)?;
+    if lists.positions[at].bare.is_empty() {
+        return Ok(Vec::new(alloc));
+    }
+    let placed = placed_at(alloc, case, tables, lists, key, at)?;
     given_by(alloc, lists, key, &placed)
 }
 
-/// Where the lists of a residual stand, which are made where they aren't known.
-fn placed_of(
+/// Where the lists of a residual stand. Those of its open units are made where they aren't known.
+fn placed_at(
     alloc: Global,
     case: &Case,
-    tables: &mut Tables,
+    tables: &Tables,
     lists: &mut StepLists,
     key: ResidualKey,
+    at: usize,
 ) -> Result<Placed, Mem>
     requires request { IsRequest case.now.request.now }
     requires live { IsLive lists.old.numbers key }
-    requires tables { AreTables case.now.book.now case.now.request.now tables.old }
-    requires right { AreStepLists case.now.request.now tables.old.kept.items lists.old }
-    ensures tables { AreTables case.now.book.now case.now.request.now tables.new }
-    ensures right { AreStepLists case.now.request.now tables.new.kept.items lists.new }
+    requires tables { AreTables case.now.book.now case.now.request.now tables.now }
+    requires right { AreStepLists case.now.request.now tables.now.kept.items lists.old }
+    requires found { StepsAt lists.old.positions.items key.position at }
+    ensures right { AreStepLists case.now.request.now tables.now.kept.items lists.new }
     ensures grows { Grows lists.old.numbers lists.new.numbers }
     ensures placed { IfOk result (ArePlaced lists.new key) }
 {
-    let at = lists.find(alloc, case, tables, key.position)?;
-    let steps = &lists.positions[at];
-    let place = steps.place;
+    let place = lists.positions[at].place;
     let slot = key.first;
     let first = lists.find_unit(alloc, case, tables, at, UnitSlot { place, slot })?;
     let slot = key.second;
