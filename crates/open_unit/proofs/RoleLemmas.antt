@@ -1,12 +1,12 @@
--- The roles "goes on" and "closes" from what the fares of a unit with one more component allow. Given on to the crates above.
-use Rattle.std.proofs.Common.{◌≡◌, ◌≢◌, ◌⊎◌, ℕ, ℤ, true, false, cond, ◌+◌, sym, ap, ◌∙◌, subst, arith}
+-- The role "goes on" from what the fares of a unit with one more component allow. Given on to the crates above.
+use Rattle.std.proofs.Common.{◌≡◌, ◌≢◌, ◌⊎◌, ℕ, true, false, cond, ◌+◌, sym, ap, ◌∙◌, subst, arith}
 use Rattle.fare_law.specs.declared.names.Carrier.{Carrier}
 use Rattle.fare_law.specs.declared.tickets.Piece.{Piece}
 use Rattle.fare_law.specs.declared.rules.UnitKind.{UnitKind}
-use Rattle.fare_law.specs.declared.rules.UnitKind.TheVariants.{RoundTrip, Circle}
+use Rattle.fare_law.specs.declared.rules.UnitKind.TheVariants.{Circle}
 use Rattle.fare_law.specs.Book.{same_carrier}
-use Rattle.fare_law.specs.Units.{Forward, Reverse, MayStand}
-use Rattle.rule_unit.specs.Demands.{AtMost, MayReturn, has_kind}
+use Rattle.fare_law.specs.Units.{Forward, MayStand}
+use Rattle.rule_unit.specs.Demands.{has_kind}
 use Rattle.rule_unit.specs.Ranges.{DemandInRange}
 use Rattle.open_unit.specs.declared.joined.JoinedFares.{JoinedFares}
 use Rattle.open_unit.specs.declared.marks.CarrierMark.{CarrierMark}
@@ -14,7 +14,7 @@ use Rattle.open_unit.specs.declared.marks.CarrierMark.TheVariants.{NotYet, One, 
 use Rattle.open_unit.specs.declared.marks.RuleMark.{RuleMark}
 use Rattle.open_unit.specs.declared.marks.RuleMark.TheVariants.{Mixed as MixedRules}
 use Rattle.open_unit.specs.declared.units.OpenUnit.{OpenUnit}
-use Rattle.open_unit.specs.OpenUnits.{DaysHold, PartnerHolds, MayGoOn, MayClose, Makes, carrier_with, rule_with, demand_with, carriers_with, rules_with}
+use Rattle.open_unit.specs.OpenUnits.{DaysHold, PartnerHolds, MayGoOn, carrier_with, rule_with, demand_with, carriers_with, rules_with}
 use Rattle.open_unit.specs.Ranges.{UnitInRanges}
 
 -- these are the fares of the unit and of the component
@@ -25,9 +25,6 @@ pub record AreJoined (u : OpenUnit) (p : Piece) (f : JoinedFares) : Type 0 where
 
 abbrev pub Allow : JoinedFares → UnitKind → Type 0
 Allow f kind = (has_kind f.demand.kinds kind ≡ true) × PartnerHolds f.demand.partner f.carrier f.rule
-
-abbrev pub AllowReturn : JoinedFares → ℤ → ℤ → Type 0
-AllowReturn f back last = MayReturn f.demand back × AtMost f.demand.by last
 
 -- the fares of the unit and of the component, in the words of the roles
 abbrev joined : OpenUnit → Piece → JoinedFares
@@ -44,20 +41,6 @@ may_go_on u p f e follows fits allow =
 
 pub going_on_allows : (u : OpenUnit) (p : Piece) (f : JoinedFares) → AreJoined u p f → MayGoOn u p → Allow f Circle
 going_on_allows u p f e m = subst (λ (x : JoinedFares). Allow x Circle) (sym (are_one u p f e)) (m.kind, m.partners)
-
-pub may_close : (u : OpenUnit) (p : Piece) (kind : UnitKind) (f : JoinedFares) → AreJoined u p f → Reverse p → Makes u p kind
-    → MayStand p.fare.kind RoundTrip × DaysHold u.first_day p → Allow f kind → AllowReturn f p.first_day p.last_day → MayClose u p kind
-may_close u p kind f e reverse makes fits allow returns =
-    let a : Allow (joined u p) kind = subst (λ (x : JoinedFares). Allow x kind) (are_one u p f e) allow in
-    let r : AllowReturn (joined u p) p.first_day p.last_day = subst (λ (x : JoinedFares). AllowReturn x p.first_day p.last_day) (are_one u p f e) returns in
-    record { reverse = reverse; stands = fits.0; makes = makes; kind_allowed = a.0; days = fits.1; least = r.0.0; greatest = r.0.1; by = r.1; partners = a.1 }
-
-pub closing_allows : (u : OpenUnit) (p : Piece) (kind : UnitKind) (f : JoinedFares) → AreJoined u p f → MayClose u p kind → Allow f kind
-closing_allows u p kind f e m = subst (λ (x : JoinedFares). Allow x kind) (sym (are_one u p f e)) (m.kind_allowed, m.partners)
-
-pub closing_returns : (u : OpenUnit) (p : Piece) (kind : UnitKind) (f : JoinedFares) → AreJoined u p f → MayClose u p kind → AllowReturn f p.first_day p.last_day
-closing_returns u p kind f e m =
-    subst (λ (x : JoinedFares). AllowReturn x p.first_day p.last_day) (sym (are_one u p f e)) ((m.least, m.greatest), m.by)
 
 -- a fare was there
 pub not_not_yet : (mark : CarrierMark) (c : Carrier) → carrier_with mark c ≢ NotYet

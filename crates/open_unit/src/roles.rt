@@ -6,7 +6,7 @@ ghost use Rattle.open_unit.specs.OpenUnits.{MayAlone, MayOpen, MayGoOn, MayClose
 ghost use Rattle.open_unit.specs.Ranges.{PieceInRanges, UnitInRanges};
 
 use crate::fares::fits;
-use crate::joined::JoinedFares;
+use crate::joined::{JoinedFares, may_be, may_return};
 use crate::kinds::kind_made;
 use crate::{Facts, OpenUnit};
 use fare_law::UnitKind;
@@ -71,8 +71,8 @@ impl OpenUnit {
         if !facts.reverse || !fits(facts, UnitKind::RoundTrip, self.first_day) {
             return None;
         }
-        let fares = JoinedFares::of(self, facts);
-        if !fares.allow(kind) || !fares.allow_return(facts) {
+        let own = UnitDemand::of(facts.rule, self.first_day);
+        if !may_be(self, facts, &own, kind) || !may_return(self, facts, &own) {
             return None;
         }
         Some(kind)
