@@ -12,7 +12,7 @@ use std::marker::{Model, PhantomData};
 const MOST: usize = 4_294_967_295;
 
 /// How many spots there are at first.
-const FEWEST: usize = 64;
+const FEWEST: usize = 4_096;
 
 /// How many rows there may be room for at first. What isn't written takes no memory.
 const ROOM: usize = 1_000_000;
