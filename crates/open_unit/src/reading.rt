@@ -9,19 +9,20 @@ use std::marker::Model;
 /// Contracts see a piece, whose fare has no basis and costs nothing.
 #[derive(Debug, Drop)]
 pub struct Facts<'a> {
-    /// Where the component begins and ends.
+    /// Where the component begins, and the local day of departure of its first flight. (The two places stand apart, since
+    /// bytes side by side are copied together, which takes longer while they are being written.)
     pub begin: Place,
+    pub first_day: i32,
+    /// Where it ends, and the local day of departure of its last flight.
     pub end: Place,
-    /// Its fare's carrier, rule number and kind, and the rule.
-    pub carrier: Carrier,
-    pub number: u16,
-    pub kind: FareKind,
+    pub last_day: i32,
+    /// Its fare's rule, the rule's number, and the fare's carrier and kind.
     pub rule: &'a Rule,
+    pub number: u16,
+    pub carrier: Carrier,
+    pub kind: FareKind,
     /// Whether the fare is filed from the end to the beginning.
     pub reverse: bool,
-    /// The local days of departure of the first and the last flight.
-    pub first_day: i32,
-    pub last_day: i32,
     /// The day of sale.
     pub sale: i32,
 }

@@ -1,8 +1,8 @@
 -- Lists of steps: what they give, and that they stay while numbers grow.
-use Rattle.std.proofs.Common.{◌≡◌, ◌≢◌, ◌⊎◌, ◌∙◌, ℕ, suc, zero, ◌<◌, ◌≤◌, ◌+◌, eqb, true, List, [], ◌∷◌, ◌++◌, length, take, get_or, slice_get, Option, Some, None, refl, sym, ap, subst, inl, inr, arith}
+use Rattle.std.proofs.Common.{◌≡◌, ◌≢◌, ◌⊎◌, ◌∙◌, ℕ, suc, zero, ◌<◌, ◌≤◌, ◌+◌, ◌-◌, eqb, true, List, [], ◌∷◌, ◌++◌, length, drop, take, get_or, slice_get, slice_range, Option, Some, None, refl, sym, ap, ap₂, subst, inl, inr, arith}
 use Rattle.std.proofs.Math.Seq.{take-suc}
 use borrow.Author.Tests.{eqb-true}
-use Rattle.std.proofs.lemmas.List.{take_all}
+use Rattle.std.proofs.lemmas.List.{drop-append-le, drop_at, length-append, length-drop, take-append-le, take_all}
 use Rattle.component_table.specs.Tables.{IsTable}
 use Rattle.fare_law.specs.declared.requests.Request.{Request}
 use Rattle.fare_law.specs.Book.{Book}
@@ -27,11 +27,12 @@ use Rattle.search_steps.specs.declared.keyed.Placed.{Placed}
 use Rattle.search_steps.specs.declared.numbered.PositionSteps.{PositionSteps}
 use Rattle.search_steps.specs.declared.numbered.Step.{Step}
 use Rattle.search_steps.specs.declared.numbered.StepLists.{StepLists}
+use Rattle.search_steps.specs.declared.numbered.UnitSlot.{UnitSlot}
 use Rattle.search_steps.specs.declared.numbered.UnitSteps.{UnitSteps}
 use Rattle.search_steps.specs.declared.tables.PositionTable.{PositionTable}
 use Rattle.search_steps.specs.Giving.{GivenBy, OpenedBy, UnitBy, UnitGiven}
 use Rattle.search_steps.specs.Leads.{leads_of}
-use Rattle.search_steps.specs.Numbers.{AddsAll, AddsOne, AreBare, ArePositionSteps, AreStepLists, AreSteps, AreStepsOf, AreUnitSteps, IsBare, IsStep, ListsAt, StepsAt, UnitStandsAt, UnitStepsAt, tried_in, tried_of}
+use Rattle.search_steps.specs.Numbers.{AddsAll, AddsOne, AreBare, ArePositionSteps, AreStepLists, AreSteps, AreStepsOf, AreUnitSteps, IsBare, IsStep, IsUnitList, ListsAt, StandsIn, StepsAt, UnitStandsAt, UnitStepsAt, tried_in, tried_of}
 use Rattle.search_steps.specs.Placed.{AddsFour, AddsOfUnit, ArePlaced, MayStand}
 use Rattle.search_steps.specs.Tables.{AsTried, HasTable, IsOwnTable, outcome_tried}
 use Rattle.search_steps.proofs.Given.{four_are, none_are, opening_not, unit_not}
@@ -157,20 +158,43 @@ position_stays q t u ts us g keeps s h = record {
   bare = bare_stay t u g h.table.entries s.bare.items h.bare;
 }
 
-pub unit_stays : (q : Request) (t u : Numbers) (ts us : List PositionTable) → Grows t u → KeepsNumbers ts us → (s : UnitSteps) → AreUnitSteps q t ts s → AreUnitSteps q u us s
-unit_stays q t u ts us g keeps s h = record {
+pub list_stays : (q : Request) (t u : Numbers) (ts us : List PositionTable) → Grows t u → KeepsNumbers ts us → (k : UnitSlot) (steps : List Step) → IsUnitList q t ts k steps → IsUnitList q u us k steps
+list_stays q t u ts us g keeps k steps h = record {
   table = h.table;
-  stands = keeps s.place h.table h.stands;
+  stands = keeps k.place h.table h.stands;
   unit = h.unit;
-  slot = slot_stays t.units u.units s.slot (Some h.unit) g.units h.slot;
-  steps = marks_stay t u (IsOfUnit h.table.at.place q.sale h.unit) h.table.entries s.steps.items g h.steps;
+  slot = slot_stays t.units u.units k.slot (Some h.unit) g.units h.slot;
+  steps = marks_stay t u (IsOfUnit h.table.at.place q.sale h.unit) h.table.entries steps g h.steps;
+}
+
+pub unit_stays : (q : Request) (t u : Numbers) (ts us : List PositionTable) (all : List Step) → Grows t u → KeepsNumbers ts us → (s : UnitSteps) → AreUnitSteps q t ts all s → AreUnitSteps q u us all s
+unit_stays q t u ts us all g keeps s h = record { within = h.within; list = list_stays q t u ts us g keeps (record { place = s.place; slot = s.slot }) (slice_range all s.begin s.end) h.list }
+
+-- a part of a list is the same with more behind
+part_of_more : {X : Type 0} (xs ys : List X) (a b : ℕ) → a ≤ b → b ≤ length xs → slice_range (xs ++ ys) a b ≡ slice_range xs a b
+part_of_more xs ys a b g h =
+    let from : a ≤ length xs = omega (arith, g, h) in
+    let long : b - a ≤ length (drop a xs) = omega (arith, length-drop a xs, g, h) in
+    ap (take (b - a)) (drop-append-le a xs ys from) ∙ take-append-le (b - a) (drop a xs) ys long
+
+-- what comes behind is the part from where it begins
+part_behind : {X : Type 0} (xs ys : List X) → slice_range (xs ++ ys) (length xs) (length (xs ++ ys)) ≡ ys
+part_behind xs ys =
+    let long : length ys ≤ length (xs ++ ys) - length xs = omega (arith, length-append xs ys) in
+    ap (take (length (xs ++ ys) - length xs)) (drop_at xs ys (length xs) refl) ∙ take_all (length (xs ++ ys) - length xs) ys long
+
+-- with more steps behind those of all
+pub unit_beside : (q : Request) (t : Numbers) (ts : List PositionTable) (all more : List Step) (s : UnitSteps) → AreUnitSteps q t ts all s → AreUnitSteps q t ts (all ++ more) s
+unit_beside q t ts all more s h = record {
+  within = (h.within.0, omega (arith, length-append all more, h.within.1));
+  list = subst (IsUnitList q t ts (record { place = s.place; slot = s.slot })) (sym (part_of_more all more s.begin s.end h.within.0 h.within.1)) h.list;
 }
 
 pub positions_stay : (q : Request) (t u : Numbers) (ts us : List PositionTable) (ss : List PositionSteps) → Grows t u → KeepsNumbers ts us → Each (ArePositionSteps q t ts) ss → Each (ArePositionSteps q u us) ss
 positions_stay q t u ts us ss g keeps h = each_weaker (ArePositionSteps q t ts) (ArePositionSteps q u us) (position_stays q t u ts us g keeps) ss h
 
-pub units_stay_by : (q : Request) (t u : Numbers) (ts us : List PositionTable) (ss : List UnitSteps) → Grows t u → KeepsNumbers ts us → Each (AreUnitSteps q t ts) ss → Each (AreUnitSteps q u us) ss
-units_stay_by q t u ts us ss g keeps h = each_weaker (AreUnitSteps q t ts) (AreUnitSteps q u us) (unit_stays q t u ts us g keeps) ss h
+pub units_stay_by : (q : Request) (t u : Numbers) (ts us : List PositionTable) (all : List Step) (ss : List UnitSteps) → Grows t u → KeepsNumbers ts us → Each (AreUnitSteps q t ts all) ss → Each (AreUnitSteps q u us all) ss
+units_stay_by q t u ts us all ss g keeps h = each_weaker (AreUnitSteps q t ts all) (AreUnitSteps q u us all) (unit_stays q t u ts us all g keeps) ss h
 
 none_eq : (y : OpenUnit) → None ≡ Some y → ⊥
 none_eq y e = cc
@@ -196,12 +220,12 @@ none_second us m n xs (one a u e f g h) z = ap (λ ys. slice_get ys 1) e
 none_second us m n xs (both a b u v e f g h i) z = absurd (omega (arith, z, g))
 
 -- what the list of an open unit gives
-module _ (q : Request) (t : Numbers) (ts : List PositionTable) (us : List UnitSteps) (place : ℕ) (k : ResidualKey) (r : State) (stands : StandsFor t k r) (all : Each (AreUnitSteps q t ts) us) (slot number : ℕ)
+module _ (q : Request) (t : Numbers) (ts : List PositionTable) (l : StepLists) (place : ℕ) (k : ResidualKey) (r : State) (stands : StandsFor t k r) (all : Each (AreUnitSteps q t ts l.unit_steps.items) l.units.items) (slot number : ℕ)
     (is_unit : (u v : OpenUnit) → IsSlot t.units number (Some u) → slice_get r.units slot ≡ Some v → u ≡ v) (is_none : number ≡ 0 → slice_get r.units slot ≡ None) where
-  pub given_of_unit : (at : Option ℕ) (old new : List (Outcome ResidualKey)) → UnitStepsAt us place number at → AddsOfUnit (λ r. UnitBy r slot) k us at old new → UnitGiven q ts place r slot (tried_in t old) (tried_in t new) × (LeadToLive (IsLive t) old → LeadToLive (IsLive t) new)
+  pub given_of_unit : (at : Option ℕ) (old new : List (Outcome ResidualKey)) → UnitStepsAt l.units.items place number at → AddsOfUnit (λ r. UnitBy r slot) k l at old new → UnitGiven q ts place r slot (tried_in t old) (tried_in t new) × (LeadToLive (IsLive t) old → LeadToLive (IsLive t) new)
   given_of_unit None old new e adds = (subst (λ z. UnitGiven q ts place r slot (tried_in t old) (tried_in t z)) (sym adds) (unit_not q ts place r slot (tried_in t old) (is_none e)), λ l. subst (LeadToLive (IsLive t)) (sym adds) l)
   given_of_unit (Some n) old new at adds =
-      let h = each_got (AreUnitSteps q t ts) us n at.steps all at.stands in
+      let h = (each_got (AreUnitSteps q t ts l.unit_steps.items) l.units.items n at.steps all at.stands).list in
       let a = adds at.steps at.stands t r h.steps.list stands h.steps.steps in (
         record {
           list = h.steps.list;
@@ -237,8 +261,8 @@ module _ (b : Book) (q : Request) (ts : List PositionTable) (l : StepLists) (k :
       let at : h.table.at ≡ r.at = some_one (slice_get t.positions k.position) h.table.at r.at (ap (slice_get t.positions) (sym placed.of_position) ∙ h.at) stands.at in
       let by_alone = adds.alone s placed.stands t r h.alone.list stands h.alone.steps in
       let by_opening = adds.opening s placed.stands t r h.opening.list stands h.opening.steps in
-      let by_first = given_of_unit q t ts l.units.items s.place k r stands lists.units 0 k.first (λ u v i e. unit_is_first t.units k.first k.second r.units u v sl i e) (λ z. none_first t.units k.first k.second r.units sl z) p.first adds.two adds.three placed.first adds.first in
-      let by_second = given_of_unit q t ts l.units.items s.place k r stands lists.units 1 k.second (λ u v i e. unit_is_second t.units k.first k.second r.units u v sl i e) (λ z. none_second t.units k.first k.second r.units sl z) p.second adds.three found placed.second adds.second in (
+      let by_first = given_of_unit q t ts l s.place k r stands lists.units 0 k.first (λ u v i e. unit_is_first t.units k.first k.second r.units u v sl i e) (λ z. none_first t.units k.first k.second r.units sl z) p.first adds.two adds.three placed.first adds.first in
+      let by_second = given_of_unit q t ts l s.place k r stands lists.units 1 k.second (λ u v i e. unit_is_second t.units k.first k.second r.units u v sl i e) (λ z. none_second t.units k.first k.second r.units sl z) p.second adds.three found placed.second adds.second in (
         four_are b q r ts s.place h.table h.alone.list h.opening.list (tried_in t adds.one) (tried_in t adds.two) (tried_in t adds.three) (tried_in t found) law (at_most_two t.units k.first k.second r.units sl) h.stands at (each_got (IsOwnTable b q) ts s.place h.table tables h.stands) h.alone.is h.opening.is
             by_alone.given by_opening.given by_first.0 by_second.0,
         by_second.1 (by_first.1 (by_opening.live (by_alone.live tt))),
@@ -277,26 +301,44 @@ pub bare_whole : (t : Numbers) (es : List Entry) (i : ℕ) (ss : List Step) → 
 bare_whole t es i ss h are = subst (λ ys. AreBare t ys ss) (take_all i es h) are
 
 -- the lists of all, where numbers and tables grew
-pub lists_stay : (q : Request) (ts us : List PositionTable) (u : Numbers) (l m : StepLists) → Grows l.numbers u → KeepsNumbers ts us → m.numbers ≡ u → m.positions.items ≡ l.positions.items → m.units.items ≡ l.units.items → AreStepLists q ts l → AreStepLists q us m
-lists_stay q ts us u l m g keeps e p n h = record {
+pub lists_stay : (q : Request) (ts us : List PositionTable) (u : Numbers) (l m : StepLists) → Grows l.numbers u → KeepsNumbers ts us → m.numbers ≡ u → m.positions.items ≡ l.positions.items → m.units.items ≡ l.units.items → m.unit_steps.items ≡ l.unit_steps.items → AreStepLists q ts l → AreStepLists q us m
+lists_stay q ts us u l m g keeps e p n a h = record {
   positions = subst (λ z. Each (ArePositionSteps q z us) m.positions.items) (sym e) (subst (Each (ArePositionSteps q u us)) (sym p) (positions_stay q l.numbers u ts us l.positions.items g keeps h.positions));
-  units = subst (λ z. Each (AreUnitSteps q z us) m.units.items) (sym e) (subst (Each (AreUnitSteps q u us)) (sym n) (units_stay_by q l.numbers u ts us l.units.items g keeps h.units));
+  units = subst (λ z. Each (AreUnitSteps q z us m.unit_steps.items) m.units.items) (sym e) (subst (λ all. Each (AreUnitSteps q u us all) m.units.items) (sym a) (subst (Each (AreUnitSteps q u us l.unit_steps.items)) (sym n) (units_stay_by q l.numbers u ts us l.unit_steps.items l.units.items g keeps h.units)));
 }
 
 -- one more of a position
-pub position_more : (q : Request) (ts us : List PositionTable) (u : Numbers) (l m : StepLists) (s : PositionSteps) → Grows l.numbers u → KeepsNumbers ts us → m.numbers ≡ u → m.positions.items ≡ l.positions.items ++ s ∷ [] → m.units.items ≡ l.units.items
+pub position_more : (q : Request) (ts us : List PositionTable) (u : Numbers) (l m : StepLists) (s : PositionSteps) → Grows l.numbers u → KeepsNumbers ts us → m.numbers ≡ u → m.positions.items ≡ l.positions.items ++ s ∷ [] → m.units.items ≡ l.units.items → m.unit_steps.items ≡ l.unit_steps.items
     → ArePositionSteps q u us s → AreStepLists q ts l → AreStepLists q us m
-position_more q ts us u l m s g keeps e p n k h = record {
+position_more q ts us u l m s g keeps e p n a k h = record {
   positions = subst (λ z. Each (ArePositionSteps q z us) m.positions.items) (sym e) (subst (Each (ArePositionSteps q u us)) (sym p) (each_more (ArePositionSteps q u us) l.positions.items s (positions_stay q l.numbers u ts us l.positions.items g keeps h.positions) k));
-  units = subst (λ z. Each (AreUnitSteps q z us) m.units.items) (sym e) (subst (Each (AreUnitSteps q u us)) (sym n) (units_stay_by q l.numbers u ts us l.units.items g keeps h.units));
+  units = subst (λ z. Each (AreUnitSteps q z us m.unit_steps.items) m.units.items) (sym e) (subst (λ all. Each (AreUnitSteps q u us all) m.units.items) (sym a) (subst (Each (AreUnitSteps q u us l.unit_steps.items)) (sym n) (units_stay_by q l.numbers u ts us l.unit_steps.items l.units.items g keeps h.units)));
 }
 
--- one more of an open unit
-pub unit_more : (q : Request) (ts : List PositionTable) (u : Numbers) (l m : StepLists) (s : UnitSteps) → Grows l.numbers u → m.numbers ≡ u → m.positions.items ≡ l.positions.items → m.units.items ≡ l.units.items ++ s ∷ [] → AreUnitSteps q u ts s → AreStepLists q ts l → AreStepLists q ts m
-unit_more q ts u l m s g e p n k h = record {
-  positions = subst (λ z. Each (ArePositionSteps q z ts) m.positions.items) (sym e) (subst (Each (ArePositionSteps q u ts)) (sym p) (positions_stay q l.numbers u ts ts l.positions.items g (λ i x y. y) h.positions));
-  units = subst (λ z. Each (AreUnitSteps q z ts) m.units.items) (sym e) (subst (Each (AreUnitSteps q u ts)) (sym n) (each_more (AreUnitSteps q u ts) l.units.items s (units_stay_by q l.numbers u ts ts l.units.items g (λ i x y. y) h.units) k));
+-- more steps of open units behind
+pub steps_more : (q : Request) (ts : List PositionTable) (l m : StepLists) (more : List Step) → m.numbers ≡ l.numbers → m.positions.items ≡ l.positions.items → m.units.items ≡ l.units.items → m.unit_steps.items ≡ l.unit_steps.items ++ more → AreStepLists q ts l → AreStepLists q ts m
+steps_more q ts l m more e p n a h = record {
+  positions = subst (λ z. Each (ArePositionSteps q z ts) m.positions.items) (sym e) (subst (Each (ArePositionSteps q l.numbers ts)) (sym p) h.positions);
+  units = subst (λ z. Each (AreUnitSteps q z ts m.unit_steps.items) m.units.items) (sym e) (subst (λ all. Each (AreUnitSteps q l.numbers ts all) m.units.items) (sym a)
+  (subst (Each (AreUnitSteps q l.numbers ts (l.unit_steps.items ++ more))) (sym n) (each_weaker (AreUnitSteps q l.numbers ts l.unit_steps.items) (AreUnitSteps q l.numbers ts (l.unit_steps.items ++ more)) (unit_beside q l.numbers ts l.unit_steps.items more) l.units.items h.units)));
 }
+
+-- one more of an open unit, whose steps came behind
+pub unit_more : (q : Request) (ts : List PositionTable) (l m : StepLists) (steps : List Step) (s : UnitSteps) → m.numbers ≡ l.numbers → m.positions.items ≡ l.positions.items → m.unit_steps.items ≡ l.unit_steps.items ++ steps → m.units.items ≡ l.units.items ++ s ∷ []
+    → s.begin ≡ length l.unit_steps.items → s.end ≡ length (l.unit_steps.items ++ steps) → IsUnitList q l.numbers ts (record { place = s.place; slot = s.slot }) steps → AreStepLists q ts l → AreStepLists q ts m
+unit_more q ts l m steps s e p a n from to k h =
+    let all = l.unit_steps.items ++ steps in
+    let is = AreUnitSteps q l.numbers ts all in
+    let part : slice_range all s.begin s.end ≡ steps = ap₂ (λ i j. slice_range all i j) from to ∙ part_behind l.unit_steps.items steps in
+    let own : is s = record {
+      within = (omega (arith, from, to, length-append l.unit_steps.items steps), omega (arith, to));
+      list = subst (IsUnitList q l.numbers ts (record { place = s.place; slot = s.slot })) (sym part) k;
+    } in
+    record {
+      positions = subst (λ z. Each (ArePositionSteps q z ts) m.positions.items) (sym e) (subst (Each (ArePositionSteps q l.numbers ts)) (sym p) h.positions);
+      units = subst (λ z. Each (AreUnitSteps q z ts m.unit_steps.items) m.units.items) (sym e) (subst (λ xs. Each (AreUnitSteps q l.numbers ts xs) m.units.items) (sym a)
+      (subst (Each is) (sym n) (each_more is l.units.items s (each_weaker (AreUnitSteps q l.numbers ts l.unit_steps.items) is (unit_beside q l.numbers ts l.unit_steps.items steps) l.units.items h.units) own)));
+    }
 
 -- what was added stands at the end
 pub steps_last : (old new : List PositionSteps) (s : PositionSteps) (position n : ℕ) → new ≡ old ++ s ∷ [] → n ≡ length old → s.position ≡ position → StepsAt new position n
@@ -306,9 +348,13 @@ pub unit_steps_last : (old new : List UnitSteps) (s : UnitSteps) (place slot n :
 unit_steps_last old new s place slot n is e p q is_open = record { steps = s; stands = ap (λ xs. slice_get xs n) is ∙ ap (slice_get (old ++ s ∷ [])) e ∙ got_last old s; of_place = p; of_slot = q; is_open = is_open }
 
 -- where the lists of a key stand
-pub may_stand : (us : List UnitSteps) (place slot : ℕ) (at : Option ℕ) → UnitStepsAt us place slot at → MayStand us slot at
-may_stand us place slot None h = tt
-may_stand us place slot (Some n) h = (got_within us n h.steps h.stands, h.is_open)
+pub may_stand : (l : StepLists) (place slot : ℕ) (at : Option ℕ) → Each (StandsIn l.unit_steps.items) l.units.items → UnitStepsAt l.units.items place slot at → MayStand l slot at
+may_stand l place slot None all h = tt
+may_stand l place slot (Some n) all h = (h.steps, h.stands, each_got (StandsIn l.unit_steps.items) l.units.items n h.steps all h.stands, h.is_open)
+
+-- each has its steps
+pub have_steps : (q : Request) (ts : List PositionTable) (l : StepLists) → AreStepLists q ts l → Each (StandsIn l.unit_steps.items) l.units.items
+have_steps q ts l h = each_weaker (AreUnitSteps q l.numbers ts l.unit_steps.items) (StandsIn l.unit_steps.items) (λ s k. k.within) l.units.items h.units
 
 unit_still : (us vs : List UnitSteps) (place slot : ℕ) (at : Option ℕ) → KeepsNumbers us vs → UnitStepsAt us place slot at → UnitStepsAt vs place slot at
 unit_still us vs place slot None keeps h = h
@@ -361,6 +407,3 @@ keeps_on xs ys zs f g n x e = g n x (f n x e)
 -- what a place gives
 pub got_there : {X : Type 0} (xs : List X) (n : ℕ) (x y : X) → x ≡ get_or xs n x → slice_get xs n ≡ Some y → x ≡ y
 got_there xs n x y is e = is ∙ got_is xs n x y e
-
-pub may_stand_in : (vs us : List UnitSteps) (place slot : ℕ) (at : Option ℕ) → vs ≡ us → UnitStepsAt us place slot at → MayStand vs slot at
-may_stand_in vs us place slot at e h = subst (λ z. MayStand z slot at) (sym e) (may_stand us place slot at h)

@@ -1,5 +1,5 @@
 -- Marks, lists and outcomes by the numbers of positions and of open units.
-use Rattle.std.specs.Prelude.{◌≡◌, ◌≢◌, ℕ, zero, suc, ◌≤◌, Bool, List, map, slice_get, Option, Some, None}
+use Rattle.std.specs.Prelude.{◌≡◌, ◌≢◌, ℕ, zero, suc, ◌≤◌, Bool, List, length, map, slice_get, slice_range, Option, Some, None}
 use Rattle.std.specs.Borrow.{Bor}
 use Rattle.fare_law.specs.declared.requests.Request.{Request}
 use Rattle.fare_law.specs.Book.{Book}
@@ -23,6 +23,7 @@ use Rattle.residual_table.specs.Keys.{IsLive, IsSlot, StandsFor, Tables as Numbe
 use Rattle.search_steps.specs.declared.numbered.PositionSteps.{PositionSteps}
 use Rattle.search_steps.specs.declared.numbered.Step.{Step}
 use Rattle.search_steps.specs.declared.numbered.StepLists.{StepLists}
+use Rattle.search_steps.specs.declared.numbered.UnitSlot.{UnitSlot}
 use Rattle.search_steps.specs.declared.numbered.UnitSteps.{UnitSteps}
 use Rattle.search_steps.specs.declared.tables.PositionTable.{PositionTable}
 use Rattle.search_steps.specs.Giving.{GivenBy, LeftBy}
@@ -106,18 +107,27 @@ pub record ArePositionSteps (q : Request) (t : Numbers) (ts : List PositionTable
   pub opening : AreStepsOf t (IsOpening table.at.place q.sale) table.entries s.opening.items
   pub bare : AreBare t table.entries s.bare.items
 
--- This is the list of an open unit, from the table that stands at its place, by numbers.
-pub record AreUnitSteps (q : Request) (t : Numbers) (ts : List PositionTable) (s : UnitSteps) : Type 0 where
+-- These are the list of the open unit of a slot, from the table that stands at a place, by numbers.
+pub record IsUnitList (q : Request) (t : Numbers) (ts : List PositionTable) (k : UnitSlot) (ss : List Step) : Type 0 where
   pub table : PositionTable
-  pub stands : slice_get ts s.place ≡ Some table
+  pub stands : slice_get ts k.place ≡ Some table
   pub unit : OpenUnit
-  pub slot : IsSlot t.units s.slot (Some unit)
-  pub steps : AreStepsOf t (IsOfUnit table.at.place q.sale unit) table.entries s.steps.items
+  pub slot : IsSlot t.units k.slot (Some unit)
+  pub steps : AreStepsOf t (IsOfUnit table.at.place q.sale unit) table.entries ss
+
+-- the steps of an open unit stand among those of all
+abbrev pub StandsIn : List Step → UnitSteps → Type 0
+StandsIn all s = (s.begin ≤ s.end) × (s.end ≤ length all)
+
+-- Among the steps of all open units stands the list of this one.
+pub record AreUnitSteps (q : Request) (t : Numbers) (ts : List PositionTable) (all : List Step) (s : UnitSteps) : Type 0 where
+  pub within : StandsIn all s
+  pub list : IsUnitList q t ts (record { place = s.place; slot = s.slot }) (slice_range all s.begin s.end)
 
 -- the lists by numbers are those of the tables
 pub record AreStepLists (q : Request) (ts : List PositionTable) (l : StepLists) : Type 0 where
   pub positions : Each (ArePositionSteps q l.numbers ts) l.positions.items
-  pub units : Each (AreUnitSteps q l.numbers ts) l.units.items
+  pub units : Each (AreUnitSteps q l.numbers ts l.unit_steps.items) l.units.items
 
 -- the lists of a position stand at this place
 pub record StepsAt (ss : List PositionSteps) (position n : ℕ) : Type 0 where

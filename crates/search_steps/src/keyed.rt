@@ -1,12 +1,13 @@
 //! Outcomes of residuals by numbers.
 ghost use Rattle.std.specs.Prelude.{◌<◌, [], IfOk, OnOk, length};
 ghost use Rattle.fare_law.specs.Limits.{IsRequest};
+ghost use Rattle.fare_law.specs.Lists.{Each};
 ghost use Rattle.graph_walk.specs.Steps.{AreOutcomes, LeadToLive, outcomes_of};
 ghost use Rattle.residual_keys.specs.Kept.{PartKept};
 ghost use Rattle.residual_table.specs.Keys.{Grows, IsLive, residual_at};
 ghost use Rattle.search_steps.specs.Giving.{UnitBy};
 ghost use Rattle.search_steps.specs.Leads.{leads_of};
-ghost use Rattle.search_steps.specs.Numbers.{AreStepLists, StepsAt};
+ghost use Rattle.search_steps.specs.Numbers.{AreStepLists, StandsIn, StepsAt};
 ghost use Rattle.search_steps.specs.Placed.{AddsFour, AddsOfUnit, ArePlaced, MayStand};
 ghost use Rattle.search_steps.specs.Tables.{AreTables};
 
@@ -89,6 +90,7 @@ fn given_by(
     placed: &Placed,
 ) -> Result<Vec<Outcome<ResidualKey>>, Mem>
     requires part { PartKept key.part }
+    requires units { Each (StandsIn lists.now.unit_steps.items) lists.now.units.items }
     requires placed { ArePlaced lists.now key placed.now }
     ensures { IfOk result (λ v. AddsFour lists.now key placed.now v.items) }
 {
@@ -96,8 +98,8 @@ fn given_by(
     let mut found = Vec::with_capacity(alloc, room_for(lists, key, placed, steps))?;
     add_alone(&mut found, key, steps.alone.as_slice())?;
     add_opening(&mut found, key, steps.opening.as_slice())?;
-    add_first(&mut found, lists.units.as_slice(), key, placed.first)?;
-    add_second(&mut found, lists.units.as_slice(), key, placed.second)?;
+    add_first(&mut found, lists, key, placed.first)?;
+    add_second(&mut found, lists, key, placed.second)?;
     Ok(found)
 }
 
@@ -122,7 +124,7 @@ fn room_for(lists: &StepLists, key: ResidualKey, placed: &Placed, steps: &Positi
 /// How many steps the list of an open unit has, where there is one.
 fn count_at(units: &[UnitSteps], at: Option<usize>) -> usize {
     match at.and_then(|at| units.get(at)) {
-        Some(unit) => unit.steps.len(),
+        Some(unit) => unit.end.saturating_sub(unit.begin),
         None => 0,
     }
 }
@@ -130,18 +132,18 @@ fn count_at(units: &[UnitSteps], at: Option<usize>) -> usize {
 /// Adds what the list of the unit that was opened first gives, where there is one.
 fn add_first(
     found: &mut Vec<Outcome<ResidualKey>>,
-    units: &[UnitSteps],
+    lists: &StepLists,
     key: ResidualKey,
     at: Option<usize>,
 ) -> Result<(), Mem>
     requires part { PartKept key.part }
-    requires there { MayStand units.now key.first at }
-    ensures { OnOk result (AddsOfUnit (λ r. UnitBy r 0) key units.now at found.old.items found.new.items) }
+    requires there { MayStand lists.now key.first at }
+    ensures { OnOk result (AddsOfUnit (λ r. UnitBy r 0) key lists.now at found.old.items found.new.items) }
 {
     match at {
         Some(at) => {
-            let unit = &units[at];
-            add_of_first(found, key, unit.steps.as_slice())
+            let unit = &lists.units[at];
+            add_of_first(found, key, &lists.unit_steps[unit.begin..unit.end])
         }
         None => Ok(()),
     }
@@ -150,18 +152,18 @@ fn add_first(
 /// Adds what the list of the other open unit gives, where there is one.
 fn add_second(
     found: &mut Vec<Outcome<ResidualKey>>,
-    units: &[UnitSteps],
+    lists: &StepLists,
     key: ResidualKey,
     at: Option<usize>,
 ) -> Result<(), Mem>
     requires part { PartKept key.part }
-    requires there { MayStand units.now key.second at }
-    ensures { OnOk result (AddsOfUnit (λ r. UnitBy r 1) key units.now at found.old.items found.new.items) }
+    requires there { MayStand lists.now key.second at }
+    ensures { OnOk result (AddsOfUnit (λ r. UnitBy r 1) key lists.now at found.old.items found.new.items) }
 {
     match at {
         Some(at) => {
-            let unit = &units[at];
-            add_of_second(found, key, unit.steps.as_slice())
+            let unit = &lists.units[at];
+            add_of_second(found, key, &lists.unit_steps[unit.begin..unit.end])
         }
         None => Ok(()),
     }

@@ -33,7 +33,7 @@ pub fn counted_moves<B: ResidualBounds>(
 ) -> Result<Vec<LeastMove<Residual>>, Mem>
     ensures { IfOk result (λ v. v.items ≡ counted_in (B.bound bounds.now) found.now) }
 {
-    let mut counted = Vec::new(alloc);
+    let mut counted = Vec::with_capacity(alloc, found.len())?;
     for chosen in found {
         if let Some(least) = counted_move(chosen, bounds) {
             counted.push(least)?;
@@ -81,12 +81,26 @@ fn put_in_order(counted: &mut [LeastMove<Residual>])
     counted.sort_unstable_by(|one, other| compared(one, other));
 }
 
-/// How two moves compare. Codes are made only where the totals are the same.
+/// How two moves compare. Codes, which begin with the numbers of flights, are made only where the totals and the flights are
+/// the same.
 fn compared(one: &LeastMove<Residual>, other: &LeastMove<Residual>) -> Ordering
     ensures { result ≡ ordering_then (nat_cmp one.now.total other.now.total) (slice_cmp nat_cmp (move_code one.now.mv) (move_code other.now.mv)) }
 {
     if one.total != other.total {
         return one.total.cmp(&other.total);
     }
-    move_code(&one.mv).cmp(&move_code(&other.mv))
+    match flights_compared(one.mv.flights.as_slice(), other.mv.flights.as_slice()) {
+        Ordering::Equal => move_code(&one.mv).cmp(&move_code(&other.mv)),
+        differ => differ,
+    }
+}
+
+/// How the numbers of two lists compare, the shorter list first.
+fn flights_compared(one: &[u32], other: &[u32]) -> Ordering
+    ensures { result ≡ ordering_then (nat_cmp (length one.now) (length other.now)) (slice_cmp nat_cmp one.now other.now) }
+{
+    if one.len() != other.len() {
+        return one.len().cmp(&other.len());
+    }
+    one.cmp(other)
 }

@@ -1,6 +1,6 @@
 //! Lists of steps: what the components of a table are where they stand alone, where they open a unit, and where they go on
 //! in an open unit or close it.
-ghost use Rattle.std.specs.Prelude.{◌≡◌, ◌↔◌, IfOk, IfSome, IsSome, IsTrue, None, OnOk, Some, false, true};
+ghost use Rattle.std.specs.Prelude.{◌≡◌, ◌↔◌, [], IfSome, IsSome, IsTrue, None, OnOk, Some, false, true};
 ghost use Rattle.fare_law.specs.Days.{IsCalendarDay};
 ghost use Rattle.fare_law.specs.Lists.{Each};
 ghost use Rattle.open_unit.specs.declared.units.OpenUnit.{OpenUnit as Unit};
@@ -36,49 +36,52 @@ pub struct Listing {
     pub sale: i32,
 }
 
-/// The list of a table by numbers. For each entry it is given the step that leaves no unit open.
-pub fn steps_of(
+/// Makes the list of a table by numbers, where there is no step yet. For each entry it is given the step that leaves no unit
+/// open.
+pub fn make_list(
     alloc: Global,
+    steps: &mut Vec<Step>,
     numbers: &mut ResidualParts,
     listing: &Listing,
     entries: &[Entry],
     bare: &[Step],
-) -> Result<Vec<Step>, Mem>
+) -> Result<(), Mem>
+    requires empty { steps.old.items ≡ [] }
     requires sale { IsCalendarDay listing.now.sale }
     requires unit { KeepsUnit listing.now.doing }
     requires within { Each EntryWithin entries.now }
     requires bare { AreBare numbers.old entries.now bare.now }
-    ensures steps { IfOk result (λ v. AreStepsOf numbers.new (IsListed listing.now) entries.now v.items) }
+    ensures steps { OnOk result (AreStepsOf numbers.new (IsListed listing.now) entries.now steps.new.items) }
     ensures grows { Grows numbers.old numbers.new }
 {
-    let steps = all_steps(alloc, numbers, listing, entries, bare)?;
-    if leave_none_open(steps.as_slice()) {
-        Ok(steps)
-    } else {
-        shortened(alloc, steps.as_slice())
+    add_all(steps, numbers, listing, entries, bare)?;
+    if !leave_none_open(steps.as_slice()) {
+        let kept = shortened(alloc, steps.as_slice())?;
+        *steps = kept;
     }
+    Ok(())
 }
 
 /// The same with steps that another of their mark makes idle, unless the one stands right before the other.
-fn all_steps(
-    alloc: Global,
+fn add_all(
+    steps: &mut Vec<Step>,
     numbers: &mut ResidualParts,
     listing: &Listing,
     entries: &[Entry],
     bare: &[Step],
-) -> Result<Vec<Step>, Mem>
+) -> Result<(), Mem>
+    requires empty { steps.old.items ≡ [] }
     requires sale { IsCalendarDay listing.now.sale }
     requires unit { KeepsUnit listing.now.doing }
     requires within { Each EntryWithin entries.now }
     requires bare { AreBare numbers.old entries.now bare.now }
-    ensures steps { IfOk result (λ v. AreStepsOf numbers.new (IsListed listing.now) entries.now v.items) }
+    ensures steps { OnOk result (AreStepsOf numbers.new (IsListed listing.now) entries.now steps.new.items) }
     ensures grows { Grows numbers.old numbers.new }
 {
-    let mut steps = Vec::new(alloc);
     for at in 0..entries.len() {
-        add_step(&mut steps, numbers, listing, &entries[at], &bare[at])?;
+        add_step(steps, numbers, listing, &entries[at], &bare[at])?;
     }
-    Ok(steps)
+    Ok(())
 }
 
 /// Whether no unit stays open after any of these: then those of one mark mostly stand together, and one of them is there.

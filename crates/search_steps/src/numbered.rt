@@ -32,13 +32,15 @@ pub struct PositionSteps {
     pub bare: Vec<Step>,
 }
 
-/// What they are where they go on in an open unit or close it.
-#[derive(Drop)]
+/// What they are where they go on in an open unit or close it: a part of the steps of all open units.
+#[derive(Clone, Copy, Debug)]
 pub struct UnitSteps {
     /// Where the table of the position stands.
     pub place: usize,
     pub slot: u32,
-    pub steps: Vec<Step>,
+    /// Where its steps begin, and where they end.
+    pub begin: usize,
+    pub end: usize,
 }
 
 /// What the list of an open unit is looked up by.
@@ -56,6 +58,10 @@ pub struct StepLists {
     /// Where the lists of a position may stand, by its number.
     pub places: Guesses,
     pub units: Vec<UnitSteps>,
+    /// The steps of the lists of open units, one list after another.
+    pub unit_steps: Vec<Step>,
+    /// What the list of an open unit is made in, before it stands among them.
+    pub made: Vec<Step>,
     /// Where the list of an open unit stands, by the spots of its slot.
     pub unit_places: Guesses,
 }
@@ -72,6 +78,8 @@ impl StepLists {
             positions: Vec::new(alloc),
             places: Guesses::new(alloc),
             units: Vec::new(alloc),
+            unit_steps: Vec::new(alloc),
+            made: Vec::new(alloc),
             unit_places: Guesses::new(alloc),
         }
     }
@@ -87,6 +95,8 @@ impl StepLists {
             positions: Vec::new(alloc),
             places: Guesses::new(alloc),
             units: Vec::new(alloc),
+            unit_steps: Vec::new(alloc),
+            made: Vec::new(alloc),
             unit_places: Guesses::new(alloc),
         }
     }
@@ -100,6 +110,7 @@ impl StepLists {
         self.positions = Vec::new(alloc);
         self.places = Guesses::new(alloc);
         self.units = Vec::new(alloc);
+        self.unit_steps = Vec::new(alloc);
         self.unit_places = Guesses::new(alloc);
     }
 }

@@ -1,20 +1,25 @@
 //! The lists of positions and of open units by numbers, each made once.
-ghost use Rattle.std.specs.Prelude.{◌≡◌, ◌≢◌, ◌<◌, IfOk, IfSome, Some, length, slice_get};
+ghost use Rattle.std.specs.Prelude.{◌≡◌, ◌≢◌, ◌<◌, IfOk, IfSome, List as Items, OnOk, Some, length, slice_get};
+ghost use Rattle.fare_law.specs.declared.requests.Request.{Request as Asked};
 ghost use Rattle.fare_law.specs.Limits.{IsRequest};
 ghost use Rattle.residual_table.specs.Keys.{Grows, HasSlot, KeepsNumbers};
 ghost use Rattle.search_steps.specs.declared.tables.PositionTable.{PositionTable as Table};
-ghost use Rattle.search_steps.specs.Numbers.{AreBare, ArePositionSteps, AreStepLists, AreUnitSteps, ListsAt, StepsAt, UnitStandsAt, UnitStepsAt};
+ghost use Rattle.search_steps.specs.Numbers.{AreBare, ArePositionSteps, AreStepLists, IsUnitList, ListsAt, StepsAt, UnitStandsAt, UnitStepsAt};
 ghost use Rattle.search_steps.specs.Tables.{AreTables, HasTable};
 
 use crate::Case;
-use crate::listing::{Doing, Listing, steps_of};
-use crate::numbered::{PositionSteps, Step, StepLists, UnitSlot, UnitSteps};
+use crate::listing::{Doing, Listing, make_list};
+use crate::numbered::{PositionSteps, StepLists, UnitSlot, UnitSteps};
 use crate::stepping::bare_steps;
 use crate::tables::{PositionTable, Tables};
 use crate::unit_spots::{add_place, find_unit_steps, unit_at};
 use fare_law::Mem;
 use residual_table::ResidualParts;
 use std::alloc::Global;
+
+/// So many lists of open units, and steps of them, have room from the first on: what isn't written takes no memory, and long
+/// lists needn't be copied as they grow.
+const MANY: usize = 16_384;
 
 impl StepLists {
     /// Where the lists of a position stand. They are made where they aren't known.
@@ -107,11 +112,47 @@ impl StepLists {
         if let Some(found) = known {
             return Ok(found);
         }
-        let steps = self.made_unit(alloc, case, tables, at, key)?;
-        let end = self.units.len();
+        self.make_unit(alloc, case, tables, at, key)?;
         add_place(alloc, &mut self.unit_places, self.units.as_slice(), &key)?;
-        self.units.push(steps)?;
-        Ok(end)
+        self.add_made(key)
+    }
+
+    /// Adds the list that was made, of an open unit, and tells where it stands.
+    fn add_made(&mut self, key: UnitSlot) -> Result<usize, Mem>
+        requires { key.slot ≢ 0 }
+        ensures numbers { self.new.numbers ≡ self.old.numbers }
+        ensures positions { self.new.positions.items ≡ self.old.positions.items }
+        ensures stays { KeepsNumbers self.old.units.items self.new.units.items }
+        ensures right { (q : Asked) (ts : Items Table) → AreStepLists q ts self.old → IsUnitList q self.old.numbers ts key self.old.made.items → AreStepLists q ts self.new }
+        ensures found { IfOk result (UnitStandsAt self.new.units.items key.place key.slot) }
+    {
+        self.have_room()?;
+        let at = self.units.len();
+        let begin = self.unit_steps.len();
+        self.unit_steps.extend_from_slice(self.made.as_slice())?;
+        let end = self.unit_steps.len();
+        self.units.push(UnitSteps {
+            place: key.place,
+            slot: key.slot,
+            begin,
+            end,
+        })?;
+        Ok(at)
+    }
+
+    /// Has room for many lists of open units before the first of them stands.
+    fn have_room(&mut self) -> Result<(), Mem>
+        ensures numbers { self.new.numbers ≡ self.old.numbers }
+        ensures positions { self.new.positions.items ≡ self.old.positions.items }
+        ensures units { self.new.units.items ≡ self.old.units.items }
+        ensures steps { self.new.unit_steps.items ≡ self.old.unit_steps.items }
+        ensures made { self.new.made.items ≡ self.old.made.items }
+    {
+        if self.units.is_empty() {
+            self.units.reserve(MANY)?;
+            self.unit_steps.reserve(MANY)?;
+        }
+        Ok(())
     }
 
     /// The lists of a position, which stand nowhere yet.
@@ -135,15 +176,15 @@ impl StepLists {
         position_steps(alloc, case, tables, &mut self.numbers, position)
     }
 
-    /// The list of an open unit, which stands nowhere yet.
-    fn made_unit(
+    /// Makes the list of an open unit, which stands nowhere yet.
+    fn make_unit(
         &mut self,
         alloc: Global,
         case: &Case,
         tables: &Tables,
         at: usize,
         key: UnitSlot,
-    ) -> Result<UnitSteps, Mem>
+    ) -> Result<(), Mem>
         requires lists { ListsAt self.old.positions.items at key.place }
         requires request { IsRequest case.now.request.now }
         requires slot { HasSlot self.old.numbers.units key.slot }
@@ -155,12 +196,22 @@ impl StepLists {
         ensures grows { Grows self.old.numbers self.new.numbers }
         ensures positions { self.new.positions.items ≡ self.old.positions.items }
         ensures stays { KeepsNumbers self.old.units.items self.new.units.items }
-        ensures steps { IfOk result (AreUnitSteps case.now.request.now self.new.numbers tables.now.kept.items) }
-        ensures place { IfOk result (λ s. s.place ≡ key.place) }
-        ensures slot { IfOk result (λ s. s.slot ≡ key.slot) }
+        ensures made { OnOk result (IsUnitList case.now.request.now self.new.numbers tables.now.kept.items key self.new.made.items) }
     {
-        let bare = self.positions[at].bare.as_slice();
-        unit_steps(alloc, case, tables, &mut self.numbers, bare, key)
+        let Some(unit) = self.numbers.unit_in(key.slot) else {
+            unreachable!()
+        };
+        let table = &tables.kept[key.place];
+        let listing = listing(case, table, Doing::Joining(unit));
+        self.made.clear();
+        make_list(
+            alloc,
+            &mut self.made,
+            &mut self.numbers,
+            &listing,
+            table.entries.as_slice(),
+            self.positions[at].bare.as_slice(),
+        )
     }
 }
 
@@ -186,10 +237,12 @@ fn position_steps(
     let table = &tables.kept[place];
     let entries = table.entries.as_slice();
     let bare = bare_steps(alloc, numbers, entries)?;
-    let alone = listing(case, table, Doing::Alone);
-    let alone = steps_of(alloc, numbers, &alone, entries, bare.as_slice())?;
-    let opening = listing(case, table, Doing::Opening);
-    let opening = steps_of(alloc, numbers, &opening, entries, bare.as_slice())?;
+    let mut alone = Vec::new(alloc);
+    let doing = listing(case, table, Doing::Alone);
+    make_list(alloc, &mut alone, numbers, &doing, entries, bare.as_slice())?;
+    let mut opening = Vec::new(alloc);
+    let doing = listing(case, table, Doing::Opening);
+    make_list(alloc, &mut opening, numbers, &doing, entries, bare.as_slice())?;
     Ok(PositionSteps {
         position,
         place,
@@ -207,42 +260,6 @@ fn listing(case: &Case, table: &PositionTable, doing: Doing) -> Listing
         doing,
         begin: table.at.place,
         sale: case.request.sale,
-    }
-}
-
-/// The list of an open unit by numbers.
-fn unit_steps(
-    alloc: Global,
-    case: &Case,
-    tables: &Tables,
-    numbers: &mut ResidualParts,
-    bare: &[Step],
-    key: UnitSlot,
-) -> Result<UnitSteps, Mem>
-    requires request { IsRequest case.now.request.now }
-    requires slot { HasSlot numbers.old.units key.slot }
-    requires is_open { key.slot ≢ 0 }
-    requires place { HasTable tables.now.kept.items key.place }
-    requires tables { AreTables case.now.book.now case.now.request.now tables.now }
-    requires bare { (t : Table) → slice_get tables.now.kept.items key.place ≡ Some t → AreBare numbers.old t.entries bare.now }
-    ensures grows { Grows numbers.old numbers.new }
-    ensures steps { IfOk result (AreUnitSteps case.now.request.now numbers.new tables.now.kept.items) }
-    ensures place { IfOk result (λ s. s.place ≡ key.place) }
-    ensures slot { IfOk result (λ s. s.slot ≡ key.slot) }
-{
-    match numbers.unit_in(key.slot) {
-        Some(unit) => {
-            let table = &tables.kept[key.place];
-            let listing = listing(case, table, Doing::Joining(unit));
-            let entries = table.entries.as_slice();
-            let steps = steps_of(alloc, numbers, &listing, entries, bare)?;
-            Ok(UnitSteps {
-                place: key.place,
-                slot: key.slot,
-                steps,
-            })
-        }
-        None => unreachable!(),
     }
 }
 

@@ -1,19 +1,19 @@
-use Rattle.std.proofs.Common.{sym, subst}
+use Rattle.std.proofs.Common.{slice_range, subst, sym}
 use Rattle.std.proofs.lemmas.Result.{on_ok_weaker}
+use Rattle.search_steps.specs.declared.numbered.UnitSteps.{UnitSteps}
 use Rattle.search_steps.specs.Giving.{UnitBy}
 use Rattle.search_steps.specs.Numbers.{AddsAll}
-use Rattle.search_steps.specs.Placed.{AddsOfUnit, MayStand}
+use Rattle.search_steps.specs.Placed.{AddsOfUnit}
 use Rattle.search_steps.proofs.ListsByNumber.{got_there}
 use Rattle.search_steps.proofs.keyed.add_first.Goals as goal
 
 pub returns-in-Some : goal.returns-in-Some
 returns-in-Some c =
+    let l = c.args.lists.now in
+    let s = c.index-unit.result.now in
+    let old = c.args.found.now.items in
+    let new = c.add_of_first.new.found.items in
     on_ok_weaker c.add_of_first.result
-    (λ g. subst (λ at. AddsOfUnit (λ r. UnitBy r 0) c.args.key c.args.units.now at c.args.found.now.items c.add_of_first.new.found.items) (sym c.in-Some.is) (λ u e. subst (λ z. AddsAll (λ r. UnitBy r 0) c.args.key z.steps.items c.args.found.now.items c.add_of_first.new.found.items) (got_there c.args.units.now c.in-Some.at c.index-units-at.result u c.index-units-at.is e)
-    (subst (λ xs. AddsAll (λ r. UnitBy r 0) c.args.key xs c.args.found.now.items c.add_of_first.new.found.items) c.as_slice.ensures.value g))) c.add_of_first.ensures
-
-pub bounds-units-at : goal.bounds-units-at
-bounds-units-at c = (subst (MayStand c.args.units.now c.args.key.first) c.in-Some.is c.requires.there).0
-
-pub add_of_first-requires-clause-is_open : goal.add_of_first-requires-clause-is_open
-add_of_first-requires-clause-is_open c = (subst (MayStand c.args.units.now c.args.key.first) c.in-Some.is c.requires.there).1
+    (λ g. subst (λ at. AddsOfUnit (λ r. UnitBy r 0) c.args.key l at old new) (sym c.in-Some.is)
+    (λ u e. subst (λ (z : UnitSteps). AddsAll (λ r. UnitBy r 0) c.args.key (slice_range l.unit_steps.items z.begin z.end) old new) (got_there l.units.items c.in-Some.at s u c.index-unit.ensures e)
+    (subst (λ all. AddsAll (λ r. UnitBy r 0) c.args.key (slice_range all s.begin s.end) old new) c.deref.ensures.value g))) c.add_of_first.ensures

@@ -1,15 +1,14 @@
 use Rattle.std.proofs.Common.{[], true, subst}
-use Rattle.search_steps.specs.Giving.{LeftBy, OpenedBy, UnitBy}
+use Rattle.search_steps.specs.Giving.{LeftBy, OpenedBy}
 use Rattle.search_steps.specs.Numbers.{AddsAll}
-use Rattle.search_steps.specs.Placed.{AddsOfUnit}
-use Rattle.search_steps.proofs.ListsByNumber.{got_there, may_stand_in}
+use Rattle.search_steps.proofs.ListsByNumber.{got_there, may_stand}
 use Rattle.search_steps.proofs.keyed.given_by.Goals as goal
 
 pub add_first-requires-clause-there : goal.add_first-requires-clause-there
-add_first-requires-clause-there c = may_stand_in c.as_slice-3.result.now c.args.lists.now.units.items _ c.args.key.first c.args.placed.now.first c.as_slice-3.ensures.value c.requires.placed.first
+add_first-requires-clause-there c = may_stand c.args.lists.now _ c.args.key.first c.args.placed.now.first c.requires.units c.requires.placed.first
 
 pub add_second-requires-clause-there : goal.add_second-requires-clause-there
-add_second-requires-clause-there c = may_stand_in c.as_slice-4.result.now c.args.lists.now.units.items _ c.args.key.second c.args.placed.now.second c.as_slice-4.ensures.value c.requires.placed.second
+add_second-requires-clause-there c = may_stand c.args.lists.now _ c.args.key.second c.args.placed.now.second c.requires.units c.requires.placed.second
 
 pub returns : goal.returns
 returns c =
@@ -27,6 +26,6 @@ returns c =
       opening = λ u e.
           subst (λ z. AddsAll OpenedBy k z.opening.items c.add_alone.new.found.items c.add_opening.new.found.items) (got_there l.positions.items p.at s u c.index-steps.ensures e)
           (subst (λ xs. AddsAll OpenedBy k xs c.add_alone.new.found.items c.add_opening.new.found.items) c.as_slice-2.ensures.value c.in_ok-add_opening.ensures);
-      first = subst (λ us. AddsOfUnit (λ r. UnitBy r 0) k us p.first c.add_opening.new.found.items c.add_first.new.found.items) c.as_slice-3.ensures.value c.in_ok-add_first.ensures;
-      second = subst (λ us. AddsOfUnit (λ r. UnitBy r 1) k us p.second c.add_first.new.found.items c.add_second.new.found.items) c.as_slice-4.ensures.value c.in_ok-add_second.ensures;
+      first = c.in_ok-add_first.ensures;
+      second = c.in_ok-add_second.ensures;
     }

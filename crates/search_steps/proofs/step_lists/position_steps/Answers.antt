@@ -10,42 +10,42 @@ use Rattle.search_steps.proofs.Kept.{has_table, table_is, table_there_at}
 use Rattle.search_steps.proofs.ListsByNumber.{bare_stay, grows_on, marks_stay}
 use Rattle.search_steps.proofs.step_lists.position_steps.Goals as goal
 
-pub steps_of-requires-clause-sale : goal.steps_of-requires-clause-sale
-steps_of-requires-clause-sale c = subst (λ (l : Listing). IsCalendarDay l.sale) (sym c.listing-alone.ensures) c.requires.request.sale
+pub make_list-requires-clause-sale : goal.make_list-requires-clause-sale
+make_list-requires-clause-sale c = subst (λ (l : Listing). IsCalendarDay l.sale) (sym c.listing-doing.ensures) c.requires.request.sale
 
-pub steps_of-requires-clause-unit : goal.steps_of-requires-clause-unit
-steps_of-requires-clause-unit c = subst (λ (l : Listing). KeepsUnit l.doing) (sym c.listing-alone.ensures) tt
+pub make_list-requires-clause-unit : goal.make_list-requires-clause-unit
+make_list-requires-clause-unit c = subst (λ (l : Listing). KeepsUnit l.doing) (sym c.listing-doing.ensures) tt
 
-pub steps_of-requires-clause-within : goal.steps_of-requires-clause-within
-steps_of-requires-clause-within c =
+pub make_list-requires-clause-within : goal.make_list-requires-clause-within
+make_list-requires-clause-within c =
     let ts = c.find.new.self.kept.items in
     let found = table_is c.args.case.now.book.now c.args.case.now.request.now ts c.in_ok-place.place c.index-table.result.now c.in_ok-place.ensures.right.tables (has_table ts _ c.in_ok-place.place c.in_ok-place.ensures.found) c.index-table.ensures in
     subst (Each EntryWithin) (sym c.as_slice-entries.ensures) found.1.within
 
-pub steps_of-requires-2-clause-sale : goal.steps_of-requires-2-clause-sale
-steps_of-requires-2-clause-sale c = subst (λ (l : Listing). IsCalendarDay l.sale) (sym c.listing-opening.ensures) c.requires.request.sale
+pub make_list-requires-2-clause-sale : goal.make_list-requires-2-clause-sale
+make_list-requires-2-clause-sale c = subst (λ (l : Listing). IsCalendarDay l.sale) (sym c.listing-doing-2.ensures) c.requires.request.sale
 
-pub steps_of-requires-2-clause-unit : goal.steps_of-requires-2-clause-unit
-steps_of-requires-2-clause-unit c = subst (λ (l : Listing). KeepsUnit l.doing) (sym c.listing-opening.ensures) tt
+pub make_list-requires-2-clause-unit : goal.make_list-requires-2-clause-unit
+make_list-requires-2-clause-unit c = subst (λ (l : Listing). KeepsUnit l.doing) (sym c.listing-doing-2.ensures) tt
 
-pub steps_of-requires-2-clause-within : goal.steps_of-requires-2-clause-within
-steps_of-requires-2-clause-within c =
+pub make_list-requires-2-clause-within : goal.make_list-requires-2-clause-within
+make_list-requires-2-clause-within c =
     let ts = c.find.new.self.kept.items in
     let found = table_is c.args.case.now.book.now c.args.case.now.request.now ts c.in_ok-place.place c.index-table.result.now c.in_ok-place.ensures.right.tables (has_table ts _ c.in_ok-place.place c.in_ok-place.ensures.found) c.index-table.ensures in
     subst (Each EntryWithin) (sym c.as_slice-entries.ensures) found.1.within
 
-pub steps_of-requires-2-clause-bare : goal.steps_of-requires-2-clause-bare
-steps_of-requires-2-clause-bare c =
+pub make_list-requires-2-clause-bare : goal.make_list-requires-2-clause-bare
+make_list-requires-2-clause-bare c =
     let mid = c.bare_steps.new.numbers in
     let es = c.as_slice-entries.result.now in
-    bare_stay mid c.steps_of.new.numbers c.steps_of.ensures.grows es c.as_slice-2.result.now (subst (AreBare mid es) (sym c.as_slice-2.ensures.value) c.in_ok-bare.ensures.steps)
+    bare_stay mid c.make_list.new.numbers c.make_list.ensures.grows es c.as_slice-2.result.now (subst (AreBare mid es) (sym c.as_slice-2.ensures.value) c.in_ok-bare.ensures.steps)
 
 pub returns-clause-grows : goal.returns-clause-grows
 returns-clause-grows c =
     let old = c.args.numbers.now in
     let one = c.bare_steps.new.numbers in
-    let two = c.steps_of.new.numbers in
-    grows_on old two c.steps_of-2.new.numbers (grows_on old one two c.bare_steps.ensures.grows c.steps_of.ensures.grows) c.steps_of-2.ensures.grows
+    let two = c.make_list.new.numbers in
+    grows_on old two c.make_list-2.new.numbers (grows_on old one two c.bare_steps.ensures.grows c.make_list.ensures.grows) c.make_list-2.ensures.grows
 
 pub returns-clause-steps : goal.returns-clause-steps
 returns-clause-steps c =
@@ -54,22 +54,22 @@ returns-clause-steps c =
     let place = c.in_ok-place.place in
     let old = c.args.numbers.now in
     let one = c.bare_steps.new.numbers in
-    let two = c.steps_of.new.numbers in
-    let new = c.steps_of-2.new.numbers in
+    let two = c.make_list.new.numbers in
+    let new = c.make_list-2.new.numbers in
     let bare = c.in_ok-bare.bare.items in
-    let alone = c.in_ok-alone.alone.items in
-    let opening = c.in_ok-opening.opening.items in
+    let alone = c.make_list.new.steps.items in
+    let opening = c.make_list-2.new.steps.items in
     let found = table_is c.args.case.now.book.now c.args.case.now.request.now ts place t c.in_ok-place.ensures.right.tables (has_table ts _ place c.in_ok-place.ensures.found) c.index-table.ensures in
     let at = table_there_at ts c.position_at-at.result place t c.in_ok-place.ensures.found c.index-table.ensures in
-    let later = grows_on one two new c.steps_of.ensures.grows c.steps_of-2.ensures.grows in
+    let later = grows_on one two new c.make_list.ensures.grows c.make_list-2.ensures.grows in
     let grows = grows_on old one new c.bare_steps.ensures.grows later in
-    let by_alone = subst (λ l. AreStepsOf two (IsListed l) t.entries alone) c.listing-alone.ensures (subst (λ es. AreStepsOf two (IsListed c.listing-alone.result) es alone) c.as_slice-entries.ensures c.in_ok-alone.ensures.steps) in
-    let by_opening = subst (λ l. AreStepsOf new (IsListed l) t.entries opening) c.listing-opening.ensures (subst (λ es. AreStepsOf new (IsListed c.listing-opening.result) es opening) c.as_slice-entries.ensures c.in_ok-opening.ensures.steps) in
+    let by_alone = subst (λ l. AreStepsOf two (IsListed l) t.entries alone) c.listing-doing.ensures (subst (λ es. AreStepsOf two (IsListed c.listing-doing.result) es alone) c.as_slice-entries.ensures c.in_ok-make_list.ensures.steps) in
+    let by_opening = subst (λ l. AreStepsOf new (IsListed l) t.entries opening) c.listing-doing-2.ensures (subst (λ es. AreStepsOf new (IsListed c.listing-doing-2.result) es opening) c.as_slice-entries.ensures c.in_ok-make_list-2.ensures.steps) in
     record {
       table = t;
       stands = found.0;
       at = grows.positions c.args.position t.at (c.position_at-at.ensures ∙ ap Some (sym at));
-      alone = marks_stay two new (IsAlone t.at.place c.args.case.now.request.now.sale) t.entries alone c.steps_of-2.ensures.grows by_alone;
+      alone = marks_stay two new (IsAlone t.at.place c.args.case.now.request.now.sale) t.entries alone c.make_list-2.ensures.grows by_alone;
       opening = by_opening;
       bare = bare_stay one new later t.entries bare (subst (λ es. AreBare one es bare) c.as_slice-entries.ensures c.in_ok-bare.ensures.steps);
     }

@@ -25,12 +25,12 @@ keyed_moves-requires g c =
 pub invariant_of-self : goal.invariant_of-self
 invariant_of-self g c =
     let s = c.self.inside in
-    (c.least_by.ensures.right, lists_stay s.case.request.now s.tables.kept.items c.least_by.new.tables.kept.items s.lists.numbers s.lists s.lists (grows_same s.lists.numbers) c.least_by.ensures.stays refl refl refl c.self.invariant.1)
+    (c.least_by.ensures.right, lists_stay s.case.request.now s.tables.kept.items c.least_by.new.tables.kept.items s.lists.numbers s.lists s.lists (grows_same s.lists.numbers) c.least_by.ensures.stays refl refl refl refl c.self.invariant.1)
 
 pub invariant_of-self-2 : goal.invariant_of-self-2
 invariant_of-self-2 g c =
     let s = c.self.inside in
-    (c.in_ok-found.ensures.right, lists_stay s.case.request.now s.tables.kept.items c.least_by.new.tables.kept.items s.lists.numbers s.lists s.lists (grows_same s.lists.numbers) c.in_ok-found.ensures.stays refl refl refl c.self.invariant.1)
+    (c.in_ok-found.ensures.right, lists_stay s.case.request.now s.tables.kept.items c.least_by.new.tables.kept.items s.lists.numbers s.lists s.lists (grows_same s.lists.numbers) c.in_ok-found.ensures.stays refl refl refl refl c.self.invariant.1)
 
 pub returns-clause-least : goal.returns-clause-least
 returns-clause-least g c =

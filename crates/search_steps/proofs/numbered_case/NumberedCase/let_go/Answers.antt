@@ -16,6 +16,6 @@ invariant_of-self c =
       },
       record {
         positions = subst (Each (ArePositionSteps q l.numbers ts)) (sym c.let_go.ensures.positions) tt;
-        units = subst (Each (AreUnitSteps q l.numbers ts)) (sym c.let_go.ensures.units) tt;
+        units = subst (Each (AreUnitSteps q l.numbers ts l.unit_steps.items)) (sym c.let_go.ensures.units) tt;
       },
     )

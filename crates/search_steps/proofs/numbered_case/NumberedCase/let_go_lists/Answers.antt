@@ -11,6 +11,6 @@ invariant_of-self c =
       c.self.invariant.0,
       record {
         positions = subst (Each (ArePositionSteps q l.numbers ts)) (sym c.let_go.ensures.positions) tt;
-        units = subst (Each (AreUnitSteps q l.numbers ts)) (sym c.let_go.ensures.units) tt;
+        units = subst (Each (AreUnitSteps q l.numbers ts l.unit_steps.items)) (sym c.let_go.ensures.units) tt;
       },
     )

@@ -16,6 +16,6 @@ invariant_of-result c =
       },
       record {
         positions = subst (Each (ArePositionSteps q l.numbers ts)) (sym c.new-2.ensures.positions) tt;
-        units = subst (Each (AreUnitSteps q l.numbers ts)) (sym c.new-2.ensures.units) tt;
+        units = subst (Each (AreUnitSteps q l.numbers ts l.unit_steps.items)) (sym c.new-2.ensures.units) tt;
       },
     )

@@ -4,7 +4,7 @@ use Rattle.law_lemmas.proofs.Pairs.{matched_long}
 use Rattle.search_steps.specs.Listing.{IsListed}
 use Rattle.search_steps.specs.Numbers.{AreStepsOf, IsBare}
 use Rattle.search_steps.proofs.ListsByNumber.{bare_at, bare_stay, grows_on}
-use Rattle.search_steps.proofs.listing.all_steps.Goals as goal
+use Rattle.search_steps.proofs.listing.add_all.Goals as goal
 
 pub bounds-bare-at : goal.bounds-bare-at
 bounds-bare-at c =

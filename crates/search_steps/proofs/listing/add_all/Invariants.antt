@@ -2,7 +2,7 @@ use Rattle.std.proofs.Common.{take}
 use Rattle.residual_table.specs.Keys.{Grows}
 use Rattle.search_steps.specs.Listing.{IsListed}
 use Rattle.search_steps.specs.Numbers.{AreStepsOf}
-use Rattle.search_steps.proofs.listing.all_steps.Given as goal
+use Rattle.search_steps.proofs.listing.add_all.Given as goal
 
 abbrev pub invariant-loop-at : goal.invariant-loop-at
 invariant-loop-at l = record {
