@@ -1,5 +1,5 @@
 -- Numbers of one digit, read from their bytes and added as bytes.
-use Rattle.std.proofs.Common.{◌≡◌, ◌≤◌, ◌+◌, ◌-◌, ℕ, List, [], ◌∷◌, ◌++◌, Some, append_assoc, ap, sym, ◌∙◌, arith, length, slice_index_or}
+use Rattle.std.proofs.Common.{◌≡◌, ◌≤◌, ◌+◌, ◌-◌, ℕ, List, [], ◌∷◌, ◌++◌, Some, ap, get_or, refl, sym, ◌∙◌, arith, length, slice_index_or}
 use Rattle.std.specs.Fmt.{decimal}
 use Rattle.std.specs.Int.{IsInRange}
 use Rattle.std.proofs.lemmas.Fmt.{decimal_digit}
@@ -18,8 +18,12 @@ digit_word k (b ∷ []) one h = digit_read k b h
 digit_word k (b ∷ c ∷ word) one h = absurd (omega (arith, one))
 
 -- two numbers of one digit between separators, and a word after them
-pub digits_added : (old middle new word : List ℕ) (one other : ℕ) → one ≤ 2 → other ≤ 3 → middle ≡ old ++ 32 ∷ (48 + one) ∷ 58 ∷ (48 + other) ∷ 58 ∷ []
-    → new ≡ middle ++ word → new ≡ old ++ 32 ∷ (decimal one ++ 58 ∷ (decimal other ++ 58 ∷ word))
-digits_added old middle new word one other low lower is more =
-    rw (decimal_digit one (omega (arith, low)), decimal_digit other (omega (arith, lower)))
-    (more ∙ ap (λ t. t ++ word) is ∙ append_assoc old (32 ∷ (48 + one) ∷ 58 ∷ (48 + other) ∷ 58 ∷ []) word)
+pub digits_added : (old new word : List ℕ) (one other : ℕ) → one ≤ 2 → other ≤ 3 → new ≡ old ++ 32 ∷ (48 + one) ∷ 58 ∷ (48 + other) ∷ 58 ∷ word → new ≡ old ++ 32 ∷ (decimal one ++ 58 ∷ (decimal other ++ 58 ∷ word))
+digits_added old new word one other low lower is = rw (decimal_digit one (omega (arith, low)), decimal_digit other (omega (arith, lower))) is
+
+-- the letters of a word of two
+pub two_letters : (word : List ℕ) → length word ≡ 2 → get_or word 0 0 ∷ get_or word 1 0 ∷ [] ≡ word
+two_letters [] two = absurd (omega (arith, two))
+two_letters (a ∷ []) two = absurd (omega (arith, two))
+two_letters (a ∷ b ∷ []) two = refl
+two_letters (a ∷ b ∷ c ∷ word) two = absurd (omega (arith, two))

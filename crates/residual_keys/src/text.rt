@@ -99,19 +99,15 @@ pub fn push_part(text: &mut Vec<u8>, part: &TicketPart) -> Result<(), Mem>
     requires { PartKept part.now }
     ensures { OnOk result (text.new.items ≡ text.old.items ++ 32 ∷ Text.part_text part.now) }
 {
-    let numbers = [b' ', b'0' + part.units, b':', b'0' + part.ends, b':'];
-    text.extend_from_slice(&numbers)?;
-    push_carriers(text, &part.carrier)
-}
-
-// Adds the word of the carriers.
-fn push_carriers(text: &mut Vec<u8>, carriers: &CarrierMark) -> Result<(), Mem>
-    ensures { OnOk result (text.new.items ≡ text.old.items ++ Text.carriers_word carriers.now) }
-{
-    match carriers {
-        CarrierMark::NotYet => text.push(b'-')?,
-        CarrierMark::One(carrier) => text.extend_from_slice(&carrier.0)?,
-        CarrierMark::Mixed => text.push(b'*')?,
+    let units = b'0' + part.units;
+    let ends = b'0' + part.ends;
+    match part.carrier {
+        CarrierMark::NotYet => text.extend_from_slice(&[b' ', units, b':', ends, b':', b'-'])?,
+        CarrierMark::One(carrier) => {
+            let [first, second] = carrier.0;
+            text.extend_from_slice(&[b' ', units, b':', ends, b':', first, second])?;
+        }
+        CarrierMark::Mixed => text.extend_from_slice(&[b' ', units, b':', ends, b':', b'*'])?,
     }
     Ok(())
 }

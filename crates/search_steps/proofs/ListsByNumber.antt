@@ -320,7 +320,7 @@ pub steps_more : (q : Request) (ts : List PositionTable) (l m : StepLists) (more
 steps_more q ts l m more e p n a h = record {
   positions = subst (λ z. Each (ArePositionSteps q z ts) m.positions.items) (sym e) (subst (Each (ArePositionSteps q l.numbers ts)) (sym p) h.positions);
   units = subst (λ z. Each (AreUnitSteps q z ts m.unit_steps.items) m.units.items) (sym e) (subst (λ all. Each (AreUnitSteps q l.numbers ts all) m.units.items) (sym a)
-  (subst (Each (AreUnitSteps q l.numbers ts (l.unit_steps.items ++ more))) (sym n) (each_weaker (AreUnitSteps q l.numbers ts l.unit_steps.items) (AreUnitSteps q l.numbers ts (l.unit_steps.items ++ more)) (unit_beside q l.numbers ts l.unit_steps.items more) l.units.items h.units)));
+      (subst (Each (AreUnitSteps q l.numbers ts (l.unit_steps.items ++ more))) (sym n) (each_weaker (AreUnitSteps q l.numbers ts l.unit_steps.items) (AreUnitSteps q l.numbers ts (l.unit_steps.items ++ more)) (unit_beside q l.numbers ts l.unit_steps.items more) l.units.items h.units)));
 }
 
 -- one more of an open unit, whose steps came behind
@@ -337,7 +337,7 @@ unit_more q ts l m steps s e p a n from to k h =
     record {
       positions = subst (λ z. Each (ArePositionSteps q z ts) m.positions.items) (sym e) (subst (Each (ArePositionSteps q l.numbers ts)) (sym p) h.positions);
       units = subst (λ z. Each (AreUnitSteps q z ts m.unit_steps.items) m.units.items) (sym e) (subst (λ xs. Each (AreUnitSteps q l.numbers ts xs) m.units.items) (sym a)
-      (subst (Each is) (sym n) (each_more is l.units.items s (each_weaker (AreUnitSteps q l.numbers ts l.unit_steps.items) is (unit_beside q l.numbers ts l.unit_steps.items steps) l.units.items h.units) own)));
+          (subst (Each is) (sym n) (each_more is l.units.items s (each_weaker (AreUnitSteps q l.numbers ts l.unit_steps.items) is (unit_beside q l.numbers ts l.unit_steps.items steps) l.units.items h.units) own)));
     }
 
 -- what was added stands at the end

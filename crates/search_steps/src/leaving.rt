@@ -11,6 +11,7 @@ use residual_keys::{TicketPart, one_more, part_allows, with_end};
 use residual_table::ResidualKey;
 
 /// Adds what a step leaves with open units that have these slots, where it leaves something.
+#[inline(always)]
 pub fn add_left(
     found: &mut Vec<Outcome<ResidualKey>>,
     key: ResidualKey,

@@ -242,7 +242,14 @@ fn position_steps(
     make_list(alloc, &mut alone, numbers, &doing, entries, bare.as_slice())?;
     let mut opening = Vec::new(alloc);
     let doing = listing(case, table, Doing::Opening);
-    make_list(alloc, &mut opening, numbers, &doing, entries, bare.as_slice())?;
+    make_list(
+        alloc,
+        &mut opening,
+        numbers,
+        &doing,
+        entries,
+        bare.as_slice(),
+    )?;
     Ok(PositionSteps {
         position,
         place,
