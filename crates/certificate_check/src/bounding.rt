@@ -56,7 +56,9 @@ fn is_right(
     ensures later { IsLater steps.old steps.new }
 {
     let outcomes = steps.outcomes(alloc, key)?;
-    Ok(all_allow(steps, table, row, outcomes.as_slice()))
+    let right = all_allow(steps, table, row, outcomes.as_slice());
+    steps.take_back(outcomes);
+    Ok(right)
 }
 
 /// Whether each outcome allows a row's bound.

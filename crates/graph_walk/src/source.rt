@@ -1,5 +1,5 @@
 //! Steps from one state to others.
-ghost use Rattle.std.specs.Prelude.{ℕ, Option as Maybe, IfOk, OnOk};
+ghost use Rattle.std.specs.Prelude.{◌≡◌, ℕ, Option as Maybe, IfOk, OnOk};
 ghost use Rattle.graph_walk.specs.Steps.{AreOutcomes, KeepsStates, LeadToLive, TellsStates, outcomes_of};
 
 use crate::outcome::Outcome;
@@ -40,6 +40,10 @@ pub trait Steps<K: Eq, C> {
         ensures keeps { OnOk result (KeepsStates (live self.old) (live self.new) (state self.old) (state self.new)) }
         ensures asked { OnOk result (known context.now self.new (state self.old key)) }
         ensures later { later self.old self.new };
+
+    /// Takes back a list that it gave, so that its room may serve for another one.
+    fn take_back(&mut self, outcomes: Vec<Outcome<K>>)
+        ensures { self.new ≡ self.old };
 
     ghost same: { (s : Self) → later s s };
 

@@ -115,6 +115,7 @@ fn least_of_new<K: Eq + Copy, C, S: Steps<K, C>, N: Spread<K>>(
         };
         least = lesser(least, rest, outcome.price);
     }
+    steps.take_back(outcomes);
     put(rows, place, key, least)?;
     Ok(least)
 }

@@ -41,8 +41,10 @@ struct KeptParts {
     alloc: Global,
     /// The last position.
     position: Option<ReadPosition>,
-    /// At each spot the last open unit that had it.
-    units: Vec<Option<ReadUnit>>,
+    /// The open units that had a spot last.
+    units: Vec<ReadUnit>,
+    /// At each spot the place of its open unit, or none that there is.
+    places: Vec<u32>,
     /// The spot of the last one that was the first of two: the next one is mostly the same.
     first: usize,
 }
@@ -60,17 +62,15 @@ pub struct ResidualReader {
 impl ResidualReader {
     /// A reader that keeps nothing yet.
     pub fn new(alloc: Global) -> Result<ResidualReader, Mem> {
-        let mut units = Vec::with_capacity(alloc, SPOTS)?;
-        for _ in 0..SPOTS {
-            units.push(None)?;
-        }
+        let places = Vec::from_elem(alloc, u32::MAX, SPOTS)?;
         let parts = Parts::blank();
         let last = Residual::new(parts.at, parts.first, parts.second, parts.part);
         Ok(ResidualReader {
             kept: KeptParts {
                 alloc,
                 position: None,
-                units,
+                units: Vec::new(alloc),
+                places,
                 first: 0,
             },
             parts,
@@ -116,9 +116,28 @@ impl KeptParts {
         let Ok(text) = Vec::from_slice(self.alloc, text) else {
             return;
         };
-        if let Some(place) = self.units.get_mut(spot) {
-            *place = Some(ReadUnit { text, unit: *unit });
+        self.put_unit(spot, ReadUnit { text, unit: *unit });
+    }
+
+    // Puts an open unit at a spot, where there is memory, in the place of the one that had it.
+    fn put_unit(&mut self, spot: usize, read: ReadUnit) {
+        let Some(place) = self.places.get_mut(spot) else {
+            return;
+        };
+        if let Some(known) = self.units.get_mut(*place as usize) {
+            *known = read;
+            return;
         }
+        let next = self.units.len();
+        if self.units.push(read).is_ok() {
+            *place = u32::try_from(next).unwrap_or(u32::MAX);
+        }
+    }
+
+    // The open unit that had a spot last.
+    fn unit_at(&self, spot: usize) -> Option<&ReadUnit> {
+        let place = *self.places.get(spot)?;
+        self.units.get(place as usize)
     }
 }
 
@@ -140,7 +159,7 @@ impl PartReader for KeptParts {
 
     fn first_of<'a>(&mut self, text: &'a [u8], first: &mut Option<OpenUnit>) -> Option<&'a [u8]> {
         cuts_tell();
-        if let Some(Some(read)) = self.units.get(self.first) {
+        if let Some(read) = self.unit_at(self.first) {
             if let Some(other) = after_slash(text, read.text.as_slice()) {
                 *first = Some(read.unit);
                 return Some(other);
@@ -154,7 +173,7 @@ impl PartReader for KeptParts {
 
     fn unit_of(&mut self, text: &[u8], unit: &mut Option<OpenUnit>) {
         let spot = text_spot(text);
-        if let Some(Some(read)) = self.units.get(spot) {
+        if let Some(read) = self.unit_at(spot) {
             if read.text.as_slice() == text {
                 *unit = Some(read.unit);
                 return;

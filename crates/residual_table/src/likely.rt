@@ -43,7 +43,7 @@ impl ResidualParts {
         self.position(*at)
     }
 
-    /// The slot of an open unit, which may be this one, or of none.
+    /// The slot of an open unit, which may be this one or the one after it, or of none.
     fn slot_like(&mut self, unit: &Option<OpenUnit>, like: u32) -> Result<u32, Mem>
         requires { IfSome unit.now UnitInRanges }
         ensures slot { IfOk result (λ n. IsSlot self.new.units n unit.now) }
@@ -54,6 +54,9 @@ impl ResidualParts {
         };
         if like > 0 && self.is_unit(like - 1, unit) {
             return Ok(like);
+        }
+        if like < u32::MAX && self.is_unit(like, unit) {
+            return Ok(like + 1);
         }
         let number = self.unit(unit)?;
         Ok(number + 1)

@@ -29,13 +29,15 @@ pub struct Placed {
     pub second: Option<usize>,
 }
 
-/// The outcomes of a residual by its key. A position whose table is empty has none, so that no list is asked for there.
+/// The outcomes of a residual by its key, in the room of another list. A position whose table is empty has none, so that no
+/// list is asked for there.
 pub fn outcomes_of_key(
     alloc: Global,
     case: &Case,
     tables: &mut Tables,
     lists: &mut StepLists,
     key: ResidualKey,
+    room: Vec<Outcome<ResidualKey>>,
 ) -> Result<Vec<Outcome<ResidualKey>>, Mem>
     requires request { IsRequest case.now.request.now }
     requires live { IsLive lists.old.numbers key }
@@ -53,7 +55,7 @@ pub fn outcomes_of_key(
         return Ok(Vec::new(alloc));
     }
     let placed = placed_at(alloc, case, tables, lists, key, at)?;
-    given_by(alloc, lists, key, &placed)
+    given_by(lists, key, &placed, room)
 }
 
 /// Where the lists of a residual stand. Those of its open units are made where they aren't known.
@@ -82,12 +84,12 @@ fn placed_at(
     Ok(Placed { at, first, second })
 }
 
-/// What the lists that stand there give.
+/// What the lists that stand there give, in the room of another list.
 fn given_by(
-    alloc: Global,
     lists: &StepLists,
     key: ResidualKey,
     placed: &Placed,
+    room: Vec<Outcome<ResidualKey>>,
 ) -> Result<Vec<Outcome<ResidualKey>>, Mem>
     requires part { PartKept key.part }
     requires units { Each (StandsIn lists.now.unit_steps.items) lists.now.units.items }
@@ -95,7 +97,9 @@ fn given_by(
     ensures { IfOk result (λ v. AddsFour lists.now key placed.now v.items) }
 {
     let steps = &lists.positions[placed.at];
-    let mut found = Vec::with_capacity(alloc, room_for(lists, key, placed, steps))?;
+    let mut found = room;
+    found.clear();
+    found.reserve(room_for(lists, key, placed, steps))?;
     add_alone(&mut found, key, steps.alone.as_slice())?;
     add_opening(&mut found, key, steps.opening.as_slice())?;
     add_first(&mut found, lists, key, placed.first)?;

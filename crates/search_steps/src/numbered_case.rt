@@ -45,6 +45,8 @@ pub struct NumberedCase<'a> {
     case: Case<'a>,
     tables: Tables,
     lists: StepLists,
+    /// Lists of outcomes that were given back, each with its room.
+    spare: Vec<Vec<Outcome<ResidualKey>>>,
 }
 
 impl<'a> Model for NumberedCase<'a> {
@@ -68,6 +70,7 @@ impl<'a> NumberedCase<'a> {
             case,
             tables: Tables::new(alloc),
             lists: StepLists::new(alloc),
+            spare: Vec::new(alloc),
         }
     }
 
@@ -81,6 +84,7 @@ impl<'a> NumberedCase<'a> {
             case,
             tables: Tables::new(alloc),
             lists: StepLists::over(alloc, numbers),
+            spare: Vec::new(alloc),
         }
     }
 
@@ -151,7 +155,15 @@ impl<'a> NumberedCase<'a> {
         ensures live { IfOk result (λ v. LeadToLive (IsLive self.new.numbers) v.items) }
     {
         let case = self.case;
-        outcomes_of_key(alloc, &case, &mut self.tables, &mut self.lists, key)
+        let room = self.spare.pop().unwrap_or(Vec::new(alloc));
+        outcomes_of_key(alloc, &case, &mut self.tables, &mut self.lists, key, room)
+    }
+
+    /// Takes back a list that it gave, so that its room may serve for another one.
+    pub fn take_back(&mut self, outcomes: Vec<Outcome<ResidualKey>>)
+        ensures { self.new ≡ self.old }
+    {
+        let _ = self.spare.push(outcomes);
     }
 
     /// All residuals that are reached from that of a key, each once, with the least price of a run from it. The lists

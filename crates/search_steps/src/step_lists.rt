@@ -17,9 +17,10 @@ use fare_law::Mem;
 use residual_table::ResidualParts;
 use std::alloc::Global;
 
-/// So many lists of open units, and steps of them, have room from the first on: what isn't written takes no memory, and long
-/// lists needn't be copied as they grow.
+/// So many lists of open units have room from the first on, and so many steps of them: what isn't written takes no memory, and
+/// long lists needn't be copied as they grow.
 const MANY: usize = 16_384;
+const MANY_STEPS: usize = 65_536;
 
 impl StepLists {
     /// Where the lists of a position stand. They are made where they aren't known.
@@ -150,7 +151,7 @@ impl StepLists {
     {
         if self.units.is_empty() {
             self.units.reserve(MANY)?;
-            self.unit_steps.reserve(MANY)?;
+            self.unit_steps.reserve(MANY_STEPS)?;
         }
         Ok(())
     }

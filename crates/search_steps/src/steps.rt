@@ -151,6 +151,15 @@ impl<'a, O: OfferSource> SearchSteps<'a, O> {
         self.case.outcomes(alloc, key)
     }
 
+    /// Takes back a list that `outcomes` gave, so that its room may serve for another one.
+    pub fn take_back(&mut self, outcomes: Vec<Outcome<ResidualKey>>)
+        ensures same { self.new.case ≡ self.old.case }
+        ensures same_offers { self.new.offers.ghost_name ≡ self.old.offers.ghost_name }
+        ensures offers { self.new.offers.now ≡ self.old.offers.now }
+    {
+        self.case.take_back(outcomes);
+    }
+
     /// All residuals that are reached from the root's, each once, with the least price of a run from it.
     /// The source of offers stays as it is.
     pub fn reached(

@@ -46,6 +46,10 @@ impl<'a> Steps<ResidualKey, Case<'a>> for NumberedCase<'a> {
         }
     }
 
+    fn take_back(&mut self, outcomes: Vec<Outcome<ResidualKey>>) {
+        NumberedCase::take_back(self, outcomes);
+    }
+
     ghost same = { λ s. (refl, refl, record { positions = λ n x h. h; units = λ n x h. h }) };
 
     ghost further = { λ s t u a b. (b.0 ∙ a.0, b.1 ∙ a.1, record { positions = λ n x h. b.2.positions n x (a.2.positions n x h); units = λ n x h. b.2.units n x (a.2.units n x h) }) };

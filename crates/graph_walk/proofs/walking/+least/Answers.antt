@@ -4,7 +4,7 @@ use Rattle.std.proofs.lemmas.List.{take_all}
 use Rattle.fare_law.specs.Lists.{IsIn}
 use Rattle.graph_walk.specs.Walks.{states, Costs, LeastBy, Reached}
 use Rattle.graph_walk.specs.Walks.Reached.{here}
-use Rattle.graph_walk.specs.Steps.{AreLive, KeepsStates, TellsStates, lesser, outcome_of, outcomes_of, rows_of}
+use Rattle.graph_walk.specs.Steps.{AreLive, Good, KeepsStates, TellsStates, Walked, lesser, outcome_of, outcomes_of, rows_of}
 use Rattle.graph_walk.proofs.RowFacts.{as_many_rows, found, keeps_on, keeps_self, live_rows, live_set, missing, one_more_row, outcomes_snoc, row_in, rows_length, same_rows, sets, Sets}
 use Rattle.graph_walk.proofs.Chains.{added_last}
 use Rattle.graph_walk.proofs.Going.{Going, begins, above, least_of_run, good_here, walked_here}
@@ -299,7 +299,7 @@ least_of_new-returns-clause-walked g t c =
     let here_live = invariant.keeps key c.requires.live in
     let one = subst (λ y. Sets y least r (rows_of (state s) es2)) here_live.1 (subst (λ rows. Sets (state s key) least r (rows_of (state s) rows)) (sym c.in_ok-put.ensures.puts)
     (sets eq (live s) (state s) invariant.tells key least es here_live.0 invariant.alive ended.once)) in
-    walked_here L (known s0) (known s) x r0 r (rows_of (state s) es2) (outcomes_of (state s1) items) least c.in_ok-outcomes.ensures.outcomes ended one
+    subst (λ z. Walked L (known s0) (known z) x r0 (rows_of (state z) es2)) (sym c.take_back.ensures) (walked_here L (known s0) (known s) x r0 r (rows_of (state s) es2) (outcomes_of (state s1) items) least c.in_ok-outcomes.ensures.outcomes ended one)
 
 pub least_of_new-returns-clause-good : goal.least_of_new-returns-clause-good
 least_of_new-returns-clause-good g t c =
@@ -330,7 +330,7 @@ least_of_new-returns-clause-good g t c =
     let here_live = invariant.keeps key c.requires.live in
     let one = subst (λ y. Sets y least r (rows_of (state s) es2)) here_live.1 (subst (λ rows. Sets (state s key) least r (rows_of (state s) rows)) (sym c.in_ok-put.ensures.puts)
     (sets eq (live s) (state s) invariant.tells key least es here_live.0 invariant.alive ended.once)) in
-    good_here L (known s0) (known s) x r0 r (rows_of (state s) es2) (outcomes_of (state s1) items) least c.in_ok-outcomes.ensures.outcomes ended one
+    subst (λ z. Good L (known z) (rows_of (state z) es2) x) (sym c.take_back.ensures) (good_here L (known s0) (known s) x r0 r (rows_of (state s) es2) (outcomes_of (state s1) items) least c.in_ok-outcomes.ensures.outcomes ended one)
 
 pub least_of_new-returns-clause-least : goal.least_of_new-returns-clause-least
 least_of_new-returns-clause-least g t c =
@@ -426,4 +426,4 @@ least_of_new-returns-clause-alive g t c =
     let here_live = invariant.keeps key c.requires.live in
     let one = subst (λ y. Sets y least r (rows_of (state s) es2)) here_live.1 (subst (λ rows. Sets (state s key) least r (rows_of (state s) rows)) (sym c.in_ok-put.ensures.puts)
     (sets eq (live s) (state s) invariant.tells key least es here_live.0 invariant.alive ended.once)) in
-    subst (λ rows. AreLive (live s) rows) (sym c.in_ok-put.ensures.puts) (live_set eq (live s) key least es here_live.0 invariant.alive)
+    subst (λ z. AreLive (live z) es2) (sym c.take_back.ensures) (subst (λ rows. AreLive (live s) rows) (sym c.in_ok-put.ensures.puts) (live_set eq (live s) key least es here_live.0 invariant.alive))
