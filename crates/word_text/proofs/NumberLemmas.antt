@@ -1,15 +1,15 @@
 -- The digits that a number writes, and the number that digits write.
-use Rattle.std.proofs.Common.{cond, bytes_eq, ◌≡◌, ◌≢◌, ◌≤◌, ◌<◌, ◌^◌, ◌-◌, ◌&&◌, nat_le, ℕ, Bool, true, false, List, [], ◌∷◌, length, get_or, Result, Ok, Err, refl, ap, sym, ◌∙◌, subst, arith, inl, inr, eq-zero-or-pos, Option, None, Some}
-use Rattle.std.specs.Result.{result_ok}
+use Rattle.std.proofs.Common.{cond, bytes_eq, ◌≡◌, ◌≤◌, ◌<◌, ◌+◌, ◌*◌, ◌^◌, ◌-◌, ◌&&◌, nat_le, ℕ, suc, Bool, true, false, List, [], ◌∷◌, ◌++◌, length, take, get_or, refl, ap, sym, ◌∙◌, subst, arith, inl, inr, eq-zero-or-pos, Option, None, Some}
+use Rattle.std.proofs.Math.Seq.{take-suc}
+use Rattle.std.specs.Char.{digit_value}
 use Rattle.std.specs.Fmt.{decimal}
-use Rattle.std.specs.Str.Parse.{AllDigits, ParsesUnsigned, digits_value}
-use Rattle.std.specs.Str.{IsUtf8}
+use Rattle.std.specs.Str.Parse.{AllDigits, digits_value, digits_value_after}
 use Rattle.std.proofs.lemmas.Bool.{le-leb}
 use Rattle.std.proofs.lemmas.Bool.Decides.{nat_tests}
 use Rattle.std.proofs.lemmas.Slice.Eq.{bytes_eq-Decides}
-use Rattle.std.proofs.lemmas.Str.{IsUtf8-from_ascii}
-use Rattle.std.proofs.lemmas.Str.Parse.{IsNumeralModel, numerals_by_value, parse_plain, digit_at}
-use Rattle.std.proofs.lemmas.Fmt.{decimal-digits_value, digits_decimal, digits_value-decimal, decimal_nonempty, first_decimal, decimal_digit, IsAscii-decimal}
+use Rattle.std.proofs.lemmas.Str.{digit_value_digit}
+use Rattle.std.proofs.lemmas.Str.Parse.{IsNumeralModel, numerals_by_value, digit_at, digits_value-take-le}
+use Rattle.std.proofs.lemmas.Fmt.{decimal-digits_value, digits_decimal, digits_value-decimal, decimal_nonempty, first_decimal, decimal_digit}
 use Rattle.std.specs.Int.{IsInRange}
 use Rattle.fare_law.specs.Lists.{Each}
 use Rattle.word_text.specs.Laws.{DigitsAre, NumberTells}
@@ -50,11 +50,6 @@ begins n small = elim (eq-zero-or-pos n) [
   | inr more ↦ inl (omega (arith, first_decimal n more small), (digit_at (decimal n) 0 (digits_decimal decimal_model n small) (decimal_nonempty n small)).1)
 ]
 
--- no sign
-no_plus : (text : List ℕ) → BeginsAsNumber text → get_or text 0 0 ≢ 43
-no_plus text (inr zero) e = let k = ap (λ t. get_or t 0 0) zero in absurd (omega (arith, k, e))
-no_plus text (inl digit) e = absurd (omega (arith, digit, e))
-
 -- no leading zero
 alone : (text : List ℕ) → BeginsAsNumber text → get_or text 0 0 ≡ 48 → length text ≡ 1
 alone text (inr zero) e = ap length zero
@@ -64,22 +59,43 @@ alone text (inl digit) e = absurd (omega (arith, digit, e))
 pub begins_otherwise : (text : List ℕ) → (BeginsAsNumber text → ⊥) → None ≡ number_in (2 ^ 64 - 1) text
 begins_otherwise text other = sym (number_none (2 ^ 64 - 1) text (λ n h e. other (subst BeginsAsNumber (sym e) (begins n (omega (arith, h))))))
 
--- nor is one that isn't UTF-8
-pub not_text : (text : List ℕ) → (IsUtf8 text → ⊥) → None ≡ number_in (2 ^ 64 - 1) text
-not_text text other = sym (number_none (2 ^ 64 - 1) text (λ n h e. other (subst IsUtf8 (sym e) (IsUtf8-from_ascii (decimal n) (IsAscii-decimal n (omega (arith, h)))))))
-
--- what is parsed of a text that begins as a number does
-pub parsed : {E : Type 0} (text : List ℕ) (r : Result ℕ E) → BeginsAsNumber text → ParsesUnsigned 64 10 text r → result_ok r ≡ number_in (2 ^ 64 - 1) text
-parsed {E = E} text (Ok n) b p =
-    let h = parse_plain decimal_model {E = E} 64 text (Ok n) p (no_plus text b) in
-    let small : n < 2 ^ 64 = omega (arith, h.0.2, h.1) in
-    let digits : decimal n ≡ text = ap decimal h.1 ∙ decimal-digits_value decimal_model text h.0.0 h.0.1 (alone text b) (omega (arith, h.0.2)) in
-    sym (subst (λ (t : List ℕ). number_in (2 ^ 64 - 1) t ≡ Some n) digits (number_again (2 ^ 64 - 1) n (omega arith) small))
-parsed {E = E} text (Err e) b p =
-    let k = parse_plain decimal_model {E = E} 64 text (Err e) p (no_plus text b) in
-    sym (number_none (2 ^ 64 - 1) text (λ n h w.
+-- nor is one with a byte that is no digit
+pub other_byte_in : (text : List ℕ) (i : ℕ) → i < length text → (IsInRange 48 57 (get_or text i 0) → ⊥) → None ≡ number_in (2 ^ 64 - 1) text
+other_byte_in text i l other = sym (number_none (2 ^ 64 - 1) text (λ n h e.
     let small : n < 2 ^ 64 = omega (arith, h) in
-    k (subst (AllDigits 10) (sym w) (digits_decimal decimal_model n small), omega (arith, ap length w, decimal_nonempty n small), omega (arith, ap (digits_value 10) w, digits_value-decimal decimal_model n small, small))))
+    other (digit_at text i (subst (AllDigits 10) (sym e) (digits_decimal decimal_model n small)) l)))
+
+-- what one more digit makes of the number of those before
+after_push : (n : ℕ) (ds : List ℕ) (c : ℕ) → digits_value_after 10 n (ds ++ c ∷ []) ≡ digits_value_after 10 n ds * 10 + digit_value c
+after_push n [] c = refl
+after_push n (d ∷ ds) c = after_push (n * 10 + digit_value d) ds c
+
+pub value_more : (text : List ℕ) (i : ℕ) → i < length text → IsInRange 48 57 (get_or text i 0) → digits_value 10 (take (i + 1) text) ≡ digits_value 10 (take i text) * 10 + (get_or text i 0 - 48)
+value_more text i l digit =
+    let c = get_or text i 0 in
+    let next : suc i ≡ i + 1 = omega arith in
+    let front : take (i + 1) text ≡ take i text ++ c ∷ [] = subst (λ n. take n text ≡ take i text ++ c ∷ []) next (take-suc text i 0 l) in
+    let worth : digit_value c ≡ c - 48 = omega (arith, digit_value_digit c digit) in
+    ap (digits_value 10) front ∙ after_push 0 (take i text) c ∙ ap (λ d. digits_value 10 (take i text) * 10 + d) worth
+
+-- the first digits make no more than all
+pub too_great : (text : List ℕ) (i : ℕ) → 2 ^ 64 ≤ digits_value 10 (take i text) → None ≡ number_in (2 ^ 64 - 1) text
+too_great text i great = sym (number_none (2 ^ 64 - 1) text (λ n h e.
+    let small : n < 2 ^ 64 = omega (arith, h) in
+    let all : digits_value 10 text ≡ n = ap (digits_value 10) e ∙ digits_value-decimal decimal_model n small in
+    omega (arith, great, all, small, digits_value-take-le 10 text i (omega arith))))
+
+-- a text of digits that begins as a number does is that of their number
+pub number_of_digits : (text : List ℕ) (n : ℕ) → BeginsAsNumber text → AllDigits 10 text → n ≡ digits_value 10 text → n < 2 ^ 64 → Some n ≡ number_in (2 ^ 64 - 1) text
+number_of_digits text n b digits is small =
+    let value : digits_value 10 text < 2 ^ 64 = omega (arith, is, small) in
+    let same : decimal (digits_value 10 text) ≡ text = decimal-digits_value decimal_model text digits (begun text b) (alone text b) value in
+    sym (subst (λ (t : List ℕ). number_in (2 ^ 64 - 1) t ≡ Some n) (ap decimal is ∙ same) (number_again (2 ^ 64 - 1) n (omega arith) small))
+  where
+    begun : (text : List ℕ) → BeginsAsNumber text → 0 < length text
+    begun [] (inl digit) = absurd (omega (arith, digit))
+    begun [] (inr zero) = absurd (cc)
+    begun (c ∷ cs) b = omega arith
 
 -- a smaller greatest number
 pub number_within : (most n : ℕ) (text : List ℕ) → number_in (2 ^ 64 - 1) text ≡ Some n → n ≤ most → Some n ≡ number_in most text
@@ -114,4 +130,4 @@ number_tells = record { again = number_again; read = number_read }
 
 pub ruleset number_laws = (digits_are, number_tells)
 
-pub ruleset number_steps = (begins_otherwise, not_text, parsed, number_within, number_past, number_never)
+pub ruleset number_steps = (begins_otherwise, number_within, number_past, number_never)

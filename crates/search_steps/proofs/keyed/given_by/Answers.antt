@@ -1,4 +1,4 @@
-use Rattle.std.proofs.Common.{[], true, subst}
+use Rattle.std.proofs.Common.{[], true, subst, ◌∙◌}
 use Rattle.search_steps.specs.Giving.{LeftBy, OpenedBy}
 use Rattle.search_steps.specs.Numbers.{AddsAll}
 use Rattle.search_steps.proofs.ListsByNumber.{got_there, may_stand}
@@ -22,7 +22,7 @@ returns c =
       three = c.add_first.new.found.items;
       alone = λ u e.
           subst (λ z. AddsAll (λ r. LeftBy r true r.units) k z.alone.items [] c.add_alone.new.found.items) (got_there l.positions.items p.at s u c.index-steps.ensures e)
-          (subst (λ xs. AddsAll (λ r. LeftBy r true r.units) k xs [] c.add_alone.new.found.items) c.as_slice.ensures.value (subst (λ old. AddsAll (λ r. LeftBy r true r.units) k c.as_slice.result.now old c.add_alone.new.found.items) c.in_ok-found.ensures.items c.in_ok-add_alone.ensures));
+          (subst (λ xs. AddsAll (λ r. LeftBy r true r.units) k xs [] c.add_alone.new.found.items) c.as_slice.ensures.value (subst (λ old. AddsAll (λ r. LeftBy r true r.units) k c.as_slice.result.now old c.add_alone.new.found.items) (c.reserve.ensures.items ∙ c.clear.ensures.items) c.in_ok-add_alone.ensures));
       opening = λ u e.
           subst (λ z. AddsAll OpenedBy k z.opening.items c.add_alone.new.found.items c.add_opening.new.found.items) (got_there l.positions.items p.at s u c.index-steps.ensures e)
           (subst (λ xs. AddsAll OpenedBy k xs c.add_alone.new.found.items c.add_opening.new.found.items) c.as_slice-2.ensures.value c.in_ok-add_opening.ensures);
