@@ -9,7 +9,7 @@ use std::alloc::Global;
 #[derive(Clone, Copy)]
 struct Run {
     first: usize,
-    /// Twice as many as there are keys.
+    /// A power of two: half more than there are keys, or up to three times as many.
     count: usize,
 }
 
@@ -27,6 +27,8 @@ pub struct Places {
 pub struct Walk {
     run: Run,
     at: usize,
+    /// From one slot to the next: an odd number, so that each is come to.
+    stride: usize,
 }
 
 impl Places {
@@ -34,12 +36,13 @@ impl Places {
     pub fn of(alloc: Global, rows: &[NumberedRow]) -> Result<Places, Mem> {
         let mut places = Places {
             runs: Vec::new(alloc),
-            slots: Vec::from_elem(alloc, 0, rows.len().saturating_mul(2))?,
+            slots: Vec::new(alloc),
         };
         for row in rows {
             places.count(&row.key())?;
         }
-        places.lay_out();
+        let count = places.lay_out();
+        places.slots.resize(count, 0)?;
         let mut place: u32 = 0;
         for row in rows {
             place = place.wrapping_add(1);
@@ -48,25 +51,28 @@ impl Places {
         Ok(places)
     }
 
-    // Counts the slots of a key.
+    // Counts a key at its position.
     fn count(&mut self, key: &ResidualKey) -> Result<(), Mem> {
         let position = key.position as usize;
         for _ in self.runs.len()..position + 1 {
             self.runs.push(Run { first: 0, count: 0 })?;
         }
         if let Some(run) = self.runs.get_mut(position) {
-            run.count = run.count.wrapping_add(2);
+            run.count = run.count.wrapping_add(1);
         }
         Ok(())
     }
 
-    // Lays out the slots of positions one after another.
-    fn lay_out(&mut self) {
+    // Lays out the slots of positions one after another, and tells how many there are.
+    fn lay_out(&mut self) -> usize {
         let mut first: usize = 0;
         for run in self.runs.iter_mut() {
+            let wanted = run.count.saturating_add(run.count / 2);
             run.first = first;
-            first = first.wrapping_add(run.count);
+            run.count = wanted.checked_next_power_of_two().unwrap_or(wanted);
+            first = first.saturating_add(run.count);
         }
+        first
     }
 
     // Puts the place of a key into the first empty slot.
@@ -88,9 +94,11 @@ impl Places {
     /// The slots of a key. None where no key of its position stands.
     pub fn walk(&self, key: &ResidualKey) -> Option<Walk> {
         let run = *self.runs.get(key.position as usize)?;
+        let group = group_of(key);
         Some(Walk {
             run,
-            at: share_of(key, run.count),
+            at: run.within(near(group).wrapping_add(key.first as usize)),
+            stride: far(group),
         })
     }
 
@@ -100,18 +108,22 @@ impl Places {
     }
 }
 
+impl Run {
+    /// A slot of the run, by any number.
+    fn within(self, number: usize) -> usize {
+        number & self.count.saturating_sub(1)
+    }
+}
+
 impl Walk {
     /// How many slots there are.
     pub fn count(&self) -> usize {
         self.run.count
     }
 
-    /// On to the next slot, which after the last is the first.
+    /// On to the next slot.
     pub fn go_on(&mut self) {
-        self.at = self.at.wrapping_add(1);
-        if self.at >= self.run.count {
-            self.at = 0;
-        }
+        self.at = self.run.within(self.at.wrapping_add(self.stride));
     }
 
     fn slot(&self) -> usize {
@@ -119,14 +131,22 @@ impl Walk {
     }
 }
 
-// One of so many numbers, by the open units and the ticket part of a key.
-fn share_of(key: &ResidualKey, count: usize) -> usize {
+// The group of a key: the second open unit and the ticket part. Keys of one group whose first units have numbers that come
+// one after another, as those of rows that do, have slots side by side, so that what is loaded for the one serves the next.
+fn group_of(key: &ResidualKey) -> u64 {
     let part = &key.part;
     let ticket = u64::from(part.units)
         + u64::from(part.ends) * 256
         + u64::from(part.carrier.number()) * 65536;
-    let units = u64::from(key.first) * 4294967296 + u64::from(key.second);
-    let one = (units ^ ticket.wrapping_mul(0x9e3779b97f4a7c15)).wrapping_mul(0x9e3779b97f4a7c15);
-    let mixed = (one ^ (one >> 32)).wrapping_mul(0x9e3779b97f4a7c15);
-    ((mixed >> 32).wrapping_mul(count as u64) >> 32) as usize
+    u64::from(key.second) * 4294967296 ^ ticket
+}
+
+// Where the slots of a group begin.
+fn near(group: u64) -> usize {
+    (group.wrapping_mul(0x9e3779b97f4a7c15) >> 32) as usize
+}
+
+// How far the keys of a group go on where a slot is taken: far off, so that groups part which met.
+fn far(group: u64) -> usize {
+    (group.wrapping_mul(0xd1342543de82ef95) >> 32 | 1) as usize
 }
