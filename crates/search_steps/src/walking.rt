@@ -46,7 +46,9 @@ impl<'a> Steps<ResidualKey, Case<'a>> for NumberedCase<'a> {
         }
     }
 
-    fn take_back(&mut self, outcomes: Vec<Outcome<ResidualKey>>) {
+    fn take_back(&mut self, outcomes: Vec<Outcome<ResidualKey>>)
+        ensures { self.new ≡ self.old }
+    {
         NumberedCase::take_back(self, outcomes);
     }
 

@@ -34,6 +34,9 @@ returns-then-is_empty-clause-outcomes c =
     let none = no_outcomes b q c.find.new.tables.kept.items l k r c.in_ok-at.at (c.lists_give_outcomes.ensures b q r) c.find.ensures.tables.tables c.find.ensures.right stands found (subst (λ (z : PositionSteps). z.bare.items ≡ []) same empty) in
     subst (λ z. AreOutcomes (leads_of b q) z (outcomes_of (residual_at l.numbers) c.new.result.items)) (sym (residual_is old k r c.requires.live.1)) (subst (λ v. AreOutcomes (leads_of b q) r (outcomes_of (residual_at l.numbers) v)) (sym c.new.ensures.items) none)
 
+pub returns-clause-grows : goal.returns-clause-grows
+returns-clause-grows c = grows_on c.args.lists.now.numbers c.find.new.self.numbers c.placed_at.new.lists.numbers c.find.ensures.grows c.placed_at.ensures.grows
+
 pub returns-clause-outcomes : goal.returns-clause-outcomes
 returns-clause-outcomes c =
     let b = c.args.case.now.book.now in
