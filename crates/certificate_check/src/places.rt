@@ -138,7 +138,7 @@ fn group_of(key: &ResidualKey) -> u64 {
     let ticket = u64::from(part.units)
         + u64::from(part.ends) * 256
         + u64::from(part.carrier.number()) * 65536;
-    u64::from(key.second) * 4294967296 ^ ticket
+    u64::from(key.second).wrapping_mul(4294967296) ^ ticket
 }
 
 // Where the slots of a group begin.
