@@ -1,4 +1,4 @@
--- Rows by numbers: what they stand for stays while tables grow. Needed by the rows of a certificate. `stood_for` and `one_live` are given on to those above.
+-- Rows by numbers: what they stand for stays while tables grow. Given on to those who read and make the rows of a certificate. And lists that are compared from the front.
 use Rattle.std.proofs.Common.{◌≡◌, ◌∙◌, ℕ, zero, suc, ◌+◌, Bool, true, false, ◌&&◌, List, [], ◌∷◌, ◌++◌, drop, slice_get, Some, refl, sym, ap, ap₂, arith}
 use Rattle.std.specs.Cmp.Lexicographic.{pointwise}
 use Rattle.certificate.specs.declared.numbered.NumberedRow.{NumberedRow}

@@ -1,15 +1,11 @@
 //! The rows of a certificate.
-ghost use Rattle.std.specs.Prelude.{◌≡◌, ◌<◌, ◌∷◌, ◌++◌, [], IfOk, OnOk, Some, length, slice_get};
+ghost use Rattle.std.specs.Prelude.{◌≡◌, ◌<◌, Some, length, slice_get};
 ghost use Rattle.std.specs.Cmp.Lexicographic.{pointwise};
 ghost use Rattle.certificate.specs.NumberedRows.{AreLive, rows_of};
-ghost use Rattle.residual_table.specs.Keys.{Grows, StandsFor};
 
 use crate::CertRow;
 use crate::numbered::NumberedRow;
-use fare_law::Mem;
-use residual_keys::Residual;
-use residual_table::{ResidualKey, ResidualParts, keys_stay};
-use std::alloc::Global;
+use residual_table::ResidualParts;
 use std::fmt;
 use std::marker::Model;
 
@@ -41,16 +37,6 @@ impl Model for CertRows {
 }
 
 impl CertRows {
-    /// No row.
-    pub fn new(alloc: Global) -> CertRows
-        ensures { result ≡ [] }
-    {
-        CertRows {
-            parts: ResidualParts::new(alloc),
-            rows: Vec::new(alloc),
-        }
-    }
-
     /// Rows by the numbers of these parts.
     pub fn of(parts: ResidualParts, rows: Vec<NumberedRow>) -> CertRows
         requires { AreLive parts rows.items }
@@ -77,16 +63,6 @@ impl CertRows {
         self.rows.len()
     }
 
-    /// Adds a row at the end.
-    pub fn push(&mut self, residual: &Residual, bound: Option<u64>) -> Result<(), Mem>
-        ensures items { OnOk result (self.new ≡ self.old ++ record { residual = residual.now; bound = bound } ∷ []) }
-    {
-        keys_stay();
-        let key = key_after(&mut self.parts, self.rows.as_slice(), residual)?;
-        self.rows.push(NumberedRow::new(&key, bound))?;
-        Ok(())
-    }
-
     /// The row at a place.
     pub fn row(&self, place: usize) -> CertRow
         requires { place < length self.now }
@@ -97,21 +73,6 @@ impl CertRows {
             residual: self.parts.residual(&row.key()),
             bound: row.bound(),
         }
-    }
-}
-
-/// The key of a residual that comes after these rows.
-fn key_after(
-    parts: &mut ResidualParts,
-    rows: &[NumberedRow],
-    residual: &Residual,
-) -> Result<ResidualKey, Mem>
-    ensures stands { IfOk result (λ k. StandsFor parts.new k residual.now) }
-    ensures grows { Grows parts.old parts.new }
-{
-    match rows.last() {
-        Some(last) => parts.key_like(residual, &last.key()),
-        None => parts.key(residual),
     }
 }
 

@@ -1,5 +1,5 @@
 -- Lines that are passed, and the first that is wrong.
-use Rattle.std.proofs.Common.{◌↔◌, true, false, is_some, ◌≡◌, inr, ℕ, List, [], ◌∷◌, ◌++◌, Option, Some, None, MatchOption, refl, sym, subst}
+use Rattle.std.proofs.Common.{◌↔◌, true, false, is_some, ◌≡◌, inr, ℕ, List, [], ◌∷◌, ◌++◌, Option, Some, None, refl, sym, subst}
 use Rattle.certificate_text.specs.declared.faults.CertFault.{CertFault}
 use Rattle.certificate_text.specs.declared.faults.CertFault.TheVariants.{Syntax, Count, Mem}
 use Rattle.certificate_text.specs.Faults.{Due, Nothing, IsOf, Leads, Passed, Miscounts, CountWrong, SyntaxWrong, FirstWrong, FaultFrom}
@@ -72,12 +72,3 @@ is_spelled P (Some x) tells e = (x, (tells x).0 refl)
 pub not_spelled : {A : Type 0} (P : A → Type 0) (o : Option A) → ((a : A) → (o ≡ Some a) ↔ P a) → is_some o ≡ false → (a : A) → P a → ⊥
 not_spelled P None tells e a h = let k = (tells a).1 h in absurd (cc)
 not_spelled P (Some x) tells e a h = absurd (cc)
-
--- what a reader found that says so by cases
-pub is_matched : {A : Type 0} (N : Type 0) (P : A → Type 0) (o : Option A) → MatchOption o N P → is_some o ≡ true → (a : A) × P a
-is_matched N P None h e = absurd (cc)
-is_matched N P (Some x) h e = (x, h)
-
-pub not_matched : {A : Type 0} (N : Type 0) (P : A → Type 0) (o : Option A) → MatchOption o N P → is_some o ≡ false → N
-not_matched N P None h e = h
-not_matched N P (Some x) h e = absurd (cc)

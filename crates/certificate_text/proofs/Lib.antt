@@ -8,6 +8,7 @@ pub mod TakingLemmas
 pub mod FaultLemmas
 pub mod RequestLemmas
 pub mod ListLemmas
+pub mod RowsRead
 pub mod LineFeeds
 pub mod JsonFeeds
 pub mod SameLines

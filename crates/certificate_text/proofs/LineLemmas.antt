@@ -6,7 +6,7 @@ use Rattle.std.proofs.lemmas.Option.{same_Some}
 use Rattle.certificate.specs.declared.parts.CertAnswer.{CertAnswer}
 use Rattle.certificate.specs.declared.parts.CertRow.{CertRow}
 use Rattle.certificate_text.specs.LineReading.{after_label, word_at, bound_in, moves_in, answer_in}
-use Rattle.certificate_text.specs.Lines.{spaced, move_words, answer_line, bound_word, IsAnswer, SpellsAnswer, SpellsRow}
+use Rattle.certificate_text.specs.Lines.{spaced, move_words, answer_line, bound_word, HasWords, IsAnswer, SpellsAnswer, SpellsRow}
 use Rattle.certificate_text.proofs.LineWords.{Numbers, digits_free, bound_again, bound_read, bound_free}
 use Rattle.certificate_text.proofs.MoveLemmas.{moves_again, moves_read, spaced_ends}
 use Rattle.certificate_text.proofs.WordLemmas.{label_again, label_read, word_again, word_read}
@@ -77,12 +77,6 @@ row_no_label line e r s = let k = row_rest line r s in absurd (cc)
 pub row_no_cut : LastCutTells → Numbers → (line rest : List ℕ) → after_label (codes "row ") line ≡ Some rest → cut_last_at 32 rest ≡ None → NoRow line
 row_no_cut cuts k line rest was e r s = let h = row_parts cuts k line rest r was s in absurd (cc)
 
-pub row_no_residual : LastCutTells → Numbers → (line rest : List ℕ) (p : List ℕ × List ℕ) → after_label (codes "row ") line ≡ Some rest → cut_last_at 32 rest ≡ Some p
-    → ((x : State) → Spells p.0 x → ⊥) → NoRow line
-row_no_residual cuts k line rest p was cut none r s =
-    let h = row_words cuts k line rest p r was cut s in
-    none r.residual (record { is = s.is.residual; written = h.0 })
-
 pub row_no_bound : LastCutTells → Numbers → (line rest : List ℕ) (p : List ℕ × List ℕ) → after_label (codes "row ") line ≡ Some rest → cut_last_at 32 rest ≡ Some p
     → bound_in p.1 ≡ None → NoRow line
 row_no_bound cuts k line rest p was cut none r s =
@@ -90,7 +84,7 @@ row_no_bound cuts k line rest p was cut none r s =
     let e : bound_in p.1 ≡ Some r.bound = ap bound_in h.1 ∙ bound_again k r.bound s.is.bound in
     absurd (cc)
 
-pub row_spelled : LastCutTells → Numbers → (line rest : List ℕ) (p : List ℕ × List ℕ) (x : State) (b : Option ℕ) → after_label (codes "row ") line ≡ Some rest → cut_last_at 32 rest ≡ Some p
+row_spelled : LastCutTells → Numbers → (line rest : List ℕ) (p : List ℕ × List ℕ) (x : State) (b : Option ℕ) → after_label (codes "row ") line ≡ Some rest → cut_last_at 32 rest ≡ Some p
     → Spells p.0 x → bound_in p.1 ≡ Some b → SpellsRow line (record { residual = x; bound = b })
 row_spelled cuts k line rest p x b was cut s is =
     let n = bound_read k p.1 b is in
@@ -98,3 +92,13 @@ row_spelled cuts k line rest p x b was cut s is =
       is = record { residual = s.is; bound = n.0 };
       written = label_read (codes "row ") line rest was ∙ ap (λ t. codes "row " ++ t) ((cuts.read 32 rest p cut).0 ∙ ap₂ (λ a c. a ++ 32 ∷ c) s.written n.1);
     }
+
+-- the rows that the line spells
+pub has_words : LastCutTells → Numbers → (line rest : List ℕ) (p : List ℕ × List ℕ) (b : Option ℕ) → after_label (codes "row ") line ≡ Some rest → cut_last_at 32 rest ≡ Some p → bound_in p.1 ≡ Some b → HasWords line p.0 b
+has_words cuts k line rest p b was cut is r = (
+  λ s.
+      let h = row_words cuts k line rest p r was cut s in
+      let e : bound_in p.1 ≡ Some r.bound = ap bound_in h.1 ∙ bound_again k r.bound s.is.bound in
+      (record { is = s.is.residual; written = h.0 }, same_Some r.bound b (sym e ∙ is)),
+  λ s. row_spelled cuts k line rest p r.residual r.bound was cut s.0 (is ∙ ap Some (sym s.1)),
+)

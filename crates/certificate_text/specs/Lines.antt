@@ -1,12 +1,12 @@
 -- The lines of a certificate's text, without their line feeds.
-use Rattle.std.specs.Prelude.{◌≡◌, ◌≤◌, ◌<◌, ◌^◌, ℕ, List, [], ◌∷◌, ◌++◌, length, map, flat_map, Option, Some, None, IfSome, codes, decimal}
+use Rattle.std.specs.Prelude.{◌≡◌, ◌↔◌, ◌≤◌, ◌<◌, ◌^◌, ℕ, List, [], ◌∷◌, ◌++◌, length, map, flat_map, Option, Some, None, IfSome, codes, decimal}
 use Rattle.certificate.specs.declared.parts.CertAnswer.{CertAnswer}
 use Rattle.certificate.specs.declared.parts.CertRow.{CertRow}
 use Rattle.fare_law.specs.declared.moves.Move.{Move}
 use Rattle.fare_law.specs.Lists.{Each}
 use Rattle.fare_law.specs.Codes.{role_code}
 use Rattle.fare_law.specs.Names.{IsBasis, IsCarrier}
-use Rattle.residual_keys.specs.ResidualText.{IsWritten, residual_text}
+use Rattle.residual_keys.specs.ResidualText.{IsWritten, Spells, residual_text}
 
 -- words, each after a space
 abbrev pub spaced : List (List ℕ) → List ℕ
@@ -65,3 +65,7 @@ pub record SpellsAnswer (line : List ℕ) (a : CertAnswer) : Type 0 where
 pub record SpellsRow (line : List ℕ) (r : CertRow) : Type 0 where
   pub is : IsRow r
   pub written : line ≡ row_line r
+
+-- The rows that the line spells are those of the residual that the text spells, with this bound.
+abbrev pub HasWords : List ℕ → List ℕ → Option ℕ → Type 0
+HasWords line text bound = (r : CertRow) → SpellsRow line r ↔ (Spells text r.residual × (r.bound ≡ bound))

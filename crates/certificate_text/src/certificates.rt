@@ -12,7 +12,6 @@ use crate::lists::{answers, rows};
 use crate::unread::Lines;
 use case_text::CaseLine;
 use certificate::Certificate;
-use residual_keys::ResidualReader;
 use std::alloc::Global;
 
 /// The certificate whose text the bytes are, or the first line at fault, from 1. A certificate within
@@ -67,9 +66,8 @@ fn read_from(alloc: Global, start: Lines<'_>) -> Result<Certificate, CertFault>
     let (number, at) = at.version()?;
     let (request, at) = at.request(alloc)?;
     let (answers, at) = answers(alloc, at)?;
-    let mut residuals = ResidualReader::new(alloc)?;
-    let (rows, at) = rows(alloc, &mut residuals, at)?;
-    at.end(&mut residuals)?;
+    let (rows, at) = rows(alloc, at)?;
+    at.end()?;
     Ok(Certificate {
         number,
         request,

@@ -10,7 +10,7 @@ use crate::CertFault;
 use crate::unread::Lines;
 use certificate::{CertAnswer, CertRows};
 use fare_law::List;
-use residual_keys::ResidualReader;
+use residual_table::KeyReader;
 use std::alloc::Global;
 
 /// The answers and how many there are, and what is left after their lines.
@@ -40,11 +40,7 @@ pub fn answers<'a>(
 }
 
 /// The rows and how many there are, and what is left after their lines.
-pub fn rows<'a>(
-    alloc: Global,
-    residuals: &mut ResidualReader,
-    start: Lines<'a>,
-) -> Result<(CertRows, Lines<'a>), CertFault>
+pub fn rows<'a>(alloc: Global, start: Lines<'a>) -> Result<(CertRows, Lines<'a>), CertFault>
     requires { HasRoom (unread start) }
     ensures ok { IfOk result (λ x. Passed Due.RowCount (unread start.entry)
         (row_lines x.0) Due.End (unread x.1)) }
@@ -52,16 +48,17 @@ pub fn rows<'a>(
     ensures fault { IfErr result (FaultFrom Due.RowCount (unread start.entry)) }
 {
     let (count, first) = start.row_count()?;
-    let mut rows = CertRows::new(alloc);
+    let mut reader = KeyReader::new(alloc)?;
+    let mut rows = List::new(alloc);
     let mut at = first;
     while rows.len() < count as usize {
         // not by `?`, which takes what was read by value in a form that has no proof
-        let (residual, bound, next) = match at.row(residuals) {
+        let (row, next) = match at.row(&mut reader) {
             Ok(found) => found,
             Err(fault) => return Err(fault),
         };
-        rows.push(residual, bound)?;
+        rows.push(row)?;
         at = next;
     }
-    Ok((rows, at))
+    Ok((CertRows::of(reader.into_parts(), rows.into_vec()), at))
 }

@@ -1,17 +1,19 @@
 //! Reading a certificate line by line.
 ghost use Rattle.std.specs.Prelude.{◌≡◌, ◌↔◌, ◌∷◌, ◌<◌, ◌^◌, ℕ, [], List, MatchOption, IfOk, IfErr, IsTrue, codes};
+ghost use Rattle.certificate.specs.NumberedRows.{key_of, row_of};
 ghost use Rattle.certificate_text.specs.Faults.{Due, FaultFrom, Passed, PassedEnd, PassedRequest, answers_due, rows_due};
 ghost use Rattle.certificate_text.specs.Lines.{IsAnswer, IsRow};
 ghost use Rattle.certificate_text.specs.Lines as Spelled;
 ghost use Rattle.certificate_text.specs.Unread.{HasRoom, IsOver, Takes, Unread, place as place_of, unread};
+ghost use Rattle.residual_table.specs.Keys.{Grows, IsLive};
 
 use crate::CertFault;
 use crate::request::request_line;
-use crate::spelled::{answer_line, number_line, row_line};
+use crate::spelled::{answer_line, is_row, number_line, row_line};
 use crate::unread::Lines;
-use certificate::CertAnswer;
+use certificate::{CertAnswer, NumberedRow};
 use fare_law::Request;
-use residual_keys::{Residual, ResidualReader};
+use residual_table::KeyReader;
 use std::alloc::Global;
 use word_text::{cut, cuts_tell};
 
@@ -183,15 +185,14 @@ impl<'a> Lines<'a> {
         Ok((number, next))
     }
 
-    /// The residual and the bound of a row, and what is left after its line.
-    pub fn row<'r>(
-        self,
-        residuals: &'r mut ResidualReader,
-    ) -> Result<(&'r Residual, Option<u64>, Lines<'a>), CertFault>
+    /// A row by the numbers of its reader, and what is left after its line.
+    pub fn row(self, reader: &mut KeyReader) -> Result<(NumberedRow, Lines<'a>), CertFault>
         requires { HasRoom (unread self) }
         ensures ok { IfOk result (λ x. (more : ℕ) → Passed (Due.Row more) (unread self.entry)
-            (Spelled.row_line (record { residual = x.0.now; bound = x.1 }) ∷ []) (rows_due more) (unread x.2)) }
-        ensures fits { IfOk result (λ x. IsRow (record { residual = x.0.now; bound = x.1 })) }
+            (Spelled.row_line (row_of reader.new x.0) ∷ []) (rows_due more) (unread x.1)) }
+        ensures live { IfOk result (λ x. IsLive reader.new (key_of x.0)) }
+        ensures fits { IfOk result (λ x. IsRow (row_of reader.new x.0)) }
+        ensures grows { Grows reader.old reader.new }
         ensures fault { IfErr result (λ f. (more : ℕ)
             → FaultFrom (Due.Row more) (unread self.entry) f) }
     {
@@ -201,17 +202,17 @@ impl<'a> Lines<'a> {
             }
             return Err(self.syntax());
         };
-        let Some((residual, bound)) = row_line(residuals, line) else {
+        let Some(row) = row_line(reader, line)? else {
             if line == b"end".as_slice() {
                 return Err(self.count());
             }
             return Err(self.syntax());
         };
-        Ok((residual, bound, next))
+        Ok((row, next))
     }
 
     /// After the line `end`, which nothing follows.
-    pub fn end(self, residuals: &mut ResidualReader) -> Result<(), CertFault>
+    pub fn end(self) -> Result<(), CertFault>
         requires { HasRoom (unread self) }
         ensures ok { IfOk result (λ x. PassedEnd (unread self.entry)) }
         ensures fault { IfErr result (FaultFrom Due.End (unread self.entry)) }
@@ -220,7 +221,7 @@ impl<'a> Lines<'a> {
             return Err(self.syntax());
         };
         if line != b"end".as_slice() {
-            if row_line(residuals, line).is_some() {
+            if is_row(line) {
                 return Err(self.count());
             }
             return Err(self.syntax());

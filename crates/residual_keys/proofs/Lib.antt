@@ -38,5 +38,3 @@ pub mod NamesKept
 pub mod CodesOfRuns
 pub mod Sizes
 pub mod OneDigit
-pub mod PositionAhead
-pub mod SlashAhead

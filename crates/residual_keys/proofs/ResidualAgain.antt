@@ -86,7 +86,7 @@ not_none u more n = longer (unit_text u ++ more) (45 ∷ []) (λ e. omega (arith
     length_cut : (xs : List ℕ) (c : ℕ) (ys more : List ℕ) → length xs ≤ length ((xs ++ c ∷ ys) ++ more)
     length_cut xs c ys more = search (rules, length-append)
 
-units_again : Words → (us : List OpenUnit) → length us ≤ 2 → Each UnitInRanges us → Each IsNamed us → units_in (units_text us) ≡ Some (slice_get us 0, slice_get us 1)
+pub units_again : Words → (us : List OpenUnit) → length us ≤ 2 → Each UnitInRanges us → Each IsNamed us → units_in (units_text us) ≡ Some (slice_get us 0, slice_get us 1)
 unfolding units_in
 units_again k [] few h n = refl
 units_again k (u ∷ []) few h n =
@@ -104,7 +104,7 @@ units_again k (u ∷ v ∷ []) few h n =
     ) refl
 units_again k (u ∷ v ∷ w ∷ us) few h n = absurd (omega (arith, few))
 
-part_again : Words → (t : TicketPart) → PartKept t → AreCarriers t.carrier → part_in (part_text t) ≡ Some t
+pub part_again : Words → (t : TicketPart) → PartKept t → AreCarriers t.carrier → part_in (part_text t) ≡ Some t
 unfolding part_in
 part_again k t h n =
     let t1 = carriers_word t.carrier in
@@ -121,7 +121,7 @@ abbrev pub parts_of : State → Parts
 parts_of x = record { at = x.at; first = slice_get x.units 0; second = slice_get x.units 1; part = x.part }
 
 -- a ticket part's text has no space
-free_part : Words → (t : TicketPart) → PartKept t → AreCarriers t.carrier → IsFreeOf 32 (part_text t)
+pub free_part : Words → (t : TicketPart) → PartKept t → AreCarriers t.carrier → IsFreeOf 32 (part_text t)
 free_part k t h n =
     free_joined 32 58 (λ e. omega (arith, e)) (decimal t.units ∷ decimal t.ends ∷ carriers_word t.carrier ∷ [])
     (free_decimal k 32 space t.units (omega (arith, h.units)), (free_decimal k 32 space t.ends (omega (arith, h.ends)), (free_carriers 32 space t.carrier n, tt)))

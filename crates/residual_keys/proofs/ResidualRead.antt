@@ -1,7 +1,7 @@
 -- A text that is read is that of a residual.
 use Rattle.std.proofs.Common.{◌≡◌, ◌≤◌, ◌↔◌, ℕ, ℤ, List, [], ◌∷◌, ◌++◌, length, slice_get, Option, Some, None, refl, arith, ap, sym, ◌∙◌, subst, inl, inr, option_and_then}
 use Rattle.std.specs.Fmt.{decimal, signed_decimal}
-use Rattle.std.specs.Prelude.{Bool, true, false, IfSome, IsSome, MatchBool}
+use Rattle.std.specs.Prelude.{IfSome, IsSome}
 use Rattle.std.proofs.lemmas.Option.{same_Some}
 use Rattle.fare_law.specs.Lists.{Each}
 use Rattle.fare_law.specs.declared.names.Place.{Place}
@@ -19,7 +19,7 @@ use Rattle.residual_keys.specs.ResidualText.{AreCarriers, IsNamed, IsPosition, I
 use Rattle.residual_keys.specs.Residuals.{State}
 use Rattle.residual_keys.proofs.WordFacts.{Words}
 use Rattle.residual_keys.proofs.WordsAgain.{marked, place_read, via_read, day_read, set_day_read, carriers_read, rules_read}
-use Rattle.residual_keys.proofs.ResidualAgain.{parts_of, parts_again}
+use Rattle.residual_keys.proofs.ResidualAgain.{free_part, part_again, parts_of, parts_again, position_again, units_again}
 use Rattle.word_text.specs.Laws.{LastCutTells}
 use Rattle.word_text.specs.Words.{IsFreeOf, cut_at, cut_last_at, number_in}
 use Rattle.law_lemmas.proofs.Options.{from_step, option_mapped}
@@ -291,54 +291,69 @@ made_again x h = go x.units h.few h.units
     go (u ∷ v ∷ []) few each = (refl, record { turn = λ e. absurd (cc); first = each.0; second = each.1.0; part = h.part })
     go (u ∷ v ∷ w ∷ us) few each = absurd (omega (arith, few))
 
-no_text : Words → LastCutTells → (text : List ℕ) → parts_in text ≡ None → (x : State) → Spells text x → ⊥
-no_text k last text none x s =
-    let again : parts_in text ≡ Some (parts_of x) = ap parts_in s.written ∙ parts_again k last x s.is in
-    absurd (cc)
+-- what the text of a residual is read as, part by part
+pub record Told (text : List ℕ) (x : State) : Type 0 where
+  pub rest : List ℕ
+  pub words : List ℕ × List ℕ
+  pub at : position_in text ≡ Some (x.at, rest)
+  pub cut : cut_last_at 32 rest ≡ Some words
+  pub units : units_in words.0 ≡ Some (slice_get x.units 0, slice_get x.units 1)
+  pub part : part_in words.1 ≡ Some x.part
+  pub kept : AreKept (slice_get x.units 0) (slice_get x.units 1) x.part
 
--- a text of parts spells a residual exactly where they make one, and that one
-parts_told : Words → LastCutTells → (text : List ℕ) (p : Parts) → parts_in text ≡ Some p → (x : State) → Spells text x → AreKept p.first p.second p.part × (made p ≡ x)
-parts_told k last text p was x s =
-    let again : parts_in text ≡ Some (parts_of x) = ap parts_in s.written ∙ parts_again k last x s.is in
-    let same : parts_of x ≡ p = same_Some (parts_of x) p (sym again ∙ was) in
-    let whole = made_again x s.is.kept in
-    (subst (λ (q : Parts). AreKept q.first q.second q.part) same whole.1, sym (ap made same) ∙ whole.0)
+pub told : Words → LastCutTells → (text : List ℕ) (x : State) → Spells text x → Told text x
+told k last text x s =
+    let h = s.is in
+    let tail = units_text x.units ++ 32 ∷ part_text x.part in
+    record {
+      rest = tail;
+      words = (units_text x.units, part_text x.part);
+      at = ap position_in s.written ∙ position_again k x.at tail h.at;
+      cut = last.again 32 (units_text x.units) (part_text x.part) (free_part k x.part h.kept.part h.carrier);
+      units = units_again k x.units h.kept.few h.kept.units h.units;
+      part = part_again k x.part h.kept.part h.carrier;
+      kept = (made_again x h.kept).1;
+    }
 
--- what was read of a text, and whether it was
-abbrev pub AreRead : Bool → List ℕ → Parts → Type 0
-AreRead b text p = MatchBool b (parts_in text ≡ Some p) (parts_in text ≡ None)
+-- parts that are read one after another, and make a residual, spell it
+pub spelled : Words → LastCutTells → (text : List ℕ) (at : Position × List ℕ) (words : List ℕ × List ℕ) (units : Option OpenUnit × Option OpenUnit) (part : TicketPart)
+    → position_in text ≡ Some at → cut_last_at 32 at.1 ≡ Some words → units_in words.0 ≡ Some units → part_in words.1 ≡ Some part → AreKept units.0 units.1 part
+    → Spells text (record { at = at.0; units = open_units units.0 units.1; part = part })
+unfolding parts_in
+spelled k last text at words units part was_at was_cut was_units was_part kept =
+    let it : Parts = record { at = at.0; first = units.0; second = units.1; part = part } in
+    let read : parts_in text ≡ Some it = rw (was_at, was_cut, was_units, was_part) refl in
+    spells k last text it read kept
 
-pub read_none : Words → LastCutTells → (text : List ℕ) (b : Bool) (p : Parts) → AreRead b text p → b ≡ false → (x : State) → Spells text x → ⊥
-read_none k last text true p read b x s = absurd (cc)
-read_none k last text false p read b x s = no_text k last text read x s
+pub read_none : Words → LastCutTells → (text : List ℕ) → None ≡ parts_in text → (x : State) → (None ≡ Some x) ↔ Spells text x
+read_none k last text none x = (
+  λ e. absurd (cc),
+  λ s.
+      let again : parts_in text ≡ Some (parts_of x) = ap parts_in s.written ∙ parts_again k last x s.is in
+      absurd (cc),
+)
 
-pub read_out : Words → LastCutTells → (text : List ℕ) (b : Bool) (p : Parts) → AreRead b text p → b ≡ true → (AreKept p.first p.second p.part → ⊥) → (x : State) → Spells text x → ⊥
-read_out k last text true p read b out x s = out (parts_told k last text p read x s).0
-read_out k last text false p read b out x s = absurd (cc)
-
-pub read_kept : Words → LastCutTells → (text : List ℕ) (b : Bool) (p : Parts) → AreRead b text p → b ≡ true → AreKept p.first p.second p.part → Spells text (made p)
-read_kept k last text true p read b kept = spells k last text p read kept
-read_kept k last text false p read b kept = absurd (cc)
-
-pub read_exact : Words → LastCutTells → (text : List ℕ) (b : Bool) (p : Parts) (o : Option State) → AreRead b text p → b ≡ true → (IsSome o ↔ AreKept p.first p.second p.part) → IfSome o (λ r. r ≡ made p)
+pub read_exact : Words → LastCutTells → (text : List ℕ) (p : Parts) (o : Option State) → Some p ≡ parts_in text → (IsSome o ↔ AreKept p.first p.second p.part) → IfSome o (λ r. r ≡ made p)
     → (x : State) → (o ≡ Some x) ↔ Spells text x
-read_exact k last text false p o read b decides is x = absurd (cc)
-read_exact k last text true p o read b decides is x = (forward o decides is, λ s. back o decides is s)
+read_exact k last text p o was decides is x = (forward o decides is, back o decides is)
   where
     forward : (o : Option State) → (IsSome o ↔ AreKept p.first p.second p.part) → IfSome o (λ r. r ≡ made p) → o ≡ Some x → Spells text x
     forward None decides is e = absurd (cc)
     forward (Some r) decides is e =
         let same : made p ≡ x = sym is ∙ same_Some r x e in
-        subst (Spells text) same (spells k last text p read (decides.0 refl))
-
-    found : (o : Option State) → IfSome o (λ r. r ≡ made p) → IsSome o → made p ≡ x → o ≡ Some x
-    found None is some e = absurd (cc)
-    found (Some r) is some e = ap Some (is ∙ e)
+        subst (Spells text) same (spells k last text p (sym was) (decides.0 refl))
 
     back : (o : Option State) → (IsSome o ↔ AreKept p.first p.second p.part) → IfSome o (λ r. r ≡ made p) → Spells text x → o ≡ Some x
     back o decides is s =
-        let told = parts_told k last text p read x s in
-        found o is (decides.1 told.0) told.1
+        let again : parts_in text ≡ Some (parts_of x) = ap parts_in s.written ∙ parts_again k last x s.is in
+        let same : parts_of x ≡ p = same_Some (parts_of x) p (sym again ∙ sym was) in
+        let whole = made_again x s.is.kept in
+        let kept : AreKept p.first p.second p.part = subst (λ (q : Parts). AreKept q.first q.second q.part) same whole.1 in
+        found o is (decides.1 kept) (sym (ap made same) ∙ whole.0)
+      where
+        found : (o : Option State) → IfSome o (λ r. r ≡ made p) → IsSome o → made p ≡ x → o ≡ Some x
+        found None is some e = absurd (cc)
+        found (Some r) is some e = ap Some (is ∙ e)
 
 -- texts of two residuals differ
 pub one_text : Words → LastCutTells → (x y : State) → IsWritten x → IsWritten y → residual_text x ≡ residual_text y → x ≡ y

@@ -1,5 +1,5 @@
 -- What the parts of a text spell, word by word. That together they spell the residual of just this text is a clause of its reader.
-use Rattle.std.specs.Prelude.{◌≡◌, bytes_eq, ℕ, ℤ, pos, List, Option, Some, None, option_map, option_and_then, if◌then◌else◌, codes}
+use Rattle.std.specs.Prelude.{bytes_eq, ℕ, ℤ, pos, List, Option, Some, None, option_map, option_and_then, if◌then◌else◌, codes}
 use Rattle.fare_law.specs.declared.names.Place.{Place}
 use Rattle.flight_paths.specs.declared.positions.Position.{Position}
 use Rattle.name_text.specs.Names.{place_of, carrier_of}
@@ -95,12 +95,6 @@ units_parted text (Some p) = do
   first ← unit_in p.0
   second ← unit_in p.1
   Some (Some first, Some second)
-
--- The text is cut at its first slash: before it stands that of an open unit, or of none, and after it the other text.
-pub record IsCut (text : List ℕ) (first : Option OpenUnit) (other : List ℕ) : Type 0 where
-  pub word : List ℕ
-  pub at : cut_at 47 text ≡ Some (word, other)
-  pub unit : first ≡ unit_in word
 
 unfoldable pub units_in : List ℕ → Option (Option OpenUnit × Option OpenUnit)
 units_in text = if bytes_eq text (codes "-") then Some (None, None) else units_parted text (cut_at 47 text)

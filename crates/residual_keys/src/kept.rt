@@ -58,7 +58,7 @@ impl Residual {
 }
 
 /// Whether open units of two places and a ticket part make a residual.
-pub fn are_kept(first: &Option<OpenUnit>, second: &Option<OpenUnit>, part: &TicketPart) -> bool
+fn are_kept(first: &Option<OpenUnit>, second: &Option<OpenUnit>, part: &TicketPart) -> bool
     ensures { IsTrue result ↔ AreKept first.now second.now part.now }
 {
     in_turn(first, second) && option_kept(first) && option_kept(second) && part_kept(part)
@@ -81,7 +81,7 @@ fn option_kept(unit: &Option<OpenUnit>) -> bool
 }
 
 /// Whether the fields of an open unit lie in their ranges, and its marks agree.
-fn unit_kept(unit: &OpenUnit) -> bool
+pub fn unit_kept(unit: &OpenUnit) -> bool
     ensures { IsTrue result ↔ UnitInRanges unit.now }
 {
     unit.first_day >= 0
@@ -117,7 +117,8 @@ fn marks_agree(carrier: &CarrierMark, rule: &RuleMark) -> bool
     }
 }
 
-fn part_kept(part: &TicketPart) -> bool
+/// Whether the fields of a ticket part lie in their ranges.
+pub fn part_kept(part: &TicketPart) -> bool
     ensures { IsTrue result ↔ PartKept part.now }
 {
     part.units <= 2 && part.ends <= 3

@@ -15,19 +15,17 @@ mod leaving;
 mod limits;
 mod open_units;
 mod parts;
-mod reader;
 mod reading;
 mod residual;
-mod spots;
 mod stepping;
 mod text;
 mod way;
 mod words;
-mod written;
 
 pub use beginning::root;
 pub use choosing::moves;
 pub use component::{first_of, last_of};
+pub use kept::{part_kept, unit_kept};
 pub use laws::{
     best_runs, nothing_lost, one_best, one_next, one_size, reached_is_written, residual_order,
     runs_are_short,
@@ -36,8 +34,7 @@ pub use leaving::{next_after, standing};
 pub use limits::book_limits;
 pub use open_units::OpenUnits;
 pub use parts::{TicketPart, one_more, part_allows, with_end};
-pub use reader::ResidualReader;
-pub use reading::{one_residual_text, read_residual};
+pub use reading::{one_residual_text, part_of, position_of, read_residual, unit_of};
 pub use residual::{Chosen, Next, Residual};
 pub use stepping::step;
 pub use text::{push_part, push_position, push_residual, push_unit, residual_text};

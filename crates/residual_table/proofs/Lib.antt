@@ -1,9 +1,16 @@
 pub mod KeyFacts
 pub mod KeyFound
+pub mod KeysRead
+pub mod KnownTexts
+pub mod Matched
 pub mod Numbers
 pub mod PartOrder
 pub mod Parting
 pub mod PartsInOrder
 pub mod Placing
+pub mod PositionAhead
 pub mod RankOrder
+pub mod SlashAhead
+pub mod SlotsRead
 pub mod SortedRows
+pub mod SpaceAhead

@@ -6,17 +6,21 @@
 mod adding;
 mod finding;
 mod key;
+mod key_reader;
+mod known;
 mod laws;
-mod likely;
 mod numbering;
 mod part_number;
 mod parts;
 mod ranking;
 mod reading;
 mod sorting;
+mod spots;
+mod ticket_reader;
 
 pub use finding::keys_found;
 pub use key::{ResidualKey, SortKey};
+pub use key_reader::KeyReader;
 pub use parts::ResidualParts;
 pub use ranking::{Ranks, ranks_order};
 pub use reading::keys_stay;

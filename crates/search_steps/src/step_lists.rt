@@ -20,6 +20,7 @@ use std::alloc::Global;
 /// So many lists of open units have room from the first on, and so many steps of them: what isn't written takes no memory, and
 /// long lists needn't be copied as they grow.
 const MANY: usize = 16_384;
+
 const MANY_STEPS: usize = 65_536;
 
 impl StepLists {

@@ -1,10 +1,11 @@
 //! The certificate of one flight and one fare, read.
-use certificate::{CertAnswer, CertRows, Certificate};
+use certificate::{CertAnswer, CertRows, Certificate, NumberedRow};
 use certificate_text::{CertFault, read_cert};
 use fare_law::{ArrayVec, Basis, Carrier, List, Mem, Move, Place, Request, Role, Slice};
 use flight_paths::Position;
 use open_unit::CarrierMark;
 use residual_keys::{Residual, TicketPart};
+use residual_table::ResidualParts;
 use std::alloc::Global;
 use std::test::Fail;
 
@@ -51,7 +52,7 @@ fn only_move() -> Move {
     }
 }
 
-fn root() -> Option<Residual> {
+fn root() -> Residual {
     let at = Position {
         slice: 0,
         leg: 0,
@@ -65,7 +66,15 @@ fn root() -> Option<Residual> {
         ends: 0,
         carrier: CarrierMark::NotYet,
     };
-    Residual::checked(at, None, None, part)
+    Residual::new(at, None, None, part)
+}
+
+fn only_row(alloc: Global) -> Result<CertRows, Mem> {
+    let mut parts = ResidualParts::new(alloc);
+    let key = parts.key(&root())?;
+    let mut rows = Vec::new(alloc);
+    rows.push(NumberedRow::new(&key, Some(20000)))?;
+    Ok(CertRows::of(parts, rows))
 }
 
 fn one_way(alloc: Global) -> Result<Certificate, Mem> {
@@ -76,15 +85,11 @@ fn one_way(alloc: Global) -> Result<Certificate, Mem> {
         price: 20000,
         moves,
     })?;
-    let mut rows = CertRows::new(alloc);
-    if let Some(residual) = root() {
-        rows.push(&residual, Some(20000))?;
-    }
     Ok(Certificate {
         number: 1,
         request: request(),
         answers: List::from_vec(answers),
-        rows,
+        rows: only_row(alloc)?,
     })
 }
 

@@ -1,11 +1,16 @@
-use Rattle.std.proofs.Common.{◌≡◌, ◌≤◌, ◌<◌, ◌-◌, List, map, [], ◌∷◌, length, ap, sym, subst, arith, refl, length-append}
+use Rattle.std.proofs.Common.{◌≡◌, ◌∙◌, ◌≤◌, ◌<◌, ◌-◌, ℕ, List, map, [], ◌∷◌, ◌++◌, length, ap, sym, subst, arith, refl, length-append}
 use Rattle.std.specs.Prelude.{codes}
 use Rattle.certificate.specs.declared.parts.CertRow.{CertRow}
-use Rattle.certificate_text.specs.Faults.{Passed, Row, RowCount, rows_due}
+use Rattle.certificate.specs.declared.numbered.NumberedRow.{NumberedRow}
+use Rattle.certificate.specs.NumberedRows.{AreLive, row_of, rows_of}
+use Rattle.certificate_text.specs.CertText.{row_lines}
+use Rattle.certificate_text.specs.Faults.{Due, End, Passed, Row, RowCount, rows_due}
 use Rattle.certificate_text.specs.Lines.{IsRow, row_line, number_line}
 use Rattle.certificate_text.specs.Unread.{unread}
 use Rattle.fare_law.specs.Lists.{Each}
+use Rattle.certificate_text.proofs.FaultLemmas.{passed_more}
 use Rattle.certificate_text.proofs.ListLemmas.{DueAfter, item_fault, item_passed}
+use Rattle.certificate_text.proofs.RowsRead.{as_many, live_more, rows_more}
 use Rattle.certificate_text.proofs.TakingLemmas.{room_all}
 use Rattle.law_lemmas.proofs.EachOne.{each_append}
 use Rattle.certificate_text.proofs.lists.rows.Goals as goal
@@ -15,31 +20,67 @@ due_after = record { more = λ n. refl }
 
 pub returns-in-Err-clause-fault : goal.returns-in-Err-clause-fault
 returns-in-Err-clause-fault c =
-    item_fault rows_due Row row_line due_after (rows_due c.in_ok-count.count) RowCount (unread c.args.start) (unread c.in_ok-count.first) (unread c.loop-at.at) c.in_ok-count.count
-    (number_line (codes "rows") c.in_ok-count.count ∷ []) c.loop-at.rows c.in-Err.fault (omega (arith, c.len.ensures)) c.in_ok-count.ensures.ok c.loop-at.invariant.passed c.in-Err.ensures.fault
+    let count = c.in_ok-count.count in
+    let first = unread c.in_ok-count.first in
+    let at = unread c.loop-at.at in
+    let rows = rows_of c.loop-at.reader c.loop-at.rows in
+    let many = as_many c.loop-at.reader c.loop-at.rows in
+    let passed = subst (λ (n : ℕ). Passed (rows_due count) first (map row_line rows) (rows_due (count - n)) at) (sym many) c.loop-at.invariant.passed in
+    item_fault rows_due Row row_line due_after (rows_due count) RowCount (unread c.args.start) first at count
+    (number_line (codes "rows") count ∷ []) rows c.in-Err.fault (omega (arith, c.len.ensures, many)) c.in_ok-count.ensures.ok passed c.in-Err.ensures.fault
 
 pub loop-at-init : goal.loop-at-init
 loop-at-init c =
     let count = c.in_ok-count.count in
     let first = unread c.in_ok-count.first in
+    let t = c.in_ok-reader.reader in
     let none = sym c.new-rows.ensures in
     let left : count ≡ count - 0 = omega arith in
     record {
-      few = subst (λ (rs : List CertRow). length rs ≤ count) none (omega arith);
-      passed = subst (λ (rs : List CertRow). Passed (rows_due count) first (map row_line rs) (rows_due (count - length rs)) first) none (record { leads = ap rows_due left; taken = refl });
-      each = subst (Each IsRow) none tt;
+      few = subst (λ (rs : List NumberedRow). length rs ≤ count) none (omega arith);
+      live = subst (AreLive t) none tt;
+      passed = subst (λ (rs : List NumberedRow). Passed (rows_due count) first (map row_line (rows_of t rs)) (rows_due (count - length rs)) first) none (record { leads = ap rows_due left; taken = refl });
+      each = subst (λ (rs : List NumberedRow). Each IsRow (rows_of t rs)) none tt;
       room = room_all (unread c.args.start) first (number_line (codes "rows") count ∷ []) c.in_ok-count.ensures.ok.taken c.requires;
     }
 
 pub loop-at-preserved : goal.loop-at-preserved
 loop-at-preserved c =
-    let row : CertRow = record { residual = c.in-Ok.found.0.now; bound = c.in-Ok.found.1 } in
-    let few : length c.loop-at.rows < c.in_ok-count.count = omega (arith, c.len.ensures) in
+    let count = c.in_ok-count.count in
+    let first = unread c.in_ok-count.first in
+    let at = unread c.loop-at.at in
+    let next = unread c.in-Ok.found.1 in
+    let old = c.loop-at.reader in
+    let t = c.row.new.reader in
+    let before = c.loop-at.invariant in
+    let rows = c.loop-at.rows in
+    let row = c.in-Ok.found.0 in
     let is = c.in_ok-push.ensures.items in
+    let more = rows_more old t c.in-Ok.ensures.grows rows before.live row in
+    let all : rows_of t c.push.new.self ≡ rows_of old rows ++ row_of t row ∷ [] = ap (rows_of t) is ∙ more in
+    let few : length rows < count = omega (arith, c.len.ensures) in
+    let many = as_many old rows in
+    let so_far = subst (λ (n : ℕ). Passed (rows_due count) first (map row_line (rows_of old rows)) (rows_due (count - n)) at) (sym many) before.passed in
+    let passed = item_passed rows_due Row row_line due_after (rows_due count) first at next count (rows_of old rows) (rows_of t c.push.new.self) (row_of t row) all (omega (arith, few, many)) so_far c.in-Ok.ensures.ok in
     record {
-      few = omega (arith, few, ap length is, length-append c.loop-at.rows (row ∷ []));
-      passed = item_passed rows_due Row row_line due_after (rows_due c.in_ok-count.count) (unread c.in_ok-count.first) (unread c.loop-at.at) (unread c.in-Ok.found.2)
-          c.in_ok-count.count c.loop-at.rows c.push.new.self row is few c.loop-at.invariant.passed c.in-Ok.ensures.ok;
-      each = subst (Each IsRow) (sym is) (each_append IsRow c.loop-at.rows (row ∷ []) c.loop-at.invariant.each (c.in-Ok.ensures.fits, tt));
-      room = room_all (unread c.loop-at.at) (unread c.in-Ok.found.2) (row_line row ∷ []) (c.in-Ok.ensures.ok 0).taken c.loop-at.invariant.room;
+      few = omega (arith, few, ap length is, length-append rows (row ∷ []));
+      live = subst (AreLive t) (sym is) (live_more old t c.in-Ok.ensures.grows rows before.live row c.in-Ok.ensures.live);
+      passed = subst (λ (n : ℕ). Passed (rows_due count) first (map row_line (rows_of t c.push.new.self)) (rows_due (count - n)) next) (as_many t c.push.new.self) passed;
+      each = subst (Each IsRow) (sym all) (each_append IsRow (rows_of old rows) (row_of t row ∷ []) before.each (c.in-Ok.ensures.fits, tt));
+      room = room_all at next (row_line (row_of t row) ∷ []) (c.in-Ok.ensures.ok 0).taken before.room;
     }
+
+pub returns-clause-ok : goal.returns-clause-ok
+returns-clause-ok c =
+    let count = c.in_ok-count.count in
+    let start = unread c.args.start in
+    let at = unread c.loop-at.at in
+    let t = c.loop-at.reader in
+    let rows = rows_of t c.loop-at.rows in
+    let before = c.loop-at.invariant in
+    let same : c.of.result ≡ rows = c.of.ensures ∙ (λ i. rows_of (c.into_parts.ensures i) (c.into_vec.ensures i)) in
+    let none : count - length c.loop-at.rows ≡ 0 = omega (arith, c.len.ensures) in
+    let many : count ≡ length rows = omega (arith, c.len.ensures, before.few, as_many t c.loop-at.rows) in
+    let passed = subst (λ (due : Due). Passed RowCount start (number_line (codes "rows") count ∷ map row_line rows) due at) (ap rows_due none) (passed_more c.in_ok-count.ensures.ok before.passed) in
+    subst (λ (rs : List CertRow). Passed RowCount start (row_lines rs) End at) (sym same)
+    (subst (λ (n : ℕ). Passed RowCount start (number_line (codes "rows") n ∷ map row_line rows) End at) many passed)

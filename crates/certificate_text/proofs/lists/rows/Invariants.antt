@@ -1,4 +1,5 @@
 use Rattle.std.proofs.Common.{◌≤◌, ◌-◌, length, map}
+use Rattle.certificate.specs.NumberedRows.{AreLive, rows_of}
 use Rattle.certificate_text.specs.Faults.{Passed, rows_due}
 use Rattle.certificate_text.specs.Lines.{IsRow, row_line}
 use Rattle.certificate_text.specs.Unread.{HasRoom, unread}
@@ -9,8 +10,9 @@ use Rattle.certificate_text.proofs.lists.rows.Given as goal
 abbrev pub invariant-loop-at : goal.invariant-loop-at
 invariant-loop-at l = record {
   few : length l.rows ≤ l.count;
-  passed : Passed (rows_due l.count) (unread l.initial.at) (map row_line l.rows) (rows_due (l.count - length l.rows)) (unread l.at);
-  each : Each IsRow l.rows;
+  live : AreLive l.reader l.rows;
+  passed : Passed (rows_due l.count) (unread l.initial.at) (map row_line (rows_of l.reader l.rows)) (rows_due (l.count - length l.rows)) (unread l.at);
+  each : Each IsRow (rows_of l.reader l.rows);
   room : HasRoom (unread l.at);
 }
 

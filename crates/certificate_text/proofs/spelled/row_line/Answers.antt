@@ -1,30 +1,19 @@
-use Rattle.std.proofs.Common.{sym}
-use Rattle.certificate_text.proofs.LineWords.{Numbers}
-use Rattle.certificate_text.proofs.LineLemmas.{row_no_label, row_no_cut, row_no_residual, row_no_bound, row_spelled}
+use Rattle.std.proofs.Common.{subst, sym}
+use Rattle.certificate.specs.NumberedRows.{key_of, row_of}
+use Rattle.residual_keys.specs.ResidualText.{Spells}
+use Rattle.residual_keys.specs.Residuals.{State}
+use Rattle.residual_table.specs.Keys.{StandsFor}
+use Rattle.residual_table.proofs.KeyFacts.{residual_is}
+use Rattle.residual_table.proofs.Matched.{on_some}
 use Rattle.certificate_text.proofs.spelled.row_line.Goals as goal
 
-pub returns-in_err-rest : goal.returns-in_err-rest
-returns-in_err-rest c = rw c.from_residual.ensures (row_no_label c.args.line.now c.in_err-rest.ensures)
-
-pub returns-in_err-residual : goal.returns-in_err-residual
-returns-in_err-residual c =
-    let k : Numbers = record { number = c.numbers_tell.ensures.number; digits = c.numbers_tell.ensures.digits } in
-    rw c.from_residual-in_err-residual.ensures (row_no_cut c.cuts_tell.ensures.last k c.args.line.now c.in_ok-rest.rest.now c.in_ok-rest.ensures c.in_err-residual.ensures)
-
-pub returns-in_err-residual-2 : goal.returns-in_err-residual-2
-returns-in_err-residual-2 c =
-    let k : Numbers = record { number = c.numbers_tell.ensures.number; digits = c.numbers_tell.ensures.digits } in
-    rw c.from_residual-in_err-residual-2.ensures
-    (row_no_residual c.cuts_tell.ensures.last k c.args.line.now c.in_ok-rest.rest.now (c.in_ok-residual.residual.now, c.in_ok-residual.bound.now) c.in_ok-rest.ensures c.in_ok-residual.ensures c.in_err-residual-2.ensures)
-
-pub returns-in_err-bound : goal.returns-in_err-bound
-returns-in_err-bound c =
-    let k : Numbers = record { number = c.numbers_tell.ensures.number; digits = c.numbers_tell.ensures.digits } in
-    rw c.from_residual-in_err-bound.ensures
-    (row_no_bound c.cuts_tell.ensures.last k c.args.line.now c.in_ok-rest.rest.now (c.in_ok-residual.residual.now, c.in_ok-residual.bound.now) c.in_ok-rest.ensures c.in_ok-residual.ensures (sym c.in_err-bound.ensures))
-
-pub returns : goal.returns
-returns c =
-    let k : Numbers = record { number = c.numbers_tell.ensures.number; digits = c.numbers_tell.ensures.digits } in
-    row_spelled c.cuts_tell.ensures.last k c.args.line.now c.in_ok-rest.rest.now (c.in_ok-residual.residual.now, c.in_ok-residual.bound.now) c.in_ok-residual-2.residual.now c.in_ok-bound.bound
-    c.in_ok-rest.ensures c.in_ok-residual.ensures c.in_ok-residual-2.ensures (sym c.in_ok-bound.ensures)
+pub returns-clause-row : goal.returns-clause-row
+returns-clause-row c =
+    let text = c.in-Some.residual.now in
+    let t = c.read.new.self in
+    let row = c.new.result in
+    let found = on_some _ _ c.in_ok-key.field-0 c.in-Some-2.key c.in-Some-2.is c.in_ok-key.ensures.key in
+    let x : State = found.0 in
+    let stands : StandsFor t (key_of row) x = subst (λ k. StandsFor t k x) (sym c.new.ensures.key) found.2 in
+    let spells = subst (Spells text) (sym (residual_is t (key_of row) x stands)) found.1 in
+    ((x, stands), (c.in-Some.ensures (row_of t row)).1 (spells, c.new.ensures.bound))

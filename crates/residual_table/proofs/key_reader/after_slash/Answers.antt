@@ -1,8 +1,8 @@
 use Rattle.std.proofs.Common.{◌∙◌, ◌++◌, Some, ap}
 use Rattle.std.proofs.lemmas.Bool.Decides.{Decides-eqb}
 use Rattle.std.proofs.lemmas.Slice.Eq.{strip_prefix_is}
-use Rattle.residual_keys.proofs.SlashAhead.{slash_first}
-use Rattle.residual_keys.proofs.reader.after_slash.Goals as goal
+use Rattle.residual_table.proofs.SlashAhead.{slash_first}
+use Rattle.residual_table.proofs.key_reader.after_slash.Goals as goal
 
 pub returns : goal.returns
 returns c =
