@@ -1,7 +1,6 @@
 //! Filings of known texts.
 use fare_filing::{FilingFault, filing_text, read_filing};
 use fare_law::List;
-use rule_text::RuleFault;
 use std::alloc::Global;
 use std::test::Fail;
 
@@ -13,7 +12,7 @@ fn written(alloc: Global, text: &[u8]) -> Result<List<u8>, FilingFault> {
 
 #[test]
 fn writes_each_action(rt: HostRuntime) -> Result<(), Fail> {
-    let cases: [(&str, &[u8], &[u8]); 10] = [
+    let cases: [(&str, &[u8], &[u8]); 11] = [
         ("no action", br#" {"actions":[]}"#, br#"{"actions":[]}"#),
         (
             "a fare is put",
@@ -29,6 +28,11 @@ fn writes_each_action(rt: HostRuntime) -> Result<(), Fail> {
             "a rule is put",
             br#"{"actions":[{"put_rule":{"rule":1,"carrier":"QX","cat5":14,"cat10":{"kinds":["circle"],"partners":"any","end_on_end":"never"},"cat6":{"sunday":true,"days":0}}}]}"#,
             br#"{"actions":[{"put_rule":{"carrier":"QX","cat10":{"end_on_end":"never","kinds":["circle"],"partners":"any"},"cat5":14,"cat6":{"days":0,"sunday":true},"rule":1}}]}"#,
+        ),
+        (
+            "a rule of all categories",
+            br#"{"actions":[{"put_rule":{"carrier":"QX","rule":1,"cat2":{"days":[1,7],"from":"06:30","to":"23:59"},"cat3":[["2031-01-01","2031-06-30"]],"cat4":{"allow":false,"flights":[["QX",100,101]]},"cat5":14,"cat6":{"days":3,"sunday":true},"cat7":365,"cat8":{"max":2,"charge":1000000,"places":["DUB"]},"cat9":{"max":3,"online":false},"cat10":{"kinds":["round_trip","circle"],"partners":"same_rule","end_on_end":"same_carrier"},"cat12":[{"carrier":"QX","low":101,"high":9999,"first":"2031-03-03","last":"2031-03-03","amount":1500}],"cat14":{"ranges":[["2031-01-01","2031-06-30"]],"by":"2031-03-31"}}}]}"#,
+            br#"{"actions":[{"put_rule":{"carrier":"QX","cat10":{"end_on_end":"same_carrier","kinds":["round_trip","circle"],"partners":"same_rule"},"cat12":[{"amount":1500,"carrier":"QX","first":"2031-03-03","high":9999,"last":"2031-03-03","low":101}],"cat14":{"by":"2031-03-31","ranges":[["2031-01-01","2031-06-30"]]},"cat2":{"days":[1,7],"from":"06:30","to":"23:59"},"cat3":[["2031-01-01","2031-06-30"]],"cat4":{"allow":false,"flights":[["QX",100,101]]},"cat5":14,"cat6":{"days":3,"sunday":true},"cat7":365,"cat8":{"charge":1000000,"max":2,"places":["DUB"]},"cat9":{"max":3,"online":false},"rule":1}}]}"#,
         ),
         (
             "a rule without a category",
@@ -64,126 +68,6 @@ fn writes_each_action(rt: HostRuntime) -> Result<(), Fail> {
     for (name, text, expected) in cases {
         let written = written(rt.alloc(), text).expect(&rt, "a filing");
         assert_eq!(rt; written.as_slice(), expected, "{name}");
-    }
-    Ok(())
-}
-
-// The fault of a text.
-fn fault(alloc: Global, text: &[u8]) -> Option<FilingFault> {
-    match read_filing(alloc, text) {
-        Ok(_) => None,
-        Err(fault) => Some(fault),
-    }
-}
-
-fn shape(action: u32) -> FilingFault {
-    FilingFault::Shape { action }
-}
-
-fn in_rule(action: u32, fault: RuleFault) -> FilingFault {
-    FilingFault::Rule { action, fault }
-}
-
-#[test]
-fn names_the_first_fault(rt: HostRuntime) -> Result<(), Fail> {
-    let cases: [(&str, &[u8], FilingFault); 22] = [
-        ("no JSON", br#"{"actions":[]"#, FilingFault::Syntax),
-        ("no member", b"{}", shape(0)),
-        ("another member", br#"{"actions":[],"note":1}"#, shape(0)),
-        ("no list", br#"{"actions":{}}"#, shape(0)),
-        (
-            "an action that is no object",
-            br#"{"actions":[1]}"#,
-            shape(1),
-        ),
-        (
-            "two members in an action",
-            br#"{"actions":[{"drop_rule":{"carrier":"QX","rule":1},"put_rule":{"carrier":"QX","rule":1}}]}"#,
-            shape(1),
-        ),
-        (
-            "an action of another name",
-            br#"{"actions":[{"drop_rule":{"carrier":"QX","rule":1}},{"put_rules":{"carrier":"QX","rule":1}}]}"#,
-            shape(2),
-        ),
-        (
-            "a kind of fare that isn't named",
-            br#"{"actions":[{"put_fare":{"carrier":"QX","from":"LON","to":"NYC","basis":"Y1","class":"Y","kind":"o","amount":20000,"rule":0}}]}"#,
-            shape(1),
-        ),
-        (
-            "a fare with a further member is dropped",
-            br#"{"actions":[{"drop_fare":{"carrier":"QX","from":"LON","to":"NYC","basis":"Y1","rule":0}}]}"#,
-            shape(1),
-        ),
-        (
-            "a bad carrier before the rule's own fault",
-            br#"{"actions":[{"put_rule":{"carrier":"qx","rule":1,"foo":1}}]}"#,
-            shape(1),
-        ),
-        (
-            "rule 0 before the rule's own fault",
-            br#"{"actions":[{"put_rule":{"carrier":"QX","rule":0,"cat5":366}}]}"#,
-            shape(1),
-        ),
-        (
-            "a rule with a member that isn't named",
-            br#"{"actions":[{"put_rule":{"carrier":"QX","rule":1,"foo":1}}]}"#,
-            in_rule(1, RuleFault::Unknown),
-        ),
-        (
-            "a surcharge without its amount, before an action of no form",
-            br#"{"actions":[{"drop_rule":{"carrier":"QX","rule":1}},{"put_rule":{"carrier":"QX","rule":1,"cat12":[{"carrier":"QX","low":1,"high":2,"first":"2031-03-03","last":"2031-03-03"}]}},{}]}"#,
-            in_rule(2, RuleFault::Missing),
-        ),
-        (
-            "a member that isn't named before one that is absent",
-            br#"{"actions":[{"put_rule":{"carrier":"QX","rule":1,"cat6":{"foo":1}}}]}"#,
-            in_rule(1, RuleFault::Unknown),
-        ),
-        (
-            "366 days in advance",
-            br#"{"actions":[{"put_rule":{"carrier":"QX","rule":1,"cat5":366}}]}"#,
-            in_rule(1, RuleFault::Range),
-        ),
-        (
-            "rule 0 is dropped",
-            br#"{"actions":[{"drop_rule":{"carrier":"QX","rule":0}}]}"#,
-            shape(1),
-        ),
-        (
-            "rule 10000 is dropped",
-            br#"{"actions":[{"drop_rule":{"carrier":"QX","rule":10000}}]}"#,
-            shape(1),
-        ),
-        (
-            "a class twice",
-            br#"{"actions":[{"put_seats":{"carrier":"QX","number":101,"from":"LON","date":"*","seats":"Y9Y9"}}]}"#,
-            shape(1),
-        ),
-        (
-            "no pair",
-            br#"{"actions":[{"put_seats":{"carrier":"QX","number":101,"from":"LON","date":"*","seats":""}}]}"#,
-            shape(1),
-        ),
-        (
-            "a day that isn't",
-            br#"{"actions":[{"put_seats":{"carrier":"QX","number":101,"from":"LON","date":"2031-02-29","seats":"Y9"}}]}"#,
-            shape(1),
-        ),
-        (
-            "seats of flight 0 are dropped",
-            br#"{"actions":[{"drop_seats":{"carrier":"QX","number":0,"from":"LON","date":"*"}}]}"#,
-            shape(1),
-        ),
-        (
-            "seats are dropped by their number",
-            br#"{"actions":[{"drop_seats":{"carrier":"QX","number":101,"from":"LON","date":"*","seats":"Y9"}}]}"#,
-            shape(1),
-        ),
-    ];
-    for (name, text, expected) in cases {
-        assert_eq!(rt; fault(rt.alloc(), text), Some(expected), "{name}");
     }
     Ok(())
 }
