@@ -183,15 +183,31 @@ fn keeps_what_two_passes_built(rt: HostRuntime) -> Result<(), Fail> {
     Ok(())
 }
 
+/// What a pass keeps by nine keys of one home.
+fn of_one_home(alloc: Global, store: &NodeStore) -> Result<[Option<u64>; 9], Mem> {
+    let mut pass = store.pass(alloc)?;
+    let mut found = [None; 9];
+    for amount in 0..9 {
+        found[amount as usize] = keep(alloc, store, &mut pass, amount)?;
+    }
+    Ok(found)
+}
+
 /// The ninth key of one home finds no room in a store of many cells.
 #[test]
 fn fills_eight_cells(rt: HostRuntime) -> Result<(), Fail> {
-    let alloc = rt.alloc();
-    let store = NodeStore::new(alloc, 16)?;
-    let mut pass = store.pass(alloc)?;
-    for amount in 0..9 {
-        let found = kept(store.keep(alloc, &mut pass, &node(alloc, amount)?)?);
-        assert_eq!(rt; found, (amount < 8).then_some(u64::from(amount)));
-    }
+    let store = NodeStore::new(rt.alloc(), 16)?;
+    let kept = [
+        Some(0),
+        Some(1),
+        Some(2),
+        Some(3),
+        Some(4),
+        Some(5),
+        Some(6),
+        Some(7),
+        None,
+    ];
+    assert_eq!(rt; of_one_home(rt.alloc(), &store), Ok(kept));
     Ok(())
 }

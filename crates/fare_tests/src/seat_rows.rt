@@ -1,11 +1,8 @@
-//! Rows of seats that are put and dropped, up to as many as there may be.
+//! As many rows of seats as there may be.
 use fare_law::{Carrier, Flight, Place, SeatKey, SeatRow};
 use seat_classes::{SeatPut, Seats};
 use std::alloc::Global;
 use std::test::Fail;
-
-// 2031-03-03.
-const MONDAY: i32 = 22341;
 
 const LON: Place = Place(*b"LON");
 
@@ -63,38 +60,6 @@ fn put(alloc: Global, held: &mut Seats, day: Option<i32>, seats: [u8; 32]) -> Re
 /// How many rows there are, and the seats of the flight of a day.
 fn told(held: &Seats, day: i32) -> (u32, [u8; 32]) {
     (held.count(), held.seats_of(&flight(day)))
-}
-
-/// Whether a row was dropped, and what is told of Monday after it.
-fn dropped(held: &mut Seats, day: Option<i32>) -> (bool, (u32, [u8; 32])) {
-    let was_there = held.drop_row(&key(day));
-    (was_there, told(held, MONDAY))
-}
-
-/// Monday's row, once more, and the row of all days.
-fn all_dropped(held: &mut Seats) -> [(bool, (u32, [u8; 32])); 3] {
-    [
-        dropped(held, Some(MONDAY)),
-        dropped(held, Some(MONDAY)),
-        dropped(held, None),
-    ]
-}
-
-#[test]
-fn puts_and_drops_rows(rt: HostRuntime) -> Result<(), Fail> {
-    let mut held = Seats::build(rt.alloc(), &[row(2, None, seats(4, 9))])?;
-    let before = held.clone()?;
-    put(rt.alloc(), &mut held, Some(MONDAY), seats(0, 1))?;
-    put(rt.alloc(), &mut held, None, seats(3, 3))?;
-    assert_eq!(rt; told(&held, MONDAY), (2, seats(0, 1)));
-    let expected = [
-        (true, (1, seats(3, 3))),
-        (false, (1, seats(3, 3))),
-        (true, (0, [0; 32])),
-    ];
-    assert_eq!(rt; all_dropped(&mut held), expected);
-    assert_eq!(rt; told(&before, MONDAY), (1, seats(4, 9)));
-    Ok(())
 }
 
 /// A row for each of 199,999 days.

@@ -5,7 +5,7 @@ ghost use Rattle.best_k.specs.ExampleLaws.{doubling_laws, sparse_laws};
 
 use best_k::{Choice, Lattice, best};
 use fare_law::Code;
-use std::process::Abort;
+use std::alloc::Global;
 use std::test::Fail;
 
 fn word(number: u64) -> Code
@@ -78,37 +78,42 @@ impl Lattice for Sparse {
     }
 }
 
-/// Asserts that these are the `k` least derivations of a node of `Doubling`: their prices, and their
-/// words joined, each of `length` numbers.
-fn expect_best(
-    rt: &(impl Abort + AllocGlobal),
+/// The prices of the `k` least derivations of a node of `Doubling`, and their words joined, each of `length` numbers.
+fn least(
+    alloc: Global,
     (node, k, length): (u64, u32, usize),
-    prices: &[u64],
-    words: &[u64],
-) -> Result<(), Fail> {
-    assert!(rt; node < 7);
-    let found = best(rt.alloc(), &Doubling, node, k)?;
-    let mut found_prices = Vec::new(rt.alloc());
-    let mut found_words = Vec::new(rt.alloc());
-    for derivation in found.as_slice() {
-        assert_eq!(rt; derivation.word.len(), length, "of node {node}");
-        found_prices.push(derivation.price)?;
-        found_words.extend_from_slice(derivation.word.as_slice())?;
+) -> Result<(Vec<u64>, Vec<u64>), Fail> {
+    if node >= 7 {
+        return Err(Fail::new("no such node"));
     }
-    assert_eq!(rt; found_prices.as_slice(), prices, "of node {node}");
-    assert_eq!(rt; found_words.as_slice(), words, "of node {node}");
-    Ok(())
+    let mut prices = Vec::new(alloc);
+    let mut words = Vec::new(alloc);
+    for derivation in best(alloc, &Doubling, node, k)?.as_slice() {
+        if derivation.word.len() != length {
+            return Err(Fail::new("a word of another length"));
+        }
+        prices.push(derivation.price)?;
+        words.extend_from_slice(derivation.word.as_slice())?;
+    }
+    Ok((prices, words))
+}
+
+/// Whether these are the prices and joined words of the `k` least derivations.
+fn are_least(alloc: Global, of: (u64, u32, usize), expected: (&[u64], &[u64])) -> Result<bool, Fail> {
+    let (prices, words) = least(alloc, of)?;
+    Ok(prices.as_slice() == expected.0 && words.as_slice() == expected.1)
 }
 
 #[test]
 fn least_of_doubling(rt: HostRuntime) -> Result<(), Fail> {
-    // Leaves, fewer than asked for; pairs, with a tie; two of 2^64 derivations; none asked for.
-    expect_best(&rt, (0, 3, 1), &[3, 5], &[2, 1])?;
-    expect_best(&rt, (1, 3, 2), &[6, 8, 8], &[2, 2, 1, 2, 2, 1])?;
+    let alloc = rt.alloc();
     let mut twos_then_one_first = [2; 128];
     twos_then_one_first[64] = 1;
-    expect_best(&rt, (6, 2, 64), &[192, 194], &twos_then_one_first)?;
-    expect_best(&rt, (6, 0, 64), &[], &[])?;
+    // Leaves, fewer than asked for; pairs, with a tie; two of 2^64 derivations; none asked for.
+    assert!(rt; are_least(alloc, (0, 3, 1), (&[3, 5], &[2, 1]))?);
+    assert!(rt; are_least(alloc, (1, 3, 2), (&[6, 8, 8], &[2, 2, 1, 2, 2, 1]))?);
+    assert!(rt; are_least(alloc, (6, 2, 64), (&[192, 194], &twos_then_one_first))?);
+    assert!(rt; are_least(alloc, (6, 0, 64), (&[], &[]))?);
     Ok(())
 }
 

@@ -1,25 +1,16 @@
 //! The book of one flight, and what is filed and asked for it.
 ghost use Rattle.std.specs.Prelude.{◌≡◌, ◌≤◌, IfOk};
-ghost use Rattle.std.specs.Arc.{arc_value};
-ghost use Rattle.fare_law.specs.FilingLimits.{IsAction, IsFiling};
+ghost use Rattle.fare_law.specs.FilingLimits.{IsAction};
 ghost use Rattle.fare_law.specs.Limits.{IsFareKey};
 
+use crate::filings::{LON, NYC, QX, Y, fare_key, filing_of, put, seats};
 use fare_book::Book;
-use fare_law::{
-    Action, ArrayVec, Basis, Carrier, Fare, FareKey, FareKind, Filing, FlightRow, List, Mem, Place,
-    PlaceRow, Request, SeatRow, Slice,
-};
+use fare_law::{Action, ArrayVec, FareKey, FareKind, FlightRow, Mem, PlaceRow, Request, Slice};
 use fare_versions::{Clerk, FileFault, Receipt};
 use schedule_book::Schedule;
 use std::alloc::Global;
-use std::sync::{Arc, Wait};
+use std::sync::Wait;
 use std::test::Fail;
-
-const LON: Place = Place(*b"LON");
-
-const NYC: Place = Place(*b"NYC");
-
-const QX: Carrier = Carrier(*b"QX");
 
 const PLACES: [PlaceRow; 2] = [
     PlaceRow {
@@ -51,38 +42,18 @@ const FLIGHT: FlightRow = FlightRow {
     days: 1,
 };
 
-/// Nine seats in class Y.
-const SEATS: SeatRow = SeatRow {
-    line: 7,
-    carrier: QX,
-    number: 1,
-    from: LON,
-    day: None,
-    seats: [
-        0, 0, 0, 0, 0, 0, 0, 0, 0, 0, 0, 0, 0, 0, 0, 0, 0, 0, 0, 0, 0, 0, 0, 0, 9, 0, 0, 0, 0, 0,
-        0, 0,
-    ],
-};
-
-/// The book of one flight and no fare.
+/// The book of one flight with nine seats in class Y and no fare.
 pub fn opening(alloc: Global) -> Result<Book, Fail> {
     let schedule = Schedule::build(alloc, &PLACES, &[FLIGHT])?;
-    Ok(Book::empty(alloc, schedule, &[SEATS])?)
+    Ok(Book::empty(alloc, schedule, &[seats(QX, 1, LON, [0, 0, 9])])?)
 }
 
 /// The key of the fare QX LON NYC with this basis of one letter.
-pub fn key(letter: u8) -> FareKey
+pub fn key_out(letter: u8) -> FareKey
     requires { (65 ≤ letter) × (letter ≤ 90) }
     ensures { IsFareKey result }
 {
-    let mut basis = ArrayVec::new();
-    basis.push(letter);
-    FareKey {
-        carrier: QX,
-        from: LON,
-        to: NYC,
-        basis: Basis(basis),
-    }
+    fare_key(QX, LON, NYC, letter)
 }
 
 /// The key of the fare QX NYC LON with this basis of one letter.
@@ -90,39 +61,16 @@ pub fn key_back(letter: u8) -> FareKey
     requires { (65 ≤ letter) × (letter ≤ 90) }
     ensures { IsFareKey result }
 {
-    let mut basis = ArrayVec::new();
-    basis.push(letter);
-    FareKey {
-        carrier: QX,
-        from: NYC,
-        to: LON,
-        basis: Basis(basis),
-    }
+    fare_key(QX, NYC, LON, letter)
 }
 
-/// A filing of one action.
-pub fn filing(alloc: Global, action: Action) -> Result<Arc<Filing>, Mem>
-    requires { IsAction action }
-    ensures { IfOk result (λ filing. IsFiling (arc_value filing)) }
-{
-    let mut actions = List::new(alloc);
-    actions.push(action)?;
-    Ok(Arc::new(alloc, Filing { actions })?)
-}
-
-/// The fare of this key is put at this amount.
-pub fn put(key: FareKey, amount: u64) -> Action
+/// The one-way fare of this key in class Y is put at this amount.
+pub fn put_at(key: FareKey, amount: u64) -> Action
     requires key { IsFareKey key }
     requires amount { amount ≤ 1000000000 }
     ensures { IsAction result }
 {
-    Action::PutFare(Fare {
-        key,
-        class: 24,
-        kind: FareKind::O,
-        amount,
-        rule: 0,
-    })
+    put(key, Y, FareKind::O, amount, 0)
 }
 
 /// What came of filing one action.
@@ -136,7 +84,7 @@ pub fn file<R: Wait>(
     ensures house { clerk.new.house ≡ clerk.old.house }
     ensures receipt { IfOk result (λ r. r.house ≡ clerk.new.house) }
 {
-    match filing(alloc, action) {
+    match filing_of(alloc, action) {
         Ok(filing) => clerk.file(rt, alloc, filing),
         Err(Mem) => Err(FileFault::Mem),
     }

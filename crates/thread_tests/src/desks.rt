@@ -3,7 +3,7 @@ ghost use Rattle.std.specs.Prelude.{◌≡◌, ◌<◌, ◌≤◌, All, IfOk};
 ghost use Rattle.fare_law.specs.FilingLimits.{IsAction};
 ghost use Rattle.fare_versions.specs.Seen.{HasSeen};
 
-use crate::books::{file, key, key_back, opening, put, request};
+use crate::books::{file, key_back, key_out, opening, put_at, request};
 use fare_law::{Action, Gate, List, Mem};
 use fare_versions::{Clerk, FileFault, Watch, begin};
 use node_publish::NodeStore;
@@ -63,9 +63,9 @@ fn put_of(offer: Offer) -> Action
     ensures { IsAction result }
 {
     match offer {
-        Offer::First => put(key(b'Y'), 20000),
-        Offer::Cheaper => put(key(b'B'), 15000),
-        Offer::Back => put(key_back(b'Y'), 15000),
+        Offer::First => put_at(key_out(b'Y'), 20000),
+        Offer::Cheaper => put_at(key_out(b'B'), 15000),
+        Offer::Back => put_at(key_back(b'Y'), 15000),
     }
 }
 
@@ -156,6 +156,26 @@ fn desk_of(clerk: &Clerk, watch: Watch, store: &NodeStore, alloc: Global) -> Res
     Ok(Desk::new(watch, store.pass(alloc)?, 1))
 }
 
+/// The two desks of these watches.
+fn desks_of(
+    clerk: &Clerk,
+    watches: List<Watch>,
+    store: &NodeStore,
+    alloc: Global,
+) -> Result<(Desk, Desk), Fail>
+    requires { All (HasSeen clerk.now) watches }
+    ensures first { IfOk result (λ d. (d.0.sight.house ≡ clerk.now.house) × (d.0.pass.cells ≡ store.now)) }
+    ensures second { IfOk result (λ d. (d.1.sight.house ≡ clerk.now.house) × (d.1.pass.cells ≡ store.now)) }
+{
+    let mut watches = watches.into_vec();
+    let (Some(one), Some(other)) = (watches.pop(), watches.pop()) else {
+        return Err(Fail::new("not two watches"));
+    };
+    let first = desk_of(clerk, one, store, alloc)?;
+    let second = desk_of(clerk, other, store, alloc)?;
+    Ok((first, second))
+}
+
 /// What the two desks find, one after the other.
 fn in_turn<R: Wait>(
     rt: &R,
@@ -167,12 +187,7 @@ fn in_turn<R: Wait>(
 ) -> Result<(Vec<Found>, Vec<Found>), Fail>
     requires { All (HasSeen clerk.old) watches }
 {
-    let mut watches = watches.into_vec();
-    let (Some(one), Some(other)) = (watches.pop(), watches.pop()) else {
-        return Err(Fail::new("not two watches"));
-    };
-    let mut first = desk_of(clerk, one, store, alloc)?;
-    let mut second = desk_of(clerk, other, store, alloc)?;
+    let (mut first, mut second) = desks_of(clerk, watches, store, alloc)?;
     let before = follow(rt, alloc, clerk, &mut first, store, turns.first)?;
     let _first = turns.stays.then_some(first);
     let after = follow(rt, alloc, clerk, &mut second, store, turns.second)?;

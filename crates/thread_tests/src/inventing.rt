@@ -7,7 +7,8 @@ ghost use Rattle.fare_versions.specs.Seen.{HasSeen};
 ghost use Rattle.script_text.specs.Script.{IsScript};
 ghost use Rattle.serve_desks.specs.Terms.{IsOf, terms_of};
 
-use crate::books::{filing, key, opening, put, request};
+use crate::books::{key_out, opening, put_at, request};
+use crate::filings::filing_of;
 use fare_book::Book;
 use fare_law::{Action, BookWhy, Filing, Gate, List, Mem, Refused, TextLine};
 use fare_versions::{Clerk, Receipt, Watch, begin};
@@ -161,8 +162,8 @@ fn later(alloc: Global) -> Result<List<Arc<Filing>>, Mem>
     ensures count { IfOk result (λ l. length l ≡ 2) }
 {
     let mut later = List::new(alloc);
-    later.push(filing(alloc, put(key(b'Y'), 20000))?)?;
-    later.push(filing(alloc, Action::DropFare(key(b'B')))?)?;
+    later.push(filing_of(alloc, put_at(key_out(b'Y'), 20000))?)?;
+    later.push(filing_of(alloc, Action::DropFare(key_out(b'B')))?)?;
     Ok(later)
 }
 

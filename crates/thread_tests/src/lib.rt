@@ -1,8 +1,11 @@
-//! Tests of what threads share: what a watch sees of a clerk's filings, what desks find while filings come, and that books,
-//! watches, receipts, clerks and stores of nodes may cross to other threads; and of the top calls over streams. Nothing stands on
-//! this crate.
+//! Tests of what threads share: what a watch sees of a clerk's filings, what desks find while filings come, the core of interleavings
+//! and the joint search on a board; and that books, watches, receipts, clerks and stores of nodes may cross to other threads. A call
+//! that answers want of memory, and a board that never shares, meet their contracts; these tests refuse them. Nothing stands on this
+//! crate.
 #![tactic(auto)]
 
+#[cfg(test)]
+mod boards;
 #[cfg(test)]
 mod books;
 #[cfg(test)]
@@ -10,10 +13,18 @@ mod crossings;
 #[cfg(test)]
 mod desks;
 #[cfg(test)]
+mod filings;
+#[cfg(test)]
 mod inventing;
+#[cfg(test)]
+mod keys;
+#[cfg(test)]
+mod round_trip;
 #[cfg(test)]
 mod served;
 #[cfg(test)]
-mod streams;
+mod two_carriers;
 #[cfg(test)]
 mod versions;
+#[cfg(test)]
+mod worlds;

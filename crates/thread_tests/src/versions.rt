@@ -2,7 +2,7 @@
 ghost use Rattle.std.specs.Prelude.{◌≡◌, All, IfSome};
 ghost use Rattle.fare_versions.specs.Seen.{HasSeen};
 
-use crate::books::{file, key, opening, put};
+use crate::books::{file, key_out, opening, put_at};
 use fare_law::{Action, BookWhy, List, Mem, Refused};
 use fare_versions::{Clerk, FileFault, Watch, begin};
 use std::alloc::Global;
@@ -41,12 +41,12 @@ fn ask_all<R: Wait>(
     ensures { watch.new.house ≡ clerk.new.house }
 {
     let first = look(watch)?;
-    let filed = file(rt, alloc, clerk, put(key(b'Y'), 20000))?.number();
+    let filed = file(rt, alloc, clerk, put_at(key_out(b'Y'), 20000))?.number();
     let second = look(watch)?;
     watch.learn(&clerk.tell());
     let third = look(watch)?;
     let known = watch.seen();
-    let refused = file(rt, alloc, clerk, Action::DropFare(key(b'B'))).err();
+    let refused = file(rt, alloc, clerk, Action::DropFare(key_out(b'B'))).err();
     Ok(Answers {
         seen: [first, second, third],
         known,

@@ -1,11 +1,10 @@
 //! The least runs of a graph of switches.
 ghost use Rattle.std.specs.Prelude.{◌≡◌, ⊤, IfOk};
-ghost use Rattle.search_tests.specs.Switches.{HasSwitch, switch};
+ghost use Rattle.path_tests.specs.Switches.{HasSwitch, switch};
 
 use best_steps::{Step, Steps, best_steps};
 use fare_law::{List, Mem};
 use std::alloc::Global;
-use std::process::Abort;
 use std::test::Fail;
 
 /// Seven nodes. At each of them a switch is left off, or put on for 1; then comes the node below.
@@ -55,40 +54,39 @@ impl Steps for Switches {
     ghost further = { λ s t u l m. tt };
 }
 
-/// Asserts that these are the `k` least runs from a node of `Switches`: their prices, and their words joined.
+/// The prices of the `k` least runs from a node of `Switches`, and their words joined.
 #[tactic(auto, using(crate::proofs::SwitchLaws::switch_laws))]
-fn expect_best(
-    rt: &(impl Abort + AllocGlobal),
-    (node, k): (u64, u32),
-    prices: &[u64],
-    words: &[u64],
-) -> Result<(), Fail> {
-    assert!(rt; node < 7);
-    let found = best_steps(rt.alloc(), &mut Switches, node, k)?;
-    let mut found_prices = Vec::new(rt.alloc());
-    let mut found_words = Vec::new(rt.alloc());
-    for run in found.as_slice() {
-        found_prices.push(run.price)?;
-        found_words.extend_from_slice(run.word.as_slice())?;
+fn least(alloc: Global, (node, k): (u64, u32)) -> Result<(Vec<u64>, Vec<u64>), Fail> {
+    if node >= 7 {
+        return Err(Fail::new("no such node"));
     }
-    assert_eq!(rt; found_prices.as_slice(), prices, "of node {node}");
-    assert_eq!(rt; found_words.as_slice(), words, "of node {node}");
-    Ok(())
+    let mut prices = Vec::new(alloc);
+    let mut words = Vec::new(alloc);
+    for run in best_steps(alloc, &mut Switches, node, k)?.as_slice() {
+        prices.push(run.price)?;
+        words.extend_from_slice(run.word.as_slice())?;
+    }
+    Ok((prices, words))
 }
+
+/// Whether these are the prices and joined words of the `k` least runs.
+fn are_least(alloc: Global, of: (u64, u32), expected: (&[u64], &[u64])) -> Result<bool, Fail> {
+    let (prices, words) = least(alloc, of)?;
+    Ok(prices.as_slice() == expected.0 && words.as_slice() == expected.1)
+}
+
+/// The words of all runs of three switches, from the least to the greatest price.
+const EIGHT_WORDS: [u64; 24] = [
+    0, 0, 0, 0, 0, 1, 0, 1, 0, 1, 0, 0, 0, 1, 1, 1, 0, 1, 1, 1, 0, 1, 1, 1,
+];
 
 #[test]
 fn least_of_switches(rt: HostRuntime) -> Result<(), Fail> {
+    let alloc = rt.alloc();
     // Fewer than asked for; ties in the order of their words; none asked for.
-    expect_best(&rt, (0, 3), &[0, 1], &[0, 1])?;
-    expect_best(&rt, (1, 3), &[0, 1, 1], &[0, 0, 0, 1, 1, 0])?;
-    expect_best(
-        &rt,
-        (2, 8),
-        &[0, 1, 1, 1, 2, 2, 2, 3],
-        &[
-            0, 0, 0, 0, 0, 1, 0, 1, 0, 1, 0, 0, 0, 1, 1, 1, 0, 1, 1, 1, 0, 1, 1, 1,
-        ],
-    )?;
-    expect_best(&rt, (6, 0), &[], &[])?;
+    assert!(rt; are_least(alloc, (0, 3), (&[0, 1], &[0, 1]))?);
+    assert!(rt; are_least(alloc, (1, 3), (&[0, 1, 1], &[0, 0, 0, 1, 1, 0]))?);
+    assert!(rt; are_least(alloc, (2, 8), (&[0, 1, 1, 1, 2, 2, 2, 3], &EIGHT_WORDS))?);
+    assert!(rt; are_least(alloc, (6, 0), (&[], &[]))?);
     Ok(())
 }
