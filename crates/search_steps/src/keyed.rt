@@ -52,7 +52,9 @@ pub fn outcomes_of_key(
     lists_give_outcomes();
     let at = lists.find(alloc, case, tables, key.position)?;
     if lists.positions[at].bare.is_empty() {
-        return Ok(Vec::new(alloc));
+        let mut none = room;
+        none.clear();
+        return Ok(none);
     }
     let placed = placed_at(alloc, case, tables, lists, key, at)?;
     given_by(lists, key, &placed, room)

@@ -18,10 +18,8 @@ use residual_table::ResidualParts;
 use std::alloc::Global;
 
 /// So many lists of open units have room from the first on, and so many steps of them: what isn't written takes no memory, and
-/// long lists needn't be copied as they grow.
+/// long lists needn't be copied as they grow. More would cost each cell of a calendar, which asks for all of it anew.
 const MANY: usize = 16_384;
-
-const MANY_STEPS: usize = 65_536;
 
 impl StepLists {
     /// Where the lists of a position stand. They are made where they aren't known.
@@ -152,7 +150,7 @@ impl StepLists {
     {
         if self.units.is_empty() {
             self.units.reserve(MANY)?;
-            self.unit_steps.reserve(MANY_STEPS)?;
+            self.unit_steps.reserve(MANY)?;
         }
         Ok(())
     }

@@ -32,7 +32,7 @@ returns-then-is_empty-clause-outcomes c =
     let long : vec_len s.bare ≡ length s.bare.items = omega arith in
     let empty = none_bare s.bare.items (sym (ap (λ n. eqb n 0) long) ∙ sym c.is_empty.ensures ∙ c.if-is_empty.true) in
     let none = no_outcomes b q c.find.new.tables.kept.items l k r c.in_ok-at.at (c.lists_give_outcomes.ensures b q r) c.find.ensures.tables.tables c.find.ensures.right stands found (subst (λ (z : PositionSteps). z.bare.items ≡ []) same empty) in
-    subst (λ z. AreOutcomes (leads_of b q) z (outcomes_of (residual_at l.numbers) c.new.result.items)) (sym (residual_is old k r c.requires.live.1)) (subst (λ v. AreOutcomes (leads_of b q) r (outcomes_of (residual_at l.numbers) v)) (sym c.new.ensures.items) none)
+    subst (λ z. AreOutcomes (leads_of b q) z (outcomes_of (residual_at l.numbers) c.clear.new.self.items)) (sym (residual_is old k r c.requires.live.1)) (subst (λ v. AreOutcomes (leads_of b q) r (outcomes_of (residual_at l.numbers) v)) (sym c.clear.ensures.items) none)
 
 pub returns-clause-grows : goal.returns-clause-grows
 returns-clause-grows c = grows_on c.args.lists.now.numbers c.find.new.self.numbers c.placed_at.new.lists.numbers c.find.ensures.grows c.placed_at.ensures.grows
