@@ -23,7 +23,7 @@ pub record IsAnswer (b : Book) (q : Request) (a : Answer) : Type 0 where
   pub prices : Each (λ t. Costs t.ticket b q t.price) a.tickets
   pub certificate : CertOf b q a.certificate
 
--- A search of at most this many residuals has an answer where the request is right and no more are reached.
+-- The request is right, and no more residuals are reached than this many: so it is where a search has an answer.
 pub record Searchable (b : Book) (q : Request) (budget : ℕ) : Type 0 where
   pub right : judged (known_places b) q ≡ None
   pub small : ReachesMoreThan budget b q → ⊥
