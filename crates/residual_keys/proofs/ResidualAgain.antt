@@ -9,7 +9,7 @@ use Rattle.residual_keys.specs.declared.parts.TicketPart.{TicketPart}
 use Rattle.residual_keys.specs.declared.reading.Parts.{Parts}
 use Rattle.open_unit.specs.Ranges.{UnitInRanges}
 use Rattle.residual_keys.specs.Kept.{PartKept}
-use Rattle.residual_keys.specs.ResidualReading.{position_in, unit_in, units_in, part_in, parts_in}
+use Rattle.residual_keys.specs.ResidualReading.{position_in, opening_in, days_in, marks_in, unit_in, units_in, part_in, parts_in}
 use Rattle.residual_keys.specs.ResidualText.{AreCarriers, IsNamed, IsPosition, IsWritten, via_word, day_word, carriers_word, rules_word, unit_words, unit_text, units_text, part_text, residual_text}
 use Rattle.residual_keys.specs.Residuals.{State}
 use Rattle.residual_keys.proofs.WordFacts.{Words, space, slash, colon, angle, free_decimal, free_place, free_via, free_signed, free_day, free_carriers, free_unit, free_joined, first_within}
@@ -43,7 +43,7 @@ position_again k a rest h =
     ) refl
 
 unit_again : Words → (u : OpenUnit) → UnitInRanges u → IsNamed u → unit_in (unit_text u) ≡ Some u
-unfolding unit_in
+unfolding opening_in days_in marks_in unit_in
 unit_again k u h n =
     let t9 = rules_word u.rule in
     let t8 = carriers_word u.carrier ++ 58 ∷ t9 in
@@ -60,19 +60,19 @@ unit_again k u h n =
       k.cut.again 58 u.end.0 t1 (free_place 58 colon u.end n.end),
       k.cut.again 58 (decimal u.count) t2 (free_decimal k 58 colon u.count (omega (arith, h.count))),
       k.cut.again 58 (signed_decimal u.first_day) t3 (free_signed k 58 colon u.first_day h.first.0 (first_within u.first_day h.first)),
-      k.cut.again 58 (day_word u.least) t4 (free_day k 58 colon u.least h.least),
-      k.cut.again 58 (day_word u.greatest) t5 (free_day k 58 colon u.greatest h.greatest),
-      k.cut.again 58 (day_word u.by) t6 (free_day k 58 colon u.by h.by),
-      k.cut.again 58 (decimal u.kinds) t7 (free_decimal k 58 colon u.kinds (omega (arith, h.kinds))),
-      k.cut.again 58 (decimal u.partner) t8 (free_decimal k 58 colon u.partner (omega (arith, h.partner))),
-      k.cut.again 58 (carriers_word u.carrier) t9 (free_carriers 58 colon u.carrier n.carrier),
       place_again u.origin n.origin,
       place_again u.end n.end,
       k.number.again 255 u.count (omega (arith, h.count)) (omega (arith, h.count)),
       day_again k u.first_day h.first.0 (first_within u.first_day h.first),
+      k.cut.again 58 (day_word u.least) t4 (free_day k 58 colon u.least h.least),
+      k.cut.again 58 (day_word u.greatest) t5 (free_day k 58 colon u.greatest h.greatest),
+      k.cut.again 58 (day_word u.by) t6 (free_day k 58 colon u.by h.by),
       set_day_again k u.least h.least,
       set_day_again k u.greatest h.greatest,
       set_day_again k u.by h.by,
+      k.cut.again 58 (decimal u.kinds) t7 (free_decimal k 58 colon u.kinds (omega (arith, h.kinds))),
+      k.cut.again 58 (decimal u.partner) t8 (free_decimal k 58 colon u.partner (omega (arith, h.partner))),
+      k.cut.again 58 (carriers_word u.carrier) t9 (free_carriers 58 colon u.carrier n.carrier),
       k.number.again 255 u.kinds (omega (arith, h.kinds)) (omega (arith, h.kinds)),
       k.number.again 255 u.partner (omega (arith, h.partner)) (omega (arith, h.partner)),
       carriers_again u.carrier n.carrier,

@@ -1,21 +1,23 @@
 -- A text that is read is that of a residual.
-use Rattle.std.proofs.Common.{◌≡◌, ◌≤◌, ◌↔◌, ℕ, ℤ, List, [], ◌∷◌, ◌++◌, length, slice_get, Option, Some, None, refl, arith, ap, sym, ◌∙◌, subst, inl, inr, option_and_then}
+use Rattle.std.proofs.Common.{◌≡◌, ◌≤◌, ◌↔◌, ℕ, List, [], ◌∷◌, ◌++◌, length, slice_get, Option, Some, None, refl, arith, ap, sym, ◌∙◌, subst, inl, inr, option_and_then}
 use Rattle.std.specs.Fmt.{decimal, signed_decimal}
 use Rattle.std.specs.Prelude.{IfSome, IsSome}
 use Rattle.std.proofs.lemmas.Option.{same_Some}
+use Rattle.fare_law.specs.Limits.{IsPlace}
 use Rattle.fare_law.specs.Lists.{Each}
 use Rattle.fare_law.specs.declared.names.Place.{Place}
 use Rattle.flight_paths.specs.declared.positions.Position.{Position}
 use Rattle.name_text.specs.Names.{place_of}
-use Rattle.open_unit.specs.declared.marks.CarrierMark.{CarrierMark}
-use Rattle.open_unit.specs.declared.marks.RuleMark.{RuleMark}
 use Rattle.open_unit.specs.declared.units.OpenUnit.{OpenUnit}
 use Rattle.residual_keys.specs.declared.parts.TicketPart.{TicketPart}
+use Rattle.residual_keys.specs.declared.reading.Opening.{Opening}
 use Rattle.residual_keys.specs.declared.reading.Parts.{Parts}
+use Rattle.residual_keys.specs.declared.reading.SetDays.{SetDays}
+use Rattle.residual_keys.specs.declared.reading.UnitMarks.{UnitMarks}
 use Rattle.open_unit.specs.Ranges.{UnitInRanges}
 use Rattle.residual_keys.specs.Kept.{AreKept, IsResidual, open_units}
-use Rattle.residual_keys.specs.ResidualReading.{via_in, day_in, set_day_in, carriers_in, rules_in, position_in, unit_in, units_parted, units_in, part_in, parts_in}
-use Rattle.residual_keys.specs.ResidualText.{AreCarriers, IsNamed, IsPosition, IsWritten, Spells, via_word, day_word, carriers_word, rules_word, unit_text, units_text, part_text, residual_text}
+use Rattle.residual_keys.specs.ResidualReading.{via_in, day_in, set_day_in, carriers_in, rules_in, position_in, opening_in, days_in, marks_in, unit_in, units_parted, units_in, part_in, parts_in}
+use Rattle.residual_keys.specs.ResidualText.{AreCarriers, AreRules, IsNamed, IsPosition, IsWritten, Spells, via_word, day_word, carriers_word, rules_word, unit_text, units_text, part_text, residual_text}
 use Rattle.residual_keys.specs.Residuals.{State}
 use Rattle.residual_keys.proofs.WordFacts.{Words}
 use Rattle.residual_keys.proofs.WordsAgain.{marked, place_read, via_read, day_read, set_day_read, carriers_read, rules_read}
@@ -86,106 +88,114 @@ position_read k text p e =
 abbrev SpellsUnit : List ℕ → OpenUnit → Type 0
 SpellsUnit text u = IsNamed u × (text ≡ unit_text u)
 
-unit_whole : Words → (text : List ℕ) (u : OpenUnit) (a b c d f g h i j l : List ℕ × List ℕ) (origin end : Place) (count : ℕ) (first : ℤ) (least greatest by : Option ℤ) (kinds partner : ℕ) (carrier : CarrierMark) (rule : RuleMark)
-    → cut_at 62 text ≡ Some a → cut_at 58 a.1 ≡ Some b → cut_at 58 b.1 ≡ Some c → cut_at 58 c.1 ≡ Some d → cut_at 58 d.1 ≡ Some f → cut_at 58 f.1 ≡ Some g → cut_at 58 g.1 ≡ Some h → cut_at 58 h.1 ≡ Some i → cut_at 58 i.1 ≡ Some j → cut_at 58 j.1 ≡ Some l
-    → place_of a.0 ≡ Some origin → place_of b.0 ≡ Some end → number_in 255 c.0 ≡ Some count → day_in d.0 ≡ Some first → set_day_in f.0 ≡ Some least → set_day_in g.0 ≡ Some greatest → set_day_in h.0 ≡ Some by → number_in 255 i.0 ≡ Some kinds → number_in 255 j.0 ≡ Some partner → carriers_in l.0 ≡ Some carrier → rules_in l.1 ≡ Some rule
-    → ◌≡◌ {A = Option OpenUnit} (Some (record {
-      origin = origin;
-      end = end;
-      count = count;
-      first_day = first;
-      least = least;
-      greatest = greatest;
-      by = by;
-      kinds = kinds;
-      partner = partner;
-      carrier = carrier;
-      rule = rule;
-    })) (Some u) → SpellsUnit text u
-unit_whole k text u a b c d f g h i j l origin end count first least greatest by kinds partner carrier rule was_a was_b was_c was_d was_f was_g was_h was_i was_j was_l is_origin is_end is_count is_first is_least is_greatest is_by is_kinds is_partner is_carrier is_rule e =
-    let it : OpenUnit = record {
-      origin = origin;
-      end = end;
-      count = count;
-      first_day = first;
-      least = least;
-      greatest = greatest;
-      by = by;
-      kinds = kinds;
-      partner = partner;
-      carrier = carrier;
-      rule = rule;
-    } in
-    let read_origin = place_read a.0 origin is_origin in
-    let read_end = place_read b.0 end is_end in
-    let read_count = k.number.read 255 count c.0 is_count in
-    let read_first = day_read k d.0 first is_first in
-    let read_least = set_day_read k f.0 least is_least in
-    let read_greatest = set_day_read k g.0 greatest is_greatest in
-    let read_by = set_day_read k h.0 by is_by in
-    let read_kinds = k.number.read 255 kinds i.0 is_kinds in
-    let read_partner = k.number.read 255 partner j.0 is_partner in
-    let read_carrier = carriers_read l.0 carrier is_carrier in
-    let read_rule = rules_read k l.1 rule is_rule in
-    let is : IsNamed it = record { origin = read_origin.0; end = read_end.0; carrier = read_carrier.0; rule = read_rule.0 } in
-    let tail_l = rules_word rule in
-    let text_l = carriers_word carrier ++ 58 ∷ tail_l in
-    let is_text_l : j.1 ≡ text_l = joined 58 j.1 l (carriers_word carrier) tail_l (k.cut.read 58 j.1 l was_l) read_carrier.1 read_rule.1 in
-    let tail_j = text_l in
-    let text_j = decimal partner ++ 58 ∷ tail_j in
-    let is_text_j : i.1 ≡ text_j = joined 58 i.1 j (decimal partner) tail_j (k.cut.read 58 i.1 j was_j) read_partner.1 is_text_l in
-    let tail_i = text_j in
-    let text_i = decimal kinds ++ 58 ∷ tail_i in
-    let is_text_i : h.1 ≡ text_i = joined 58 h.1 i (decimal kinds) tail_i (k.cut.read 58 h.1 i was_i) read_kinds.1 is_text_j in
-    let tail_h = text_i in
-    let text_h = day_word by ++ 58 ∷ tail_h in
-    let is_text_h : g.1 ≡ text_h = joined 58 g.1 h (day_word by) tail_h (k.cut.read 58 g.1 h was_h) read_by is_text_i in
-    let tail_g = text_h in
-    let text_g = day_word greatest ++ 58 ∷ tail_g in
-    let is_text_g : f.1 ≡ text_g = joined 58 f.1 g (day_word greatest) tail_g (k.cut.read 58 f.1 g was_g) read_greatest is_text_h in
-    let tail_f = text_g in
-    let text_f = day_word least ++ 58 ∷ tail_f in
-    let is_text_f : d.1 ≡ text_f = joined 58 d.1 f (day_word least) tail_f (k.cut.read 58 d.1 f was_f) read_least is_text_g in
-    let tail_d = text_f in
-    let text_d = signed_decimal first ++ 58 ∷ tail_d in
-    let is_text_d : c.1 ≡ text_d = joined 58 c.1 d (signed_decimal first) tail_d (k.cut.read 58 c.1 d was_d) read_first is_text_f in
-    let tail_c = text_d in
-    let text_c = decimal count ++ 58 ∷ tail_c in
-    let is_text_c : b.1 ≡ text_c = joined 58 b.1 c (decimal count) tail_c (k.cut.read 58 b.1 c was_c) read_count.1 is_text_d in
-    let tail_b = text_c in
-    let text_b = end.0 ++ 58 ∷ tail_b in
-    let is_text_b : a.1 ≡ text_b = joined 58 a.1 b (end.0) tail_b (k.cut.read 58 a.1 b was_b) read_end.1 is_text_c in
-    let tail_a = text_b in
-    let text_a = origin.0 ++ 62 ∷ tail_a in
-    let is_text_a : text ≡ text_a = joined 62 text a (origin.0) tail_a (k.cut.read 62 text a was_a) read_origin.1 is_text_b in
-    subst (SpellsUnit text) (same_Some it u e) (is, is_text_a)
+-- where a unit begins and how far it has come, as it is written before this rest
+abbrev opening_text : Opening → List ℕ → List ℕ
+opening_text o rest = o.origin.0 ++ 62 ∷ (o.end.0 ++ 58 ∷ (decimal o.count ++ 58 ∷ (signed_decimal o.first_day ++ 58 ∷ rest)))
+
+abbrev SpellsOpening : List ℕ → Opening × List ℕ → Type 0
+SpellsOpening text p = IsPlace p.0.origin × IsPlace p.0.end × (text ≡ opening_text p.0 p.1)
+
+opening_read : Words → (text : List ℕ) (p : Opening × List ℕ) → opening_in text ≡ Some p → SpellsOpening text p
+unfolding opening_in
+opening_read k text p e =
+    from_step (cut_at 62 text) _ p e (λ a was_a e.
+    from_step (cut_at 58 a.1) _ p e (λ b was_b e.
+    from_step (cut_at 58 b.1) _ p e (λ c was_c e.
+    from_step (cut_at 58 c.1) _ p e (λ d was_d e.
+    from_step (place_of a.0) _ p e (λ origin is_origin e.
+    from_step (place_of b.0) _ p e (λ end is_end e.
+    from_step (number_in 255 c.0) _ p e (λ count is_count e.
+    from_step (day_in d.0) _ p e (λ first is_first e.
+    let it : Opening = record { origin = origin; end = end; count = count; first_day = first } in
+    let n1 = place_read a.0 origin is_origin in
+    let n2 = place_read b.0 end is_end in
+    let n3 = k.number.read 255 count c.0 is_count in
+    let n4 = day_read k d.0 first is_first in
+    let t4 = signed_decimal first ++ 58 ∷ d.1 in
+    let is_t4 : c.1 ≡ t4 = joined 58 c.1 d (signed_decimal first) d.1 (k.cut.read 58 c.1 d was_d) n4 refl in
+    let t3 = decimal count ++ 58 ∷ t4 in
+    let is_t3 : b.1 ≡ t3 = joined 58 b.1 c (decimal count) t4 (k.cut.read 58 b.1 c was_c) n3.1 is_t4 in
+    let t2 = end.0 ++ 58 ∷ t3 in
+    let is_t2 : a.1 ≡ t2 = joined 58 a.1 b end.0 t3 (k.cut.read 58 a.1 b was_b) n2.1 is_t3 in
+    let is_t1 : text ≡ origin.0 ++ 62 ∷ t2 = joined 62 text a origin.0 t2 (k.cut.read 62 text a was_a) n1.1 is_t2 in
+    subst (SpellsOpening text) (same_Some (it, d.1) p e) (n1.0, n2.0, is_t1)
+    ))))))))
+
+abbrev days_text : SetDays → List ℕ → List ℕ
+days_text d rest = day_word d.least ++ 58 ∷ (day_word d.greatest ++ 58 ∷ (day_word d.by ++ 58 ∷ rest))
+
+days_read : Words → (text : List ℕ) (p : SetDays × List ℕ) → days_in text ≡ Some p → text ≡ days_text p.0 p.1
+unfolding days_in
+days_read k text p e =
+    from_step (cut_at 58 text) _ p e (λ a was_a e.
+    from_step (cut_at 58 a.1) _ p e (λ b was_b e.
+    from_step (cut_at 58 b.1) _ p e (λ c was_c e.
+    from_step (set_day_in a.0) _ p e (λ least is_least e.
+    from_step (set_day_in b.0) _ p e (λ greatest is_greatest e.
+    from_step (set_day_in c.0) _ p e (λ by is_by e.
+    let it : SetDays = record { least = least; greatest = greatest; by = by } in
+    let t3 = day_word by ++ 58 ∷ c.1 in
+    let is_t3 : b.1 ≡ t3 = joined 58 b.1 c (day_word by) c.1 (k.cut.read 58 b.1 c was_c) (set_day_read k c.0 by is_by) refl in
+    let t2 = day_word greatest ++ 58 ∷ t3 in
+    let is_t2 : a.1 ≡ t2 = joined 58 a.1 b (day_word greatest) t3 (k.cut.read 58 a.1 b was_b) (set_day_read k b.0 greatest is_greatest) is_t3 in
+    let is_t1 : text ≡ day_word least ++ 58 ∷ t2 = joined 58 text a (day_word least) t2 (k.cut.read 58 text a was_a) (set_day_read k a.0 least is_least) is_t2 in
+    subst (λ (q : SetDays × List ℕ). text ≡ days_text q.0 q.1) (same_Some (it, c.1) p e) is_t1
+    ))))))
+
+abbrev marks_text : UnitMarks → List ℕ
+marks_text m = decimal m.kinds ++ 58 ∷ (decimal m.partner ++ 58 ∷ (carriers_word m.carrier ++ 58 ∷ rules_word m.rule))
+
+abbrev SpellsMarks : List ℕ → UnitMarks → Type 0
+SpellsMarks text m = AreCarriers m.carrier × AreRules m.rule × (text ≡ marks_text m)
+
+marks_read : Words → (text : List ℕ) (m : UnitMarks) → marks_in text ≡ Some m → SpellsMarks text m
+unfolding marks_in
+marks_read k text m e =
+    from_step (cut_at 58 text) _ m e (λ a was_a e.
+    from_step (cut_at 58 a.1) _ m e (λ b was_b e.
+    from_step (cut_at 58 b.1) _ m e (λ c was_c e.
+    from_step (number_in 255 a.0) _ m e (λ kinds is_kinds e.
+    from_step (number_in 255 b.0) _ m e (λ partner is_partner e.
+    from_step (carriers_in c.0) _ m e (λ carrier is_carrier e.
+    from_step (rules_in c.1) _ m e (λ rule is_rule e.
+    let it : UnitMarks = record { kinds = kinds; partner = partner; carrier = carrier; rule = rule } in
+    let n1 = k.number.read 255 kinds a.0 is_kinds in
+    let n2 = k.number.read 255 partner b.0 is_partner in
+    let n3 = carriers_read c.0 carrier is_carrier in
+    let n4 = rules_read k c.1 rule is_rule in
+    let t3 = carriers_word carrier ++ 58 ∷ rules_word rule in
+    let is_t3 : b.1 ≡ t3 = joined 58 b.1 c (carriers_word carrier) (rules_word rule) (k.cut.read 58 b.1 c was_c) n3.1 n4.1 in
+    let t2 = decimal partner ++ 58 ∷ t3 in
+    let is_t2 : a.1 ≡ t2 = joined 58 a.1 b (decimal partner) t3 (k.cut.read 58 a.1 b was_b) n2.1 is_t3 in
+    let is_t1 : text ≡ decimal kinds ++ 58 ∷ t2 = joined 58 text a (decimal kinds) t2 (k.cut.read 58 text a was_a) n1.1 is_t2 in
+    subst (SpellsMarks text) (same_Some it m e) (n3.0, n4.0, is_t1)
+    )))))))
 
 unit_read : Words → (text : List ℕ) (u : OpenUnit) → unit_in text ≡ Some u → SpellsUnit text u
 unfolding unit_in
 unit_read k text u e =
-    from_step (cut_at 62 text) _ u e (λ a was_a e.
-    from_step (cut_at 58 a.1) _ u e (λ b was_b e.
-    from_step (cut_at 58 b.1) _ u e (λ c was_c e.
-    from_step (cut_at 58 c.1) _ u e (λ d was_d e.
-    from_step (cut_at 58 d.1) _ u e (λ f was_f e.
-    from_step (cut_at 58 f.1) _ u e (λ g was_g e.
-    from_step (cut_at 58 g.1) _ u e (λ h was_h e.
-    from_step (cut_at 58 h.1) _ u e (λ i was_i e.
-    from_step (cut_at 58 i.1) _ u e (λ j was_j e.
-    from_step (cut_at 58 j.1) _ u e (λ l was_l e.
-    from_step (place_of a.0) _ u e (λ origin is_origin e.
-    from_step (place_of b.0) _ u e (λ end is_end e.
-    from_step (number_in 255 c.0) _ u e (λ count is_count e.
-    from_step (day_in d.0) _ u e (λ first is_first e.
-    from_step (set_day_in f.0) _ u e (λ least is_least e.
-    from_step (set_day_in g.0) _ u e (λ greatest is_greatest e.
-    from_step (set_day_in h.0) _ u e (λ by is_by e.
-    from_step (number_in 255 i.0) _ u e (λ kinds is_kinds e.
-    from_step (number_in 255 j.0) _ u e (λ partner is_partner e.
-    from_step (carriers_in l.0) _ u e (λ carrier is_carrier e.
-    from_step (rules_in l.1) _ u e (λ rule is_rule e.
-    unit_whole k text u a b c d f g h i j l origin end count first least greatest by kinds partner carrier rule was_a was_b was_c was_d was_f was_g was_h was_i was_j was_l is_origin is_end is_count is_first is_least is_greatest is_by is_kinds is_partner is_carrier is_rule e
-    )))))))))))))))))))))
+    from_step (opening_in text) _ u e (λ opening is_opening e.
+    from_step (days_in opening.1) _ u e (λ days is_days e.
+    from_step (marks_in days.1) _ u e (λ marks is_marks e.
+    let it : OpenUnit = record {
+      origin = opening.0.origin;
+      end = opening.0.end;
+      count = opening.0.count;
+      first_day = opening.0.first_day;
+      least = days.0.least;
+      greatest = days.0.greatest;
+      by = days.0.by;
+      kinds = marks.kinds;
+      partner = marks.partner;
+      carrier = marks.carrier;
+      rule = marks.rule;
+    } in
+    let n1 = opening_read k text opening is_opening in
+    let n3 = marks_read k days.1 marks is_marks in
+    let is : IsNamed it = record { origin = n1.0; end = n1.1; carrier = n3.0; rule = n3.1 } in
+    let written : text ≡ unit_text it = n1.2 ∙ ap (opening_text opening.0) (days_read k opening.1 days is_days ∙ ap (days_text days.0) n3.2) in
+    subst (SpellsUnit text) (same_Some it u e) (is, written)
+    )))
 
 -- open units whose names are well formed
 abbrev AreNamed : Option OpenUnit → Option OpenUnit → Type 0

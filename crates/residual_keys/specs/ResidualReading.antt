@@ -9,7 +9,10 @@ use Rattle.open_unit.specs.declared.marks.RuleMark.{RuleMark}
 use Rattle.open_unit.specs.declared.marks.RuleMark.TheVariants.{One as OneRule, Mixed as MixedRules}
 use Rattle.open_unit.specs.declared.units.OpenUnit.{OpenUnit}
 use Rattle.residual_keys.specs.declared.parts.TicketPart.{TicketPart}
+use Rattle.residual_keys.specs.declared.reading.Opening.{Opening}
 use Rattle.residual_keys.specs.declared.reading.Parts.{Parts}
+use Rattle.residual_keys.specs.declared.reading.SetDays.{SetDays}
+use Rattle.residual_keys.specs.declared.reading.UnitMarks.{UnitMarks}
 use Rattle.word_text.specs.Words.{cut_at, cut_last_at, number_in}
 
 -- one thing after another, as long as each is there
@@ -51,41 +54,59 @@ position_in text = do
   hi ← number_in 4294967295 f.0
   Some (record { slice = slice; leg = leg; place = place; via = via; lo = lo; hi = hi }, f.1)
 
-unfoldable pub unit_in : List ℕ → Option OpenUnit
-unit_in text = do
+-- where an open unit begins and ends, its components and its first day, and what follows them after a colon
+unfoldable pub opening_in : List ℕ → Option (Opening × List ℕ)
+opening_in text = do
   a ← cut_at 62 text
   b ← cut_at 58 a.1
   c ← cut_at 58 b.1
   d ← cut_at 58 c.1
-  e ← cut_at 58 d.1
-  f ← cut_at 58 e.1
-  g ← cut_at 58 f.1
-  h ← cut_at 58 g.1
-  i ← cut_at 58 h.1
-  j ← cut_at 58 i.1
   origin ← place_of a.0
   end ← place_of b.0
   count ← number_in 255 c.0
   first ← day_in d.0
-  least ← set_day_in e.0
-  greatest ← set_day_in f.0
-  by ← set_day_in g.0
-  kinds ← number_in 255 h.0
-  partner ← number_in 255 i.0
-  carrier ← carriers_in j.0
-  rule ← rules_in j.1
+  Some (record { origin = origin; end = end; count = count; first_day = first }, d.1)
+
+-- the days that an open unit's rules set, and what follows them after a colon
+unfoldable pub days_in : List ℕ → Option (SetDays × List ℕ)
+days_in text = do
+  a ← cut_at 58 text
+  b ← cut_at 58 a.1
+  c ← cut_at 58 b.1
+  least ← set_day_in a.0
+  greatest ← set_day_in b.0
+  by ← set_day_in c.0
+  Some (record { least = least; greatest = greatest; by = by }, c.1)
+
+-- what an open unit may still become
+unfoldable pub marks_in : List ℕ → Option UnitMarks
+marks_in text = do
+  a ← cut_at 58 text
+  b ← cut_at 58 a.1
+  c ← cut_at 58 b.1
+  kinds ← number_in 255 a.0
+  partner ← number_in 255 b.0
+  carrier ← carriers_in c.0
+  rule ← rules_in c.1
+  Some (record { kinds = kinds; partner = partner; carrier = carrier; rule = rule })
+
+unfoldable pub unit_in : List ℕ → Option OpenUnit
+unit_in text = do
+  opening ← opening_in text
+  days ← days_in opening.1
+  marks ← marks_in days.1
   Some (record {
-    origin = origin;
-    end = end;
-    count = count;
-    first_day = first;
-    least = least;
-    greatest = greatest;
-    by = by;
-    kinds = kinds;
-    partner = partner;
-    carrier = carrier;
-    rule = rule;
+    origin = opening.0.origin;
+    end = opening.0.end;
+    count = opening.0.count;
+    first_day = opening.0.first_day;
+    least = days.0.least;
+    greatest = days.0.greatest;
+    by = days.0.by;
+    kinds = marks.kinds;
+    partner = marks.partner;
+    carrier = marks.carrier;
+    rule = marks.rule;
   })
 
 -- one unit, or two where there is a slash

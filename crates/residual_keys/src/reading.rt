@@ -6,9 +6,10 @@ ghost use Rattle.residual_keys.specs.Residuals.{State};
 
 use crate::words::{byte_of, carriers_of, day_of, place_number_of, rules_of, set_day_of, via_of};
 use crate::{Residual, TicketPart};
+use fare_law::Place;
 use flight_paths::Position;
 use name_text::place_of;
-use open_unit::OpenUnit;
+use open_unit::{CarrierMark, OpenUnit, RuleMark};
 use word_text::{cut, cut_last, cuts_tell, numbers_tell};
 
 /// The parts of a residual, before it is known whether they make one.
@@ -18,6 +19,32 @@ struct Parts {
     first: Option<OpenUnit>,
     second: Option<OpenUnit>,
     part: TicketPart,
+}
+
+/// Where an open unit begins and ends, its components and its first day.
+#[derive(Clone, Copy)]
+struct Opening {
+    origin: Place,
+    end: Place,
+    count: u8,
+    first_day: i32,
+}
+
+/// The days that an open unit's rules set.
+#[derive(Clone, Copy)]
+struct SetDays {
+    least: Option<i32>,
+    greatest: Option<i32>,
+    by: Option<i32>,
+}
+
+/// What an open unit may still become.
+#[derive(Clone, Copy)]
+struct UnitMarks {
+    kinds: u8,
+    partner: u8,
+    carrier: CarrierMark,
+    rule: RuleMark,
 }
 
 /// The residual whose text the bytes are. None exactly where they are the text of no residual whose
@@ -100,24 +127,69 @@ fn units_of(text: &[u8]) -> Option<(Option<OpenUnit>, Option<OpenUnit>)>
 pub fn unit_of(text: &[u8]) -> Option<OpenUnit>
     ensures { result ≡ Reading.unit_in text.now }
 {
+    let (opening, text) = opening_of(text)?;
+    let (days, text) = days_of(text)?;
+    let marks = marks_of(text)?;
+    Some(OpenUnit {
+        origin: opening.origin,
+        end: opening.end,
+        count: opening.count,
+        first_day: opening.first_day,
+        least: days.least,
+        greatest: days.greatest,
+        by: days.by,
+        kinds: marks.kinds,
+        partner: marks.partner,
+        carrier: marks.carrier,
+        rule: marks.rule,
+    })
+}
+
+/// Where a unit begins and how far it has come, and what follows after a colon.
+#[tactic(auto, unfolding(crate::specs::ResidualReading::opening_in))]
+fn opening_of(text: &[u8]) -> Option<(Opening, &[u8])>
+    ensures { MatchOption result (Reading.opening_in text.now ≡ None)
+        (λ x. Reading.opening_in text.now ≡ Some (x.0, x.1.now)) }
+{
     let (origin, text) = cut(text, b'>')?;
     let (end, text) = cut(text, b':')?;
     let (count, text) = cut(text, b':')?;
     let (first_day, text) = cut(text, b':')?;
-    let (least, text) = cut(text, b':')?;
-    let (greatest, text) = cut(text, b':')?;
-    let (by, text) = cut(text, b':')?;
-    let (kinds, text) = cut(text, b':')?;
-    let (partner, text) = cut(text, b':')?;
-    let (carrier, rule) = cut(text, b':')?;
-    Some(OpenUnit {
+    let opening = Opening {
         origin: place_of(origin)?,
         end: place_of(end)?,
         count: byte_of(count)?,
         first_day: day_of(first_day)?,
+    };
+    Some((opening, text))
+}
+
+/// The days that a unit's rules set, and what follows them after a colon.
+#[tactic(auto, unfolding(crate::specs::ResidualReading::days_in))]
+fn days_of(text: &[u8]) -> Option<(SetDays, &[u8])>
+    ensures { MatchOption result (Reading.days_in text.now ≡ None)
+        (λ x. Reading.days_in text.now ≡ Some (x.0, x.1.now)) }
+{
+    let (least, text) = cut(text, b':')?;
+    let (greatest, text) = cut(text, b':')?;
+    let (by, text) = cut(text, b':')?;
+    let days = SetDays {
         least: set_day_of(least)?,
         greatest: set_day_of(greatest)?,
         by: set_day_of(by)?,
+    };
+    Some((days, text))
+}
+
+/// What a unit may still become.
+#[tactic(auto, unfolding(crate::specs::ResidualReading::marks_in))]
+fn marks_of(text: &[u8]) -> Option<UnitMarks>
+    ensures { result ≡ Reading.marks_in text.now }
+{
+    let (kinds, text) = cut(text, b':')?;
+    let (partner, text) = cut(text, b':')?;
+    let (carrier, rule) = cut(text, b':')?;
+    Some(UnitMarks {
         kinds: byte_of(kinds)?,
         partner: byte_of(partner)?,
         carrier: carriers_of(carrier)?,

@@ -1,6 +1,33 @@
-use Rattle.std.proofs.Common.{rules}
+use Rattle.std.proofs.Common.{◌≡◌, ℤ, arith, pos, rules, subst, sym}
+use Rattle.std.proofs.lemmas.Int.{ints}
+use Rattle.fare_law.specs.Days.{IsCalendarDay}
+use Rattle.fare_law.specs.Limits.{IsFlight}
+use Rattle.fare_law.specs.RuleLimits.{IsRule}
+use Rattle.fare_law.specs.declared.flights.Flight.{Flight}
+use Rattle.fare_law.specs.declared.rules.Rule.{Rule}
+use Rattle.fare_law.specs.declared.tickets.Piece.{Piece}
+use Rattle.open_unit.specs.Ranges.{PieceInRanges}
 use Rattle.law_lemmas.proofs.Ends.{last_like}
+use Rattle.rule_unit.specs.Ranges.{IsDayWithin, StaysInRange}
 use Rattle.residual_keys.proofs.component.piece_over.Goals as goal
+
+-- a day of the calendar lies in the range of a component's days
+within : (day : ℤ) → IsCalendarDay day → IsDayWithin (pos 99000) day
+within day h = (omega (arith, ints), omega (arith, ints))
+
+in_ranges : ((r : Rule) → IsRule r → StaysInRange r) → (p : Piece) (first last : Flight) (rule : Rule) → IsFlight first → IsFlight last → IsRule rule → IsCalendarDay p.sale
+    → p.first_day ≡ first.day → p.last_day ≡ last.day → p.rule ≡ rule → PieceInRanges p
+in_ranges law p first last rule from to is sale begin end like =
+    record {
+      first_day = subst (IsDayWithin (pos 99000)) (sym begin) (within first.day from.day);
+      last_day = subst (IsDayWithin (pos 99000)) (sym end) (within last.day to.day);
+      sale = within p.sale sale;
+      rule = subst StaysInRange (sym like) (law rule is);
+    }
+
+pub returns-clause-in_ranges : goal.returns-clause-in_ranges
+returns-clause-in_ranges c =
+    in_ranges c.rules_stay_in_range.ensures _ _ _ _ (c.first_of-first.ensures.limits c.requires.flights) (c.last_of-last.ensures.limits c.requires.flights) c.requires.rule (search rules) (search rules) (search rules) (search rules)
 
 pub returns-clause-ends : goal.returns-clause-ends
 returns-clause-ends c = last_like _ _ c.args.flights.now c.last_of-last.ensures.last (λ f e. search rules)
