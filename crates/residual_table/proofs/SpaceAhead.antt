@@ -1,11 +1,6 @@
 -- A text that ends with a space and a word is cut there, where no space stands in the word.
-use Rattle.std.proofs.Common.{◌≡◌, ℕ, zero, suc, List, [], ◌∷◌, ◌++◌, length, take, get_or, Some, None, refl, ap, arith, ne_eqb}
-use Rattle.word_text.specs.Words.{IsFreeOf, cut_last_at}
-
-pub none_of_free : (c : ℕ) (text : List ℕ) → IsFreeOf c text → cut_last_at c text ≡ None
-unfolding cut_last_at
-none_of_free c [] h = refl
-none_of_free c (b ∷ text) h = rw (none_of_free c text h.1, ne_eqb b c h.0) refl
+use Rattle.std.proofs.Common.{◌≡◌, ℕ, zero, suc, List, [], ◌∷◌, ◌++◌, length, take, get_or, Some, None, refl, ap, arith}
+use Rattle.word_text.specs.Words.{cut_last_at}
 
 pub space_ahead : (before word : List ℕ) → cut_last_at 32 word ≡ None → cut_last_at 32 (before ++ 32 ∷ word) ≡ Some (before, word)
 unfolding cut_last_at

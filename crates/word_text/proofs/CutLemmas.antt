@@ -1,4 +1,4 @@
--- A text is cut at its first separator, and there alone.
+-- A text is cut at its first separator, and there alone. Given on to the crates above.
 use Rattle.std.proofs.Common.{◌==◌, is_some, if◌then◌else◌, zero, suc, ◌+◌, ◌-◌, ◌<◌, ◌≤◌, length, take, drop, get_or, arith, subst, sym, ◌∙◌, add-one, drop-cons, length-drop, ◌≡◌, ◌≢◌, ℕ, Bool, true, false, List, [], ◌∷◌, ◌++◌, Option, Some, None, option_map, refl, ap, eq-eqb, ne_eqb}
 use Rattle.std.proofs.lemmas.List.{take_all, take-append-drop}
 use Rattle.std.proofs.lemmas.Bool.{true≢false}

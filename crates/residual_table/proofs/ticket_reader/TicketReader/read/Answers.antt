@@ -1,6 +1,7 @@
 use Rattle.std.proofs.Common.{◌∙◌, ◌++◌, ◌∷◌, ap}
 use Rattle.word_text.specs.Words.{cut_last_at}
-use Rattle.residual_table.proofs.SpaceAhead.{none_of_free, space_ahead}
+use Rattle.word_text.proofs.CutLemmas.{last_none}
+use Rattle.residual_table.proofs.SpaceAhead.{space_ahead}
 use Rattle.residual_table.proofs.ticket_reader.TicketReader.read.Goals as goal
 
 pub returns-in-Some-before_space : goal.returns-in-Some-before_space
@@ -12,4 +13,4 @@ returns-in-Some-before_space c =
 
 pub keep-requires-clause-whole : goal.keep-requires-clause-whole
 keep-requires-clause-whole c =
-    none_of_free 32 c.in_ok-before.text.now (c.cuts_tell.ensures.last.read 32 c.args.text.now (c.in_ok-before.before.now, c.in_ok-before.text.now) c.in_ok-before.ensures).1
+    last_none 32 c.in_ok-before.text.now (c.cuts_tell.ensures.last.read 32 c.args.text.now (c.in_ok-before.before.now, c.in_ok-before.text.now) c.in_ok-before.ensures).1
