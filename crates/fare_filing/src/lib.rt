@@ -8,6 +8,7 @@ mod compact;
 mod fares;
 mod fault;
 mod fields;
+mod members;
 mod pieces;
 mod reading;
 mod room;

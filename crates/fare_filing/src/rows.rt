@@ -1,17 +1,19 @@
 //! Seat rows as JSON values.
 ghost use Rattle.std.specs.Prelude.{◌≡◌, ◌≤◌, length, IfOk, IfSome, Some};
 ghost use Rattle.std.specs.Str.{IsAscii};
-ghost use Rattle.serde_json.specs.View.{view};
+ghost use Rattle.serde_json.specs.Data.{object};
+ghost use Rattle.serde_json.specs.View.{view, members_view};
 ghost use Rattle.fare_law.specs.Limits.{AreSeats, IsSeatKey};
 ghost use Rattle.market_time.specs.Dates.{IsInCentury};
 ghost use Rattle.name_text.specs.Seats.{seat_day_of};
 ghost use Rattle.fare_filing.specs.Text.{WritesSeatKey, WritesSeats, seat_key_data, seats_data};
 
+use crate::members::put_text;
 use crate::seats::seats_text;
 use fare_law::{ArrayVec, Mem, SeatKey};
 use market_time::day_text;
 use name_text::{ascii_text, carrier_text, place_text};
-use serde_json::{Value, json};
+use serde_json::{Map, Value, put};
 use std::alloc::{AllocError, Global};
 
 /// The value of a seat row within its limits.
@@ -44,25 +46,29 @@ fn seats_json(alloc: Global, key: &SeatKey, date: &str, seats: &str) -> Result<V
     requires { IsSeatKey key.now }
     ensures { IfOk result (λ value. view value ≡ seats_data key.now date.now seats.now) }
 {
-    json!(in alloc; {
-        "carrier": carrier_text(&key.carrier),
-        "date": date,
-        "from": place_text(&key.from),
-        "number": key.number,
-        "seats": seats,
-    })
+    let mut members = key_members(alloc, key, date)?;
+    put_text(&mut members, alloc, "seats", seats)?;
+    Ok(Value::Object(members))
 }
 
 fn seat_key_json(alloc: Global, key: &SeatKey, date: &str) -> Result<Value, AllocError>
     requires { IsSeatKey key.now }
     ensures { IfOk result (λ value. view value ≡ seat_key_data key.now date.now) }
 {
-    json!(in alloc; {
-        "carrier": carrier_text(&key.carrier),
-        "date": date,
-        "from": place_text(&key.from),
-        "number": key.number,
-    })
+    Ok(Value::Object(key_members(alloc, key, date)?))
+}
+
+// The members of what names a seat row.
+fn key_members(alloc: Global, key: &SeatKey, date: &str) -> Result<Map<String, Value>, AllocError>
+    requires { IsSeatKey key.now }
+    ensures { IfOk result (λ members. object (members_view members.entries) ≡ seat_key_data key.now date.now) }
+{
+    let mut members = Map::new(alloc);
+    put_text(&mut members, alloc, "carrier", carrier_text(&key.carrier))?;
+    put_text(&mut members, alloc, "date", date)?;
+    put_text(&mut members, alloc, "from", place_text(&key.from))?;
+    put(&mut members, alloc, "number", Value::from(key.number))?;
+    Ok(members)
 }
 
 // The day of a seat row as text: a date, or `*` for all days.

@@ -7,10 +7,11 @@ ghost use Rattle.fare_law.specs.RuleLimits.{IsRule};
 ghost use Rattle.fare_filing.specs.Text as Text;
 ghost use Rattle.fare_filing.specs.Text.{WritesRule};
 
+use crate::members::put_text;
 use fare_law::{Carrier, Mem, Rule};
 use name_text::carrier_text;
 use rule_text::rule_members;
-use serde_json::{Value, json, put};
+use serde_json::{Map, Value, put};
 use std::alloc::Global;
 
 /// The value of a rule with its carrier and its number.
@@ -36,6 +37,8 @@ pub fn rule_name_value(alloc: Global, carrier: &Carrier, number: u16) -> Result<
     requires { IsCarrier carrier.now }
     ensures { IfOk result (λ value. view value ≡ Text.rule_name_data carrier.now number) }
 {
-    let value = json!(in alloc; {"carrier": carrier_text(carrier), "rule": number})?;
-    Ok(value)
+    let mut members = Map::new(alloc);
+    put_text(&mut members, alloc, "carrier", carrier_text(carrier))?;
+    put(&mut members, alloc, "rule", Value::from(number))?;
+    Ok(Value::Object(members))
 }
