@@ -1,6 +1,7 @@
 pub mod Judgements
 pub mod StageLemmas
 pub mod FiledLines
+pub mod BookSteps
 pub mod AskedSteps
 pub mod CaseSteps
 pub mod OneOutcome

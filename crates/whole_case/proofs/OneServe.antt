@@ -21,7 +21,7 @@ use Rattle.whole_case.specs.Timetables.{opening_of, sections_in}
 use Rattle.whole_case.proofs.EachLine.{each_such}
 use Rattle.whole_case.proofs.OneOutcome.{Known, one_done, one_opening, one_request, one_then, one_told, one_version}
 use Rattle.whole_case.proofs.RightRequests.{right_with}
-use Rattle.whole_case.proofs.ServeSteps.{after_asks, after_filed, after_later, after_form, after_opened, serve_of}
+use Rattle.whole_case.proofs.ServeSteps.{after_asks, after_filed, after_later, after_form, after_opened, serving}
 use Rattle.law_lemmas.proofs.Options.{ok_same}
 
 one_each : {X A : Type 0} (stage : X → Stage A) → ((x : X) → IsOne (stage x)) → (xs : List X) → IsOne (each_of stage xs)
@@ -49,8 +49,8 @@ module _ (one : OneScript) (either : ScriptOrFault) (fault : OneFault) where
       one_then (filed_version opening case.filings None) (after_filed best case) (one_version k opening case.filings None) (λ book.
       one_then (each_of filing_in case.later) (after_later best case book) (one_each filing_in (λ line. one_told (filing_of line.bytes) (λ fault. at_line line.line (filing_reason fault))) case.later) (λ later.
       one_then (each_of (asked_in best book) case.requests) (after_asks case book later) (one_each (asked_in best book) (one_asked best book) case.requests) (λ requests.
-      one_then (script_in (length later) (length requests) case.script) (λ script. done (serve_of book later requests script)) (one_script_in (length later) (length requests) case.script) (λ script.
-      one_done (serve_of book later requests script)))))))
+      one_then (script_in (length later) (length requests) case.script) (λ script. done (serving book later requests script)) (one_script_in (length later) (length requests) case.script) (λ script.
+      one_done (serving book later requests script)))))))
 
 -- ---- what is asked
 ask_right : (best : Option ℕ) → IfSome best (IsInRange 1 1000) → (b : Book) (line : TextLine) (q : Request) → asked_in best b line (Ok q) → judged (known_places b) q ≡ None
@@ -60,5 +60,5 @@ ask_right best h b line q (request, (spelled, is, (u, right, e)), same) =
 
 pub asks_right : (best : Option ℕ) (bytes : List ℕ) (found : ServeCase) → IfSome best (IsInRange 1 1000) → serve_case best bytes (Ok found) → Each (λ q. judged (known_places found.book) q ≡ None) found.requests
 asks_right best bytes found h (case, form, (opening, rows, (book, filings, (later, read, (requests, asked, (script, spelled, e)))))) =
-    subst (λ (x : ServeCase). Each (λ q. judged (known_places x.book) q ≡ None) x.requests) (sym (ok_same found (serve_of book later requests script) e))
+    subst (λ (x : ServeCase). Each (λ q. judged (known_places x.book) q ≡ None) x.requests) (sym (ok_same found (serving book later requests script) e))
     (each_such (asked_in best book) (λ q. judged (known_places book) q ≡ None) (ask_right best h book) case.requests requests asked)

@@ -3,6 +3,7 @@ pub mod Refusals
 pub mod Texts
 pub mod Timetables
 pub mod Filings
+pub mod Books
 pub mod Requests
 pub mod Calendars
 pub mod Tickets

@@ -7,7 +7,9 @@ use Rattle.fare_law.specs.declared.requests.Request.{Request}
 use Rattle.fare_law.specs.declared.rows.TextLine.{TextLine}
 use Rattle.script_text.specs.Script.{FaultAt, SpellsScript}
 use Rattle.script_text.specs.declared.lines.Script.{Script as Lines}
+use Rattle.whole_case.specs.declared.books.FiledCase.{FiledCase}
 use Rattle.whole_case.specs.declared.refusals.Reason.TheVariants.{Script}
+use Rattle.whole_case.specs.declared.serve.Asks.{Asks}
 use Rattle.whole_case.specs.declared.serve.ServeCase.{ServeCase}
 use Rattle.whole_case.specs.Filings.{filed_version, filing_in}
 use Rattle.whole_case.specs.Refusals.{refused_at}
@@ -33,6 +35,14 @@ asked_in best b line = do
 abbrev pub script_in : ℕ → ℕ → List TextLine → Stage Lines
 script_in later requests lines (Ok script) = (later ≤ 1000) × (requests ≤ 100) × SpellsScript later requests lines script
 script_in later requests lines (Err refusal) = (line : ℕ) × FaultAt later requests lines line × (refusal ≡ refused_at line Script)
+
+-- what the lines after the filings of a serving run's case give
+abbrev pub asks_in : Option ℕ → FiledCase → Stage Asks
+asks_in best filed = do
+  later ← each_of filing_in filed.later
+  requests ← each_of (asked_in best filed.book) filed.requests
+  script ← script_in (length later) (length requests) filed.script
+  done (record { later = later; requests = requests; script = script })
 
 -- the case of a serving run, with the number of tickets that is asked for in each request
 abbrev pub serve_case : Option ℕ → List ℕ → Stage ServeCase

@@ -1,14 +1,13 @@
 //! What each kind of case with one request has.
-ghost use Rattle.std.specs.Prelude.{◌<◌, ◌+◌, ◌^◌, length, IsTrue};
+ghost use Rattle.std.specs.Prelude.{◌≡◌, ◌<◌, ◌+◌, ◌^◌, length, IsTrue};
 ghost use Rattle.case_text.specs.Entries.{has_one_request};
 ghost use Rattle.whole_case.specs.Cases as Cases;
 ghost use Rattle.whole_case.specs.Stages.{Reads};
 
 use crate::LoadFault;
-use crate::histories::filed_version;
+use crate::books::{FiledCase, filed_case};
 use crate::requests::{sole_line, sole_request};
-use crate::rows::{opening_of, sections_in};
-use case_text::{Case, CaseKind, CaseLine};
+use case_text::{CaseKind, CaseLine};
 use fare_book::Book;
 use fare_law::{List, Request, TextLine};
 use std::alloc::Global;
@@ -28,6 +27,16 @@ pub struct AskedCase<'a> {
     pub end: u32,
 }
 
+impl AskedCase<'_> {
+    /// The book and the request, without the lines.
+    pub fn into_parts(self) -> (Book, Request)
+        ensures book { result.0 ≡ self.entry.book }
+        ensures request { result.1 ≡ self.entry.request }
+    {
+        (self.book, self.request)
+    }
+}
+
 /// What a case of this kind, which has one request, asks.
 pub fn asked_case(
     alloc: Global,
@@ -39,28 +48,22 @@ pub fn asked_case(
     requires one { IsTrue (has_one_request kind) }
     ensures { Reads result (Cases.asked_case kind at bytes.now) }
 {
-    let case = sections_in(alloc, bytes, kind)?;
-    let Case {
-        places,
-        flights,
-        seats,
-        filings,
-        requests,
-        certificate,
-        ticket,
-        end,
-        ..
-    } = case;
-    let opening = opening_of(alloc, &places, &flights, seats)?;
-    let book = filed_version(alloc, opening, &filings, at)?;
-    let request = sole_request(alloc, &book, &requests)?;
-    Ok(AskedCase {
-        book,
+    let filed = filed_case(alloc, bytes, kind, at)?;
+    let request = sole_request(alloc, &filed.book, &filed.requests)?;
+    Ok(asked_of(filed, request))
+}
+
+/// What a case with this request asks.
+fn asked_of(filed: FiledCase<'_>, request: Request) -> AskedCase<'_>
+    ensures { result ≡ Cases.asked_of filed.entry request }
+{
+    AskedCase {
+        book: filed.book,
         request,
-        line: sole_line(&requests),
-        filings,
-        ticket,
-        certificate,
-        end,
-    })
+        line: sole_line(&filed.requests),
+        filings: filed.filings,
+        ticket: filed.ticket,
+        certificate: filed.certificate,
+        end: filed.end,
+    }
 }

@@ -4,7 +4,7 @@ ghost use Rattle.whole_case.specs.Cases as Cases;
 ghost use Rattle.whole_case.specs.Stages.{Reads};
 
 use crate::LoadFault;
-use crate::asked::asked_case;
+use crate::asked::{AskedCase, asked_case};
 use crate::histories::check_version;
 use crate::spans::{check_spans, check_two};
 use case_text::CaseKind;
@@ -33,11 +33,16 @@ pub fn load_calendar_case(
     ensures { Reads result (Cases.calendar_case outs backs at bytes.now) }
 {
     let asked = asked_case(alloc, bytes, CaseKind::Search, at)?;
+    check_days(&asked, outs, backs, at)?;
+    let (book, request) = asked.into_parts();
+    Ok(CalendarCase { book, request })
+}
+
+/// That the request of a case that has the version of this number has the days of a calendar.
+fn check_days(asked: &AskedCase<'_>, outs: u8, backs: u8, at: Option<u32>) -> Result<(), LoadFault>
+    ensures { Reads result (Cases.has_days outs backs at asked.now) }
+{
     check_two(asked.line, &asked.request)?;
     check_spans(asked.line, &asked.request, outs, backs)?;
-    check_version(at, &asked.filings)?;
-    Ok(CalendarCase {
-        book: asked.book,
-        request: asked.request,
-    })
+    check_version(at, &asked.filings)
 }

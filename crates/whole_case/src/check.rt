@@ -2,10 +2,11 @@
 ghost use Rattle.std.specs.Prelude.{◌<◌, ◌+◌, ◌^◌, length, IfOk};
 ghost use Rattle.certificate_text.specs.CertText.{IsCertificate};
 ghost use Rattle.whole_case.specs.Cases as Cases;
+ghost use Rattle.whole_case.specs.Certificates as Certificates;
 ghost use Rattle.whole_case.specs.Stages.{Reads};
 
 use crate::LoadFault;
-use crate::asked::asked_case;
+use crate::asked::{AskedCase, asked_case};
 use crate::certificates::certificate_in;
 use crate::histories::check_version;
 use crate::requests::with_best;
@@ -36,11 +37,25 @@ pub fn load_check_case(
     ensures limits { IfOk result (λ found. IsCertificate found.certificate) }
 {
     let asked = asked_case(alloc, bytes, CaseKind::Check, at)?;
-    let certificate = certificate_in(alloc, &asked.certificate, asked.end)?;
-    check_version(at, &asked.filings)?;
+    let certificate = certificate_of(alloc, &asked, at)?;
+    let (book, request) = asked.into_parts();
     Ok(CheckCase {
-        book: asked.book,
-        request: with_best(asked.request, best),
+        book,
+        request: with_best(request, best),
         certificate,
     })
+}
+
+/// The certificate of a case that has the version of this number.
+fn certificate_of(
+    alloc: Global,
+    asked: &AskedCase<'_>,
+    at: Option<u32>,
+) -> Result<Certificate, LoadFault>
+    ensures certificate { Reads result (Cases.in_version at asked.now (Certificates.certificate_in asked.now.certificate asked.now.end)) }
+    ensures limits { IfOk result IsCertificate }
+{
+    let certificate = certificate_in(alloc, &asked.certificate, asked.end)?;
+    check_version(at, &asked.filings)?;
+    Ok(certificate)
 }

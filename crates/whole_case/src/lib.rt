@@ -6,6 +6,7 @@
 #![tactic(auto)]
 
 mod asked;
+mod books;
 mod calendar;
 mod certificates;
 mod check;

@@ -30,14 +30,14 @@ pub fn sections_in(alloc: Global, bytes: &[u8], kind: CaseKind) -> Result<Case<'
 /// The book of the timetable of these rows, before any filing.
 pub fn opening_of(
     alloc: Global,
-    places: &List<PlaceRow>,
-    flights: &List<FlightRow>,
+    places: List<PlaceRow>,
+    flights: List<FlightRow>,
     seats: List<SeatRow>,
 ) -> Result<Book, LoadFault>
-    requires places { Each IsPlaceRow places.now }
-    requires flights { Each IsFlightRow flights.now }
+    requires places { Each IsPlaceRow places }
+    requires flights { Each IsFlightRow flights }
     requires seats { length seats ≤ 200000 }
-    ensures book { Reads result (Timetables.opening_of places.now flights.now seats) }
+    ensures book { Reads result (Timetables.opening_of places flights seats) }
     ensures empty { IfOk result (λ book. book.entries ≡ []) }
 {
     book_of(

@@ -32,8 +32,9 @@ pub fn load_search_case(
 {
     let asked = asked_case(alloc, bytes, CaseKind::Search, at)?;
     check_version(at, &asked.filings)?;
+    let (book, request) = asked.into_parts();
     Ok(SearchCase {
-        book: asked.book,
-        request: with_best(asked.request, best),
+        book,
+        request: with_best(request, best),
     })
 }

@@ -2,9 +2,10 @@
 ghost use Rattle.std.specs.Prelude.{◌<◌, ◌+◌, ◌^◌, length};
 ghost use Rattle.whole_case.specs.Cases as Cases;
 ghost use Rattle.whole_case.specs.Stages.{Reads};
+ghost use Rattle.whole_case.specs.Tickets as Tickets;
 
 use crate::LoadFault;
-use crate::asked::asked_case;
+use crate::asked::{AskedCase, asked_case};
 use crate::histories::check_version;
 use crate::tickets::ticket_in;
 use case_text::CaseKind;
@@ -31,11 +32,20 @@ pub fn load_verdict_case(
     ensures { Reads result (Cases.verdict_case at bytes.now) }
 {
     let asked = asked_case(alloc, bytes, CaseKind::Verdict, at)?;
-    let ticket = ticket_in(&asked.book, &asked.ticket)?;
-    check_version(at, &asked.filings)?;
+    let ticket = ticket_of(&asked, at)?;
+    let (book, request) = asked.into_parts();
     Ok(VerdictCase {
-        book: asked.book,
-        request: asked.request,
+        book,
+        request,
         ticket,
     })
+}
+
+/// The ticket of a case that has the version of this number.
+fn ticket_of(asked: &AskedCase<'_>, at: Option<u32>) -> Result<Ticket, LoadFault>
+    ensures { Reads result (Cases.in_version at asked.now (Tickets.ticket_in asked.now.book asked.now.ticket)) }
+{
+    let ticket = ticket_in(&asked.book, &asked.ticket)?;
+    check_version(at, &asked.filings)?;
+    Ok(ticket)
 }
