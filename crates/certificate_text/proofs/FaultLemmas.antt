@@ -1,5 +1,5 @@
 -- Lines that are passed, and the first that is wrong.
-use Rattle.std.proofs.Common.{◌↔◌, true, false, is_some, ◌≡◌, inr, ℕ, List, [], ◌∷◌, ◌++◌, Option, Some, None, refl, sym, subst}
+use Rattle.std.proofs.Common.{◌↔◌, true, false, is_some, Result, Ok, Err, IfErr, IsErr, IsErrAnd, ◌≡◌, inr, ℕ, List, [], ◌∷◌, ◌++◌, Option, Some, None, refl, sym, subst}
 use Rattle.certificate_text.specs.declared.faults.CertFault.{CertFault}
 use Rattle.certificate_text.specs.declared.faults.CertFault.TheVariants.{Syntax, Count, Mem}
 use Rattle.certificate_text.specs.Faults.{Due, Nothing, IsOf, Leads, Passed, Miscounts, CountWrong, SyntaxWrong, FirstWrong, FaultFrom}
@@ -38,6 +38,11 @@ pub fault_more : {due then : Due} {from left : Unread} {xs : List (List ℕ)} �
 fault_more {due = due} {then = then} {from = from} {left = left} {xs = xs} p (Syntax n) f = wrong_more SyntaxWrong due then from left n xs p f
 fault_more {due = due} {then = then} {from = from} {left = left} {xs = xs} p (Count n) f = wrong_more CountWrong due then from left n xs p f
 fault_more p Mem f = tt
+
+-- a fault that a call gave, handed on by `?`
+pub handed_on : {A : Type 0} (due : Due) (from : Unread) (r : Result A CertFault) (fault : CertFault) → IsErr r × IsErrAnd r (λ e. e ≡ fault) → FaultFrom due from fault → IfErr r (FaultFrom due from)
+handed_on due from (Ok a) fault h f = absurd h.1
+handed_on due from (Err e) fault h f = subst (FaultFrom due from) (sym h.1) f
 
 wrong_here : (Wrong : Due → Unread → Type 0) (due : Due) (from : Unread) → Wrong due from → FirstWrong Wrong due from (place from)
 wrong_here Wrong due from w = record { lines = []; then = due; left = from; passed = record { leads = refl; taken = refl }; wrong = w; at = refl }

@@ -1,8 +1,8 @@
 -- What is due after each line of a certificate, and the first line at fault.
-use Rattle.std.specs.Prelude.{◌≡◌, ◌≢◌, ◌⊎◌, ℕ, zero, suc, List, [], ◌∷◌, ⊤, codes}
+use Rattle.std.specs.Prelude.{◌≡◌, ◌≢◌, ◌⊎◌, ℕ, zero, suc, List, [], ◌∷◌, ◌++◌, ⊤, codes}
 use Rattle.certificate.specs.declared.parts.CertAnswer.{CertAnswer}
 use Rattle.certificate.specs.declared.parts.CertRow.{CertRow}
-use Rattle.certificate_text.specs.CertText.{IsRequestText, request_line}
+use Rattle.certificate_text.specs.CertText.{IsRequestText, answer_lines, request_line, row_lines}
 use Rattle.certificate_text.specs.declared.faults.CertFault.{CertFault}
 use Rattle.certificate_text.specs.declared.faults.CertFault.TheVariants.{Syntax, Count, Mem}
 use Rattle.certificate_text.specs.Lines.{SpellsAnswer, SpellsNumber, SpellsRow}
@@ -70,6 +70,12 @@ pub record PassedRequest (from : Unread) (q : Request) (left : Unread) : Type 0 
 pub record PassedEnd (from : Unread) : Type 0 where
   pub left : Unread
   pub passed : Passed End from (codes "end" ∷ []) Nothing left
+  pub over : IsOver left
+
+-- What is read begins with the lines of these answers and rows and the last line, and nothing is left then.
+pub record PassedLists (from : Unread) (answers : List CertAnswer) (rows : List CertRow) : Type 0 where
+  pub left : Unread
+  pub passed : Passed AnswerCount from (answer_lines answers ++ (row_lines rows ++ codes "end" ∷ [])) Nothing left
   pub over : IsOver left
 
 -- an answer or a row is due

@@ -1,17 +1,20 @@
 //! Reading a certificate.
-ghost use Rattle.std.specs.Prelude.{◌-◌, ◌<◌, ◌^◌, length, IfOk, IfErr};
+ghost use Rattle.std.specs.Prelude.{◌-◌, ◌<◌, ◌^◌, ◌∷◌, [], length, IfOk, IfErr, codes};
 ghost use Rattle.certificate.specs.declared.parts.Certificate.{Certificate as CertificateData};
 ghost use Rattle.certificate_text.specs.CertText.{CertLines, CertText, IsCertificate};
-ghost use Rattle.certificate_text.specs.Faults.{Due, FaultFrom};
+ghost use Rattle.certificate_text.specs.Faults.{Due, FaultFrom, Passed, PassedLists};
+ghost use Rattle.certificate_text.specs.Lines.{IsAnswer, IsRow, number_line};
 ghost use Rattle.certificate_text.specs.Readings.{IsOfCert, IsRead};
 ghost use Rattle.certificate_text.specs.Unread.{HasRoom, Numbered, Text, unread};
+ghost use Rattle.fare_law.specs.Lists.{Each};
 
 use crate::CertFault;
 use crate::laws::one_reading;
 use crate::lists::{answers, rows};
 use crate::unread::Lines;
 use case_text::CaseLine;
-use certificate::Certificate;
+use certificate::{CertAnswer, CertRows, Certificate};
+use fare_law::List;
 use std::alloc::Global;
 
 /// The certificate whose text the bytes are, or the first line at fault, from 1. A certificate within
@@ -62,16 +65,40 @@ fn read_from(alloc: Global, start: Lines<'_>) -> Result<Certificate, CertFault>
     ensures limits { IfOk result IsCertificate }
     ensures fault { IfErr result (FaultFrom Due.Head (unread start.entry)) }
 {
-    let at = start.head()?;
-    let (number, at) = at.version()?;
+    let (number, at) = version(start)?;
     let (request, at) = at.request(alloc)?;
-    let (answers, at) = answers(alloc, at)?;
-    let (rows, at) = rows(alloc, at)?;
-    at.end()?;
+    let (answers, rows) = lists(alloc, at)?;
     Ok(Certificate {
         number,
         request,
         answers,
         rows,
     })
+}
+
+// The number of the version, and what is left after the first two lines.
+fn version(start: Lines<'_>) -> Result<(u32, Lines<'_>), CertFault>
+    requires { HasRoom (unread start) }
+    ensures ok { IfOk result (λ x. Passed Due.Head (unread start.entry)
+        (codes "certificate 1" ∷ number_line (codes "version") x.0 ∷ []) Due.Asked (unread x.1)) }
+    ensures fits { IfOk result (λ x. x.0 < 2 ^ 32) }
+    ensures fault { IfErr result (FaultFrom Due.Head (unread start.entry)) }
+{
+    let at = start.head()?;
+    let (number, left) = at.version()?;
+    Ok((number, left))
+}
+
+// The answers and the rows, after which the last line stands and nothing else.
+fn lists(alloc: Global, start: Lines<'_>) -> Result<(List<CertAnswer>, CertRows), CertFault>
+    requires { HasRoom (unread start) }
+    ensures ok { IfOk result (λ x. PassedLists (unread start.entry) x.0 x.1) }
+    ensures answers { IfOk result (λ x. Each IsAnswer x.0 × (length x.0 < 2 ^ 32)) }
+    ensures rows { IfOk result (λ x. Each IsRow x.1 × (length x.1 < 2 ^ 32)) }
+    ensures fault { IfErr result (FaultFrom Due.AnswerCount (unread start.entry)) }
+{
+    let (answers, at) = answers(alloc, start)?;
+    let (rows, at) = rows(alloc, at)?;
+    at.end()?;
+    Ok((answers, rows))
 }

@@ -1,86 +1,44 @@
-use Rattle.std.proofs.Common.{◌≡◌, ◌∙◌, ◌≤◌, ◌<◌, ◌-◌, ℕ, List, map, [], ◌∷◌, ◌++◌, length, ap, sym, subst, arith, refl, length-append}
+use Rattle.std.proofs.Common.{◌≡◌, ◌∙◌, ℕ, List, map, ◌∷◌, sym, subst, ◌<◌, ◌^◌, length}
 use Rattle.std.specs.Prelude.{codes}
+use Rattle.certificate.specs.NumberedRows.{AreLive, rows_of}
 use Rattle.certificate.specs.declared.parts.CertRow.{CertRow}
-use Rattle.certificate.specs.declared.numbered.NumberedRow.{NumberedRow}
-use Rattle.certificate.specs.NumberedRows.{AreLive, row_of, rows_of}
 use Rattle.certificate_text.specs.CertText.{row_lines}
-use Rattle.certificate_text.specs.Faults.{Due, End, Passed, Row, RowCount, rows_due}
-use Rattle.certificate_text.specs.Lines.{IsRow, row_line, number_line}
+use Rattle.certificate_text.specs.Faults.{End, Passed, RowCount}
+use Rattle.certificate_text.specs.Lines.{IsRow, number_line, row_line}
 use Rattle.certificate_text.specs.Unread.{unread}
 use Rattle.fare_law.specs.Lists.{Each}
-use Rattle.certificate_text.proofs.FaultLemmas.{passed_more}
-use Rattle.certificate_text.proofs.ListLemmas.{DueAfter, item_fault, item_passed}
-use Rattle.certificate_text.proofs.RowsRead.{as_many, live_more, rows_more}
-use Rattle.certificate_text.proofs.TakingLemmas.{room_all}
-use Rattle.law_lemmas.proofs.EachOne.{each_append}
+use Rattle.certificate_text.proofs.FaultLemmas.{fault_more, handed_on, passed_more, room_after}
+use Rattle.certificate_text.proofs.RowsRead.{as_many}
 use Rattle.certificate_text.proofs.lists.rows.Goals as goal
 
-due_after : DueAfter rows_due Row
-due_after = record { more = λ n. refl }
+pub numbered_rows-found-requires : goal.numbered_rows-found-requires
+numbered_rows-found-requires c = room_after c.in_ok-count.ensures.ok c.requires
 
-pub returns-in-Err-clause-fault : goal.returns-in-Err-clause-fault
-returns-in-Err-clause-fault c =
-    let count = c.in_ok-count.count in
-    let first = unread c.in_ok-count.first in
-    let at = unread c.loop-at.at in
-    let rows = rows_of c.loop-at.reader c.loop-at.rows in
-    let many = as_many c.loop-at.reader c.loop-at.rows in
-    let passed = subst (λ (n : ℕ). Passed (rows_due count) first (map row_line rows) (rows_due (count - n)) at) (sym many) c.loop-at.invariant.passed in
-    item_fault rows_due Row row_line due_after (rows_due count) RowCount (unread c.args.start) first at count
-    (number_line (codes "rows") count ∷ []) rows c.in-Err.fault (omega (arith, c.len.ensures, many)) c.in_ok-count.ensures.ok passed c.in-Err.ensures.fault
-
-pub loop-at-init : goal.loop-at-init
-loop-at-init c =
-    let count = c.in_ok-count.count in
-    let first = unread c.in_ok-count.first in
-    let t = c.in_ok-reader.reader in
-    let none = sym c.new-rows.ensures in
-    let left : count ≡ count - 0 = omega arith in
-    record {
-      few = subst (λ (rs : List NumberedRow). length rs ≤ count) none (omega arith);
-      live = subst (AreLive t) none tt;
-      passed = subst (λ (rs : List NumberedRow). Passed (rows_due count) first (map row_line (rows_of t rs)) (rows_due (count - length rs)) first) none (record { leads = ap rows_due left; taken = refl });
-      each = subst (λ (rs : List NumberedRow). Each IsRow (rows_of t rs)) none tt;
-      room = room_all (unread c.args.start) first (number_line (codes "rows") count ∷ []) c.in_ok-count.ensures.ok.taken c.requires;
-    }
-
-pub loop-at-preserved : goal.loop-at-preserved
-loop-at-preserved c =
-    let count = c.in_ok-count.count in
-    let first = unread c.in_ok-count.first in
-    let at = unread c.loop-at.at in
-    let next = unread c.in-Ok.found.1 in
-    let old = c.loop-at.reader in
-    let t = c.row.new.reader in
-    let before = c.loop-at.invariant in
-    let rows = c.loop-at.rows in
-    let row = c.in-Ok.found.0 in
-    let is = c.in_ok-push.ensures.items in
-    let more = rows_more old t c.in-Ok.ensures.grows rows before.live row in
-    let all : rows_of t c.push.new.self ≡ rows_of old rows ++ row_of t row ∷ [] = ap (rows_of t) is ∙ more in
-    let few : length rows < count = omega (arith, c.len.ensures) in
-    let many = as_many old rows in
-    let so_far = subst (λ (n : ℕ). Passed (rows_due count) first (map row_line (rows_of old rows)) (rows_due (count - n)) at) (sym many) before.passed in
-    let passed = item_passed rows_due Row row_line due_after (rows_due count) first at next count (rows_of old rows) (rows_of t c.push.new.self) (row_of t row) all (omega (arith, few, many)) so_far c.in-Ok.ensures.ok in
-    record {
-      few = omega (arith, few, ap length is, length-append rows (row ∷ []));
-      live = subst (AreLive t) (sym is) (live_more old t c.in-Ok.ensures.grows rows before.live row c.in-Ok.ensures.live);
-      passed = subst (λ (n : ℕ). Passed (rows_due count) first (map row_line (rows_of t c.push.new.self)) (rows_due (count - n)) next) (as_many t c.push.new.self) passed;
-      each = subst (Each IsRow) (sym all) (each_append IsRow (rows_of old rows) (row_of t row ∷ []) before.each (c.in-Ok.ensures.fits, tt));
-      room = room_all at next (row_line (row_of t row) ∷ []) (c.in-Ok.ensures.ok 0).taken before.room;
-    }
+pub returns-in_err-rows-clause-fault : goal.returns-in_err-rows-clause-fault
+returns-in_err-rows-clause-fault c =
+    handed_on RowCount (unread c.args.start) c.from_residual-in_err-rows.result _ c.from_residual-in_err-rows.ensures (fault_more c.in_ok-count.ensures.ok _ c.in_err-rows.ensures.fault)
 
 pub returns-clause-ok : goal.returns-clause-ok
 returns-clause-ok c =
-    let count = c.in_ok-count.count in
     let start = unread c.args.start in
-    let at = unread c.loop-at.at in
-    let t = c.loop-at.reader in
-    let rows = rows_of t c.loop-at.rows in
-    let before = c.loop-at.invariant in
-    let same : c.of.result ≡ rows = c.of.ensures ∙ (λ i. rows_of (c.into_parts.ensures i) (c.into_vec.ensures i)) in
-    let none : count - length c.loop-at.rows ≡ 0 = omega (arith, c.len.ensures) in
-    let many : count ≡ length rows = omega (arith, c.len.ensures, before.few, as_many t c.loop-at.rows) in
-    let passed = subst (λ (due : Due). Passed RowCount start (number_line (codes "rows") count ∷ map row_line rows) due at) (ap rows_due none) (passed_more c.in_ok-count.ensures.ok before.passed) in
-    subst (λ (rs : List CertRow). Passed RowCount start (row_lines rs) End at) (sym same)
-    (subst (λ (n : ℕ). Passed RowCount start (number_line (codes "rows") n ∷ map row_line rows) End at) many passed)
+    let left = unread c.in_ok-rows.left in
+    let t = c.numbered_rows-found.new.reader in
+    let rows = rows_of t c.in_ok-rows.rows in
+    let same : c.of.result ≡ rows = c.of.ensures ∙ (λ i. rows_of (c.into_parts-parts.ensures i) (c.into_vec.ensures i)) in
+    let many = sym (as_many t c.in_ok-rows.rows ∙ c.in_ok-rows.ensures.count) in
+    let passed = passed_more c.in_ok-count.ensures.ok c.in_ok-rows.ensures.ok in
+    subst (λ (rs : List CertRow). Passed RowCount start (row_lines rs) End left) (sym same)
+    (subst (λ (n : ℕ). Passed RowCount start (number_line (codes "rows") n ∷ map row_line rows) End left) many passed)
+
+pub of-requires : goal.of-requires
+of-requires c =
+    subst (λ t. AreLive t c.into_vec.result.items) (sym c.into_parts-parts.ensures)
+    (subst (AreLive c.numbered_rows-found.new.reader) (sym c.into_vec.ensures) c.in_ok-rows.ensures.live)
+
+pub returns-clause-fits : goal.returns-clause-fits
+returns-clause-fits c =
+    let t = c.numbered_rows-found.new.reader in
+    let rows = rows_of t c.in_ok-rows.rows in
+    let same : c.of.result ≡ rows = c.of.ensures ∙ (λ i. rows_of (c.into_parts-parts.ensures i) (c.into_vec.ensures i)) in
+    let many = sym (as_many t c.in_ok-rows.rows ∙ c.in_ok-rows.ensures.count) in
+    subst (λ (rs : List CertRow). Each IsRow rs × (length rs < 2 ^ 32)) (sym same) (c.in_ok-rows.ensures.fits, subst (λ (n : ℕ). n < 2 ^ 32) many c.in_ok-count.ensures.fits)

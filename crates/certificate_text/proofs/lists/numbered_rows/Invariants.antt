@@ -4,7 +4,7 @@ use Rattle.certificate_text.specs.Faults.{Passed, rows_due}
 use Rattle.certificate_text.specs.Lines.{IsRow, row_line}
 use Rattle.certificate_text.specs.Unread.{HasRoom, unread}
 use Rattle.fare_law.specs.Lists.{Each}
-use Rattle.certificate_text.proofs.lists.rows.Given as goal
+use Rattle.certificate_text.proofs.lists.numbered_rows.Given as goal
 
 -- the rows so far were passed, and the others are due
 abbrev pub invariant-loop-at : goal.invariant-loop-at
