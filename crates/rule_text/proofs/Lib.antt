@@ -5,6 +5,7 @@ pub mod TextLemmas
 pub mod AgainLemmas
 pub mod MemberLemmas
 pub mod RuleLemmas
+pub mod RuleParts
 pub mod WrittenLemmas
 pub mod SpelledLemmas
 pub mod OneText

@@ -5,6 +5,7 @@ use Rattle.serde_json.specs.Find.{as_str}
 use Rattle.json_form.specs.Members.{between_at, carrier_at, date_at, text_at}
 use Rattle.fare_law.specs.RuleLimits.{rank_of_kind}
 use Rattle.fare_law.specs.declared.rules.CombineRule.{CombineRule}
+use Rattle.fare_law.specs.declared.rules.DayRange.{DayRange}
 use Rattle.fare_law.specs.declared.rules.DayTime.{DayTime}
 use Rattle.fare_law.specs.declared.rules.EndOnEnd.{EndOnEnd}
 use Rattle.fare_law.specs.declared.rules.EndOnEnd.TheVariants.{Free, SameCarrier as OneCarrier, Never}
@@ -136,6 +137,32 @@ abbrev pub rule_names : List (List ℕ)
 rule_names =
     codes "carrier" ∷ codes "rule" ∷ codes "cat2" ∷ codes "cat3" ∷ codes "cat4" ∷ codes "cat5" ∷ codes "cat6"
     ∷ codes "cat7" ∷ codes "cat8" ∷ codes "cat9" ∷ codes "cat10" ∷ codes "cat12" ∷ codes "cat14" ∷ []
+
+-- the categories on days and flights
+abbrev pub travel_parts_of : Data → Result (Option DayTime × Option (List DayRange) × Option FlightRule × Option ℕ) RuleFault
+travel_parts_of d = do
+  cat2 ← optional_at day_time_of (codes "cat2") d
+  cat3 ← optional_at (list_of 8 day_range_of) (codes "cat3") d
+  cat4 ← optional_at flight_rule_of (codes "cat4") d
+  cat5 ← optional_at days_of (codes "cat5") d
+  Ok (cat2, cat3, cat4, cat5)
+
+-- the categories on stays, stopovers and transfers
+abbrev pub stay_parts_of : Data → Result (Option MinStay × Option ℕ × Option StopRule × Option TransferRule) RuleFault
+stay_parts_of d = do
+  cat6 ← optional_at min_stay_of (codes "cat6") d
+  cat7 ← optional_at days_of (codes "cat7") d
+  cat8 ← optional_at stop_rule_of (codes "cat8") d
+  cat9 ← optional_at transfer_rule_of (codes "cat9") d
+  Ok (cat6, cat7, cat8, cat9)
+
+-- the categories on combinations, surcharges and travel dates
+abbrev pub fare_parts_of : Data → Result (Option CombineRule × Option (List Surcharge) × Option TravelRule) RuleFault
+fare_parts_of d = do
+  cat10 ← optional_at combine_rule_of (codes "cat10") d
+  cat12 ← optional_at (list_of 8 surcharge_of) (codes "cat12") d
+  cat14 ← optional_at travel_rule_of (codes "cat14") d
+  Ok (cat10, cat12, cat14)
 
 -- the rule of such an object, or the first fault: a member that isn't named, then the categories ascending
 unfoldable pub rule_of : Data → Result Rule RuleFault

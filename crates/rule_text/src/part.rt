@@ -78,7 +78,7 @@ fn read_items<T: RulePart + Default, const N: usize>(
 }
 
 // Each item, in their order, up to the first fault.
-#[tactic(auto, using(crate::proofs::ItemLemmas::item_steps))]
+#[tactic(auto, using(crate::proofs::ItemLemmas::after_none))]
 fn read_each<T: RulePart + Default, const N: usize>(
     items: &[Value],
 ) -> Result<ArrayVec<T, N>, RuleFault>
