@@ -3,7 +3,7 @@ use Rattle.std.proofs.Common.{◌≡◌, ℕ, zero, suc, ◌<◌, ◌≤◌, ◌
 use Rattle.fare_law.specs.Lists.{IsPrefix, KLeast}
 use Rattle.best_steps.specs.declared.steps.Step.{Step}
 use Rattle.best_steps.specs.Runs.{Leads, price_of, word_of, Sooner, StepLaws}
-use Rattle.path_tests.specs.Switches.{after, switch, HasSwitch}
+use Rattle.call_tests.specs.Switches.{after, switch, HasSwitch}
 
 next_after : (n m : ℕ) → after n ≡ Some m → n ≡ suc m
 next_after zero m e = absurd (cc)

@@ -1,9 +1,9 @@
 use Rattle.std.proofs.Common.{◌≡◌, [], ◌∷◌, ◌++◌, take, ap, sym, subst, ◌∙◌}
 use Rattle.fare_law.specs.Lists.{KLeast}
 use Rattle.best_steps.specs.Runs.{Sooner}
-use Rattle.path_tests.specs.Switches.{HasSwitch, switch}
-use Rattle.path_tests.proofs.SwitchLaws.{least_switches}
-use Rattle.path_tests.proofs.runs.SwitchesSteps.first_steps.Goals as goal
+use Rattle.call_tests.specs.Switches.{HasSwitch, switch}
+use Rattle.call_tests.proofs.SwitchLaws.{least_switches}
+use Rattle.call_tests.proofs.runs.SwitchesSteps.first_steps.Goals as goal
 
 pub returns-clause-least : goal.returns-clause-least
 returns-clause-least c =

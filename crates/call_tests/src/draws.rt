@@ -99,7 +99,11 @@ fn least(
 }
 
 /// Whether these are the prices and joined words of the `k` least derivations.
-fn are_least(alloc: Global, of: (u64, u32, usize), expected: (&[u64], &[u64])) -> Result<bool, Fail> {
+fn are_least(
+    alloc: Global,
+    of: (u64, u32, usize),
+    expected: (&[u64], &[u64]),
+) -> Result<bool, Fail> {
     let (prices, words) = least(alloc, of)?;
     Ok(prices.as_slice() == expected.0 && words.as_slice() == expected.1)
 }
@@ -109,11 +113,19 @@ fn least_of_doubling(rt: HostRuntime) -> Result<(), Fail> {
     let alloc = rt.alloc();
     let mut twos_then_one_first = [2; 128];
     twos_then_one_first[64] = 1;
-    // Leaves, fewer than asked for; pairs, with a tie; two of 2^64 derivations; none asked for.
-    assert!(rt; are_least(alloc, (0, 3, 1), (&[3, 5], &[2, 1]))?);
-    assert!(rt; are_least(alloc, (1, 3, 2), (&[6, 8, 8], &[2, 2, 1, 2, 2, 1]))?);
-    assert!(rt; are_least(alloc, (6, 2, 64), (&[192, 194], &twos_then_one_first))?);
-    assert!(rt; are_least(alloc, (6, 0, 64), (&[], &[]))?);
+    assert!(rt;
+        are_least(alloc, (0, 3, 1), (&[3, 5], &[2, 1]))?,
+        "leaves, fewer than asked for"
+    );
+    assert!(rt;
+        are_least(alloc, (1, 3, 2), (&[6, 8, 8], &[2, 2, 1, 2, 2, 1]))?,
+        "pairs, with a tie"
+    );
+    assert!(rt;
+        are_least(alloc, (6, 2, 64), (&[192, 194], &twos_then_one_first))?,
+        "two of 2^64 derivations"
+    );
+    assert!(rt; are_least(alloc, (6, 0, 64), (&[], &[]))?, "none asked for");
     Ok(())
 }
 

@@ -1,6 +1,6 @@
 //! The least runs of a graph of switches.
 ghost use Rattle.std.specs.Prelude.{◌≡◌, ⊤, IfOk};
-ghost use Rattle.path_tests.specs.Switches.{HasSwitch, switch};
+ghost use Rattle.call_tests.specs.Switches.{HasSwitch, switch};
 
 use best_steps::{Step, Steps, best_steps};
 use fare_law::{List, Mem};
@@ -83,10 +83,18 @@ const EIGHT_WORDS: [u64; 24] = [
 #[test]
 fn least_of_switches(rt: HostRuntime) -> Result<(), Fail> {
     let alloc = rt.alloc();
-    // Fewer than asked for; ties in the order of their words; none asked for.
-    assert!(rt; are_least(alloc, (0, 3), (&[0, 1], &[0, 1]))?);
-    assert!(rt; are_least(alloc, (1, 3), (&[0, 1, 1], &[0, 0, 0, 1, 1, 0]))?);
-    assert!(rt; are_least(alloc, (2, 8), (&[0, 1, 1, 1, 2, 2, 2, 3], &EIGHT_WORDS))?);
-    assert!(rt; are_least(alloc, (6, 0), (&[], &[]))?);
+    assert!(rt;
+        are_least(alloc, (0, 3), (&[0, 1], &[0, 1]))?,
+        "fewer than asked for"
+    );
+    assert!(rt;
+        are_least(alloc, (1, 3), (&[0, 1, 1], &[0, 0, 0, 1, 1, 0]))?,
+        "ties in the order of their words"
+    );
+    assert!(rt;
+        are_least(alloc, (2, 8), (&[0, 1, 1, 1, 2, 2, 2, 3], &EIGHT_WORDS))?,
+        "all of three switches"
+    );
+    assert!(rt; are_least(alloc, (6, 0), (&[], &[]))?, "none asked for");
     Ok(())
 }
