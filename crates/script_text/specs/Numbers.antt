@@ -1,5 +1,5 @@
 -- Numbers in a text: decimal digits, without sign or leading zero.
-use Rattle.std.specs.Prelude.{◌≡◌, ◌⊎◌, ◌++◌, ℕ, List, [], ◌∷◌, slice_index, decimal}
+use Rattle.std.specs.Prelude.{◌≡◌, ◌++◌, ℕ, List, decimal}
 use Rattle.std.specs.Int.{IsInRange}
 
 -- the text is the label and then the digits of the number, which lies from low to high
@@ -10,7 +10,3 @@ pub record IsNumberAfter (label : List ℕ) (low high : ℕ) (text : List ℕ) (
 -- the text is the label and such digits for no number
 abbrev pub IsNoNumberAfter : List ℕ → ℕ → ℕ → List ℕ → Type 0
 IsNoNumberAfter label low high text = (n : ℕ) → IsNumberAfter label low high text n → ⊥
-
--- a digit that isn't 0 comes first, or 0 stands alone
-abbrev pub BeginsAsNumber : List ℕ → Type 0
-BeginsAsNumber text = IsInRange 49 57 (slice_index text 0) ⊎ (text ≡ 48 ∷ [])
