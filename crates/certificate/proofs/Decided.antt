@@ -1,6 +1,8 @@
 -- Whether two moves are one, whether moves begin with others, and whether an answer takes a move, is decided.
-use Rattle.std.proofs.Common.{◌≡◌, ◌⊎◌, ℕ, List, [], ◌∷◌, ◌++◌, sym, refl, ap, ap₂, ◌∙◌, inl, inr, append_assoc}
+use Rattle.std.proofs.Common.{◌≡◌, ◌⊎◌, ℕ, Bool, true, false, Decides, bytes_eq, List, [], ◌∷◌, ◌++◌, sym, refl, ap, ap₂, ◌∙◌, inl, inr, append_assoc}
 use Rattle.std.proofs.lemmas.Bool.{cases_eq}
+use Rattle.std.proofs.lemmas.Bool.Decides.{not_from_Decides}
+use Rattle.std.proofs.lemmas.Slice.Eq.{bytes_eq-Decides}
 use Rattle.certificate.specs.declared.parts.CertAnswer.{CertAnswer}
 use Rattle.certificate.specs.DepartureCheck.{NoneTakes}
 use Rattle.fare_law.specs.declared.moves.Move.{Move}
@@ -11,20 +13,12 @@ use Rattle.fare_law.specs.Lists.{IsIn}
 abbrev Decided : {X : Type 0} → X → X → Type 0
 Decided x y = (x ≡ y) ⊎ (x ≡ y → ⊥)
 
-numbers_decided : (xs ys : List ℕ) → Decided xs ys
-numbers_decided [] [] = inl refl
-numbers_decided [] (y ∷ ys) = inr (λ e. cc)
-numbers_decided (x ∷ xs) [] = inr (λ e. cc)
-numbers_decided (x ∷ xs) (y ∷ ys) = elim (cases_eq x y) [
-  | inl e ↦ elim (numbers_decided xs ys) [ inl f ↦ inl (ap₂ (λ z zs. z ∷ zs) e f) | inr ne ↦ inr (λ h. ne (tail_same h)) ]
-  | inr ne ↦ inr (λ h. ne (head_same h))
-]
-  where
-    tail_same : x ∷ xs ≡ y ∷ ys → xs ≡ ys
-    tail_same h = cc
+tested : {P : Type 0} (b : Bool) → Decides b P → P ⊎ (P → ⊥)
+tested true d = inl (d.0 refl)
+tested false d = inr (not_from_Decides false d refl)
 
-    head_same : x ∷ xs ≡ y ∷ ys → x ≡ y
-    head_same h = cc
+numbers_decided : (xs ys : List ℕ) → Decided xs ys
+numbers_decided xs ys = tested (bytes_eq xs ys) (bytes_eq-Decides xs ys)
 
 roles_decided : (r s : Role) → Decided r s
 roles_decided Alone Alone = inl refl
