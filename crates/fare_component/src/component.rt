@@ -4,12 +4,14 @@ ghost use Rattle.std.specs.Int.{IsInRange};
 ghost use Rattle.fare_law.specs.Limits.{IsFare, IsFlight};
 ghost use Rattle.fare_law.specs.Lists.{OnFirst, OnLast};
 ghost use Rattle.fare_law.specs.Offers.{HasDirection, IsOffered, flights_of, row_price};
-ghost use Rattle.fare_law.specs.Parts.{DayTimeHolds, share};
+ghost use Rattle.fare_law.specs.Parts.{DayTimeHolds};
 ghost use Rattle.fare_law.specs.RuleLimits.{IsRule};
 
-use fare_law::{Class, Fare, FareKind, Flight, Leg, SheetRow};
+use fare_law::{Class, Flight, Leg, SheetRow};
 use rule_days::day_time_ok;
-use rule_route::{charge, flights_ok, limits_are_met, stopovers_ok, surcharge, transfers_ok};
+use rule_route::{
+    charge, flights_ok, limits_are_met, share, stopovers_ok, surcharge, transfers_ok,
+};
 
 /// Whether the fare of a row may be had on the legs, and its rule permits their flights. The fare is
 /// filed between the ends of these flights.
@@ -66,15 +68,4 @@ pub fn price(row: &SheetRow, flights: &[Flight]) -> u64
 {
     limits_are_met();
     share(&row.fare) + charge(&row.rule, flights) + surcharge(&row.rule, flights)
-}
-
-/// What the fare itself costs for one component.
-fn share(fare: &Fare) -> u64
-    ensures value { result ≡ share fare.now.kind fare.now.amount }
-    ensures low { result ≤ fare.now.amount }
-{
-    match fare.kind {
-        FareKind::R => fare.amount / 2,
-        FareKind::O | FareKind::S => fare.amount,
-    }
 }

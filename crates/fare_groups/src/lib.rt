@@ -10,4 +10,4 @@ mod permits;
 pub use group::{FareGroup, GroupKey, GroupedFare};
 pub use grouping::groups_of;
 pub use laws::{fares_by_group, one_rule, rows_stand_once};
-pub use permits::{classes_of_all, extra, share};
+pub use permits::{classes_of_all, extra};

@@ -8,8 +8,8 @@ ghost use Rattle.ticket_demands.specs.Prices.{ComponentCosts, HasNoPrice, Ticket
 
 use crate::known::{flights_of, has_unknown_flight};
 use fare_book::Book;
-use fare_law::{Component, Fare, FareKind, Ticket};
-use rule_route::{charge, limits_are_met, surcharge};
+use fare_law::{Component, Ticket};
+use rule_route::{charge, limits_are_met, share, surcharge};
 
 /// The price of a ticket for one passenger, lawful or not: what its components cost. None exactly
 /// where a component has no flight, one that is unknown, or a fare that isn't live.
@@ -41,15 +41,4 @@ pub fn component_price(component: &Component, book: &Book) -> Option<u64>
     let flights = flights_of(component, book);
     let flights = flights.as_slice();
     Some(share(&row.fare) + charge(&row.rule, flights) + surcharge(&row.rule, flights))
-}
-
-/// The fare's amount, or half of it for a round trip fare.
-fn share(fare: &Fare) -> u64
-    ensures value { result ≡ Parts.share fare.now.kind fare.now.amount }
-    ensures low { result ≤ fare.now.amount }
-{
-    match fare.kind {
-        FareKind::R => fare.amount / 2,
-        FareKind::O | FareKind::S => fare.amount,
-    }
 }
