@@ -4,6 +4,7 @@ use Rattle.std.specs.Prelude.{codes}
 use Rattle.std.specs.Fmt.{decimal}
 use Rattle.std.proofs.lemmas.List.{append_cancel_left}
 use Rattle.std.proofs.lemmas.Fmt.{decimal_injective}
+use Rattle.std.proofs.lemmas.Option.{some_pair_parts}
 use Rattle.fare_law.specs.declared.rows.TextLine.{TextLine}
 use Rattle.script_text.specs.declared.lines.Counts.{Counts}
 use Rattle.script_text.specs.declared.lines.Script.{Script}
@@ -13,7 +14,7 @@ use Rattle.script_text.specs.Numbers.{IsNumberAfter}
 use Rattle.script_text.specs.Laws.{OneScript, ScriptOrFault, OneFault}
 use Rattle.script_text.specs.Script.{Spells, SpellsNone, SpellsEach, FirstBad, counts}
 use Rattle.script_text.proofs.NumberLemmas.{one_number}
-use Rattle.script_text.proofs.OrderLemmas.{spaceless, same_cut}
+use Rattle.script_text.proofs.OrderLemmas.{cut_after}
 
 record AreSmall (c : Counts) : Type 0 where
   desks : c.desks < 2 ^ 32
@@ -23,26 +24,30 @@ record AreSmall (c : Counts) : Type 0 where
 same_number : (m n high : ℕ) → m ≤ high → n ≤ high → high < 2 ^ 32 → decimal m ≡ decimal n → m ≡ n
 same_number m n high k l small e = decimal_injective m n (omega (arith, k, small)) (omega (arith, l, small)) e
 
+-- a line's number and what follows its space
+same_parts : (d e high : ℕ) (text x y : List ℕ) → high < 2 ^ 32 → d ≤ high → e ≤ high → text ≡ decimal d ++ 32 ∷ x → text ≡ decimal e ++ 32 ∷ y → (d ≡ e) × (x ≡ y)
+same_parts d e high text x y small k l h g =
+    let cut = some_pair_parts (decimal d) (decimal e) x y (sym (cut_after d text x (omega (arith, small, k)) h) ∙ cut_after e text y (omega (arith, small, l)) g) in
+    (same_number d e high k l small cut.0, cut.1)
+
 -- a text spells one script line
 one_line : (c : Counts) (text : List ℕ) (s t : ScriptLine) → AreSmall c → Spells c text s → Spells c text t → s ≡ t
 one_line c text (Search d r) (Search e q) small h k =
-    let cut = same_cut (decimal d) (decimal e) (codes "search " ++ decimal r) (codes "search " ++ decimal q) (spaceless d) (spaceless e) (sym h.written ∙ k.written) in
-    let a : d ≡ e = same_number d e c.desks h.within.0.1 k.within.0.1 small.desks cut.0 in
+    let cut = same_parts d e c.desks text (codes "search " ++ decimal r) (codes "search " ++ decimal q) small.desks h.within.0.1 k.within.0.1 h.written k.written in
     let b : r ≡ q = same_number r q c.requests h.within.1.1 k.within.1.1 small.requests (append_cancel_left (codes "search ") (decimal r) (decimal q) cut.1) in
-    ap (λ x. Search x r) a ∙ ap (λ x. Search e x) b
+    ap (λ x. Search x r) cut.0 ∙ ap (λ x. Search e x) b
 one_line c text (Search d r) (Await e n) small h k =
-    let cut = same_cut (decimal d) (decimal e) (codes "search " ++ decimal r) (codes "wait " ++ decimal n) (spaceless d) (spaceless e) (sym h.written ∙ k.written) in
+    let cut = same_parts d e c.desks text (codes "search " ++ decimal r) (codes "wait " ++ decimal n) small.desks h.within.0.1 k.within.0.1 h.written k.written in
     let a : ◌≡◌ {A = ℕ} 115 119 = cc in
     absurd (omega (arith, a))
 one_line c text (Await d m) (Search e q) small h k =
-    let cut = same_cut (decimal d) (decimal e) (codes "wait " ++ decimal m) (codes "search " ++ decimal q) (spaceless d) (spaceless e) (sym h.written ∙ k.written) in
+    let cut = same_parts d e c.desks text (codes "wait " ++ decimal m) (codes "search " ++ decimal q) small.desks h.within.0.1 k.within.0.1 h.written k.written in
     let a : ◌≡◌ {A = ℕ} 119 115 = cc in
     absurd (omega (arith, a))
 one_line c text (Await d m) (Await e n) small h k =
-    let cut = same_cut (decimal d) (decimal e) (codes "wait " ++ decimal m) (codes "wait " ++ decimal n) (spaceless d) (spaceless e) (sym h.written ∙ k.written) in
-    let a : d ≡ e = same_number d e c.desks h.within.0.1 k.within.0.1 small.desks cut.0 in
+    let cut = same_parts d e c.desks text (codes "wait " ++ decimal m) (codes "wait " ++ decimal n) small.desks h.within.0.1 k.within.0.1 h.written k.written in
     let b : m ≡ n = same_number m n c.later h.within.1.1 k.within.1.1 small.later (append_cancel_left (codes "wait ") (decimal m) (decimal n) cut.1) in
-    ap (λ x. Await x m) a ∙ ap (λ x. Await e x) b
+    ap (λ x. Await x m) cut.0 ∙ ap (λ x. Await e x) b
 
 same_lines : (c : Counts) (lines : List TextLine) (ss ts : List ScriptLine) → AreSmall c → SpellsEach c lines ss → SpellsEach c lines ts → ss ≡ ts
 same_lines c [] [] [] small h k = refl

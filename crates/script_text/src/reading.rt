@@ -1,6 +1,5 @@
 //! Reading a script.
-ghost use Rattle.std.specs.Prelude.{◌≡◌, ◌≢◌, ◌++◌, ◌∷◌, MatchOption, IfOk};
-ghost use Rattle.fare_law.specs.Lists.{Each};
+ghost use Rattle.std.specs.Prelude.{MatchOption, IfOk};
 ghost use Rattle.script_text.specs.Script.{IsScript, Reads, ReadsLines, Spells, SpellsNone};
 
 use crate::lines::Counts;
@@ -8,6 +7,7 @@ use crate::numbers::{number_after, number_within};
 use crate::{Script, ScriptFault, ScriptLine};
 use fare_law::{List, TextLine};
 use std::alloc::Global;
+use word_text::cut;
 
 /// The script that the lines spell: first `desks n`, n from 1 to 8, then lines `d search r` and
 /// `d wait n`. Desk d and request r are counted from 1, and n is at most the count of later filings.
@@ -58,24 +58,14 @@ fn script_lines(
 }
 
 // What one desk does, if the line says so within the counts.
-#[tactic(auto, using(crate::proofs::OrderLemmas::order_steps))]
 fn script_line(line: &[u8], counts: Counts) -> Option<ScriptLine>
     ensures { MatchOption result (SpellsNone counts line.now) (Spells counts line.now) }
 {
-    let (desk, order) = split_at_space(line)?;
+    let (desk, order) = cut(line, b' ')?;
     let desk = number_within(desk, 1, counts.desks)?;
     if let Some(request) = number_after(b"search ", order, 1, counts.requests) {
         return Some(ScriptLine::Search { desk, request });
     }
     let count = number_after(b"wait ", order, 0, counts.later)?;
     Some(ScriptLine::Await { desk, count })
-}
-
-// What stands before the first space, and what stands after it.
-fn split_at_space(line: &[u8]) -> Option<(&[u8], &[u8])>
-    ensures { MatchOption result (Each (λ b. b ≢ 32) line.now)
-        (λ x. (line.now ≡ x.0.now ++ 32 ∷ x.1.now) × Each (λ b. b ≢ 32) x.0.now) }
-{
-    let at = line.iter().position(|byte| *byte == b' ')?;
-    Some((&line[..at], &line[at + 1..]))
 }

@@ -1,4 +1,4 @@
--- The digits that a number writes, and the number that digits write.
+-- The digits that a number writes, and the number that digits write. Given on to the crates above.
 use Rattle.std.proofs.Common.{cond, bytes_eq, ◌≡◌, ◌≤◌, ◌<◌, ◌+◌, ◌*◌, ◌^◌, ◌-◌, ◌&&◌, nat_le, ℕ, suc, Bool, true, false, List, [], ◌∷◌, ◌++◌, length, take, get_or, refl, ap, sym, ◌∙◌, subst, arith, inl, inr, eq-zero-or-pos, Option, None, Some}
 use Rattle.std.proofs.Math.Seq.{take-suc}
 use Rattle.std.specs.Char.{digit_value}
