@@ -1,23 +1,12 @@
 -- What is written for a request has no float, is shallow, and reads as the request.
 use Rattle.std.proofs.Common.{◌<◌, ◌≤◌, ◌+◌, ℕ, zero, suc, List, [], ◌∷◌, ◌++◌, length, take, get_or, arith, subst}
-use Rattle.std.specs.Str.{IsAscii, IsUtf8}
 use Rattle.std.proofs.lemmas.List.{take_all, take_more}
-use Rattle.std.proofs.lemmas.Str.{IsUtf8-from_ascii}
 use Rattle.serde_json.specs.View.{view, items_view}
 use Rattle.serde_json.specs.declared.value.Value.{Value}
 use Rattle.fare_law.specs.Lists.{Each}
 use Rattle.fare_law.specs.declared.requests.Slice.{Slice}
-use Rattle.fare_law.specs.declared.names.Place.{Place}
-use Rattle.fare_law.specs.Limits.{IsPlace}
 use Rattle.fare_law.specs.Limits.{IsSlice}
 use Rattle.request_text.specs.Text.{WritesSlice, WritesSlices}
-use Rattle.law_lemmas.proofs.Words.{capitals_are_ascii}
-
-pub ascii_is_utf8 : (bs : List ℕ) → IsAscii bs → IsUtf8 bs
-ascii_is_utf8 = IsUtf8-from_ascii
-
-pub place_is_ascii : (p : Place) → IsPlace p → IsAscii p.0
-place_is_ascii p h = capitals_are_ascii p.0 h.1
 
 grows : (ss : List Slice) (vs : List Value) (s : Slice) (v : Value) → WritesSlices ss (items_view vs) → WritesSlice s (view v) → WritesSlices (ss ++ s ∷ []) (items_view (vs ++ v ∷ []))
 grows [] [] s v h w = (w, tt)

@@ -1,17 +1,16 @@
 //! The text of a request.
 ghost use Rattle.std.specs.Prelude.{◌≡◌, IfOk, Ok, codes};
-ghost use Rattle.std.specs.Str.{IsAscii};
 ghost use Rattle.serde_json.specs.Data.{object};
 ghost use Rattle.serde_json.specs.View.{view, items_view};
 ghost use Rattle.fare_law.specs.Lists.{Each};
-ghost use Rattle.fare_law.specs.Limits.{IsPlace};
 ghost use Rattle.fare_law.specs.Limits.{IsSlice, IsRequest};
 ghost use Rattle.request_text.specs.Reading.{request_of};
 ghost use Rattle.request_text.specs.Text as Text;
 ghost use Rattle.request_text.specs.Text.{Writes, WritesRequest, WritesSlice, WritesSlices};
 
-use fare_law::{List, Mem, Place, Request, Slice};
+use fare_law::{List, Mem, Request, Slice};
 use market_time::day_text;
+use name_text::{ascii_text, place_text};
 use serde_json::{Value, json};
 use std::alloc::{AllocError, Global};
 
@@ -95,22 +94,4 @@ fn slice_json(
         ≡ Text.slice_members days first.now from.now to.now) }
 {
     json!(in alloc; {"days": days, "first": first, "from": from, "to": to})
-}
-
-// A place as text.
-#[tactic(auto, using(crate::proofs::TextLemmas::place_is_ascii))]
-fn place_text(place: &Place) -> &str
-    requires { IsPlace place.now }
-    ensures { result.now ≡ place.now.0 }
-{
-    ascii_text(&place.0)
-}
-
-// ASCII bytes as text.
-#[tactic(auto, using(crate::proofs::TextLemmas::ascii_is_utf8))]
-fn ascii_text(bytes: &[u8]) -> &str
-    requires { IsAscii bytes.now }
-    ensures { result.now ≡ bytes.now }
-{
-    std::str::from_utf8(bytes).unwrap()
 }
