@@ -6,13 +6,14 @@ use crate::objects::put_optional;
 use crate::order::ascend;
 use crate::part::RulePart;
 use crate::singles::{minute_at, truth_at};
-use crate::texts::{ascii_text, carrier_text, minute_text};
+use crate::texts::minute_text;
 use crate::{RuleFault, objects};
 use fare_law::{
     ArrayVec, DayTime, FlightRule, Mem, MinStay, StopRule, Surcharge, TransferRule, TravelRule,
 };
 use json_form::{between_at, carrier_at, date_at};
 use market_time::day_text;
+use name_text::{ascii_text, carrier_text};
 use serde_json::{Map, Value};
 use std::alloc::Global;
 

@@ -9,10 +9,9 @@ ghost use Rattle.rule_text.specs.Written as Written;
 use crate::RuleFault;
 use crate::part::RulePart;
 use crate::singles::{date_of, number_of};
-use crate::texts::{ascii_text, carrier_text};
 use fare_law::{DayRange, FlightRange, Mem};
 use market_time::day_text;
-use name_text::carrier_of;
+use name_text::{ascii_text, carrier_of, carrier_text};
 use serde_json::{Value, json};
 use std::alloc::{AllocError, Global};
 

@@ -8,11 +8,10 @@ ghost use Rattle.rule_text.specs.Parts as Parts;
 
 use crate::RuleFault;
 use crate::part::RulePart;
-use crate::texts::{ascii_text, place_text};
 use fare_law::{Mem, Place};
 use json_form::text_at;
 use market_time::{day_of, day_text, minute_of};
-use name_text::place_of;
+use name_text::{ascii_text, place_of, place_text};
 use serde_json::Value;
 use std::alloc::Global;
 
