@@ -9,7 +9,8 @@ use Rattle.fare_law.specs.declared.rules.CombineRule.{CombineRule}
 use Rattle.fare_law.specs.declared.rules.UnitKind.{UnitKind}
 use Rattle.fare_law.specs.declared.rules.UnitKind.TheVariants.{OneWay, RoundTrip, OpenJaw, Circle}
 use Rattle.fare_law.specs.contracts.rules.UnitKindPartialEq.TheImpl as kinds
-use Rattle.rule_unit.specs.Demands.{place_of_kind, has_kind, same_kind, lists_kind, kinds_of}
+use Rattle.fare_law.specs.RuleLimits.{rank_of_kind}
+use Rattle.rule_unit.specs.Demands.{has_kind, same_kind, lists_kind, kinds_of}
 use Rattle.law_lemmas.proofs.Tests.{or_true}
 
 abbrev KindsAre : ℕ → Bool → Bool → Bool → Bool → Type 0
@@ -90,13 +91,13 @@ kind_to (Some c) k h = has_listed k c ∙ contains_at k c.kinds h.0 h.1 h.2
 
 pub common_parts : (a b : ℕ) (k : UnitKind) → has_kind (bit_and a b) k ≡ true → (has_kind a k ≡ true) × (has_kind b k ≡ true)
 common_parts a b k h =
-    let i = place_of_kind k in
+    let i = rank_of_kind k in
     let e : min (bit_at a i) (bit_at b i) ≡ 1 = sym (bit_at_and a b i) ∙ eqb-true (bit_at (bit_and a b) i) 1 h in
     (eq-eqb (bit_at a i) 1 (omega (arith, e, bit_at-lt a i, bit_at-lt b i)), eq-eqb (bit_at b i) 1 (omega (arith, e, bit_at-lt a i, bit_at-lt b i)))
 
 pub common_holds : (a b : ℕ) (k : UnitKind) → has_kind a k ≡ true → has_kind b k ≡ true → has_kind (bit_and a b) k ≡ true
 common_holds a b k h l =
-    let i = place_of_kind k in
+    let i = rank_of_kind k in
     eq-eqb (bit_at (bit_and a b) i) 1 (bit_at_and a b i ∙ omega (arith, eqb-true (bit_at a i) 1 h, eqb-true (bit_at b i) 1 l))
 
 -- a bit times a number above 0 is not 0 exactly where the bit is 1
@@ -104,7 +105,7 @@ bit_tells : (b p : ℕ) → b < 2 → 0 < p → not (eqb (b * p) 0) ≡ eqb b 1
 bit_tells b p h k = grind (arith, nat_tests)
 
 -- the test by a mask of one kind
-pub masked : (kinds : ℕ) (k : UnitKind) → not (eqb (bit_and kinds (2 ^ place_of_kind k)) 0) ≡ has_kind kinds k
+pub masked : (kinds : ℕ) (k : UnitKind) → not (eqb (bit_and kinds (2 ^ rank_of_kind k)) 0) ≡ has_kind kinds k
 masked kinds OneWay = ap (λ n. not (eqb n 0)) (and_pow kinds 0) ∙ bit_tells (bit_at kinds 0) 1 (bit_at-lt kinds 0) (omega arith)
 masked kinds RoundTrip = ap (λ n. not (eqb n 0)) (and_pow kinds 1) ∙ bit_tells (bit_at kinds 1) 2 (bit_at-lt kinds 1) (omega arith)
 masked kinds OpenJaw = ap (λ n. not (eqb n 0)) (and_pow kinds 2) ∙ bit_tells (bit_at kinds 2) 4 (bit_at-lt kinds 2) (omega arith)

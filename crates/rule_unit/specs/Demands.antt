@@ -11,6 +11,7 @@ use Rattle.fare_law.specs.declared.rules.UnitKind.{UnitKind}
 use Rattle.fare_law.specs.declared.rules.UnitKind.TheVariants.{OneWay, RoundTrip, OpenJaw, Circle}
 use Rattle.fare_law.specs.declared.rules.Rule.{Rule}
 use Rattle.fare_law.specs.Days.{first_sunday_after}
+use Rattle.fare_law.specs.RuleLimits.{rank_of_kind}
 use Rattle.rule_unit.specs.declared.demand.UnitDemand.{UnitDemand}
 
 -- the day is at least the least one, where there is one
@@ -44,18 +45,12 @@ abbrev pub by_day : Option TravelRule → Option ℤ
 by_day None = None
 by_day (Some c) = c.by
 
-abbrev pub place_of_kind : UnitKind → ℕ
-place_of_kind OneWay = 0
-place_of_kind RoundTrip = 1
-place_of_kind OpenJaw = 2
-place_of_kind Circle = 3
-
 -- whether a sum of kinds has this one
 abbrev pub has_kind : ℕ → UnitKind → Bool
-has_kind kinds kind = bit_at kinds (place_of_kind kind) == 1
+has_kind kinds kind = bit_at kinds (rank_of_kind kind) == 1
 
 abbrev pub same_kind : UnitKind → UnitKind → Bool
-same_kind k l = place_of_kind k == place_of_kind l
+same_kind k l = rank_of_kind k == rank_of_kind l
 
 abbrev pub lists_kind : List UnitKind → UnitKind → Bool
 lists_kind ks k = list_any (same_kind k) ks

@@ -1,7 +1,8 @@
 //! Sets of unit kinds as sums: one way 1, round trip 2, open jaw 4, circle 8.
 ghost use Rattle.std.specs.Prelude.{◌≡◌, ◌^◌, cond};
+ghost use Rattle.fare_law.specs.RuleLimits.{rank_of_kind};
 ghost use Rattle.rule_unit.specs.Demands as Demands;
-ghost use Rattle.rule_unit.specs.Demands.{place_of_kind, lists_kind};
+ghost use Rattle.rule_unit.specs.Demands.{lists_kind};
 
 use fare_law::{CombineRule, UnitKind};
 
@@ -10,7 +11,7 @@ const ALL_KINDS: u8 = 15;
 
 /// The number of a kind.
 pub fn kind_number(kind: UnitKind) -> u8
-    ensures { result ≡ 2 ^ place_of_kind kind }
+    ensures { result ≡ 2 ^ rank_of_kind kind }
 {
     match kind {
         UnitKind::OneWay => 1,
@@ -38,7 +39,7 @@ pub fn kinds_of(rule: &Option<CombineRule>) -> u8
 
 // The number of a kind if it is listed, else 0.
 fn listed(kinds: &[UnitKind], kind: UnitKind) -> u8
-    ensures { result ≡ cond (lists_kind kinds.now kind) (2 ^ place_of_kind kind) 0 }
+    ensures { result ≡ cond (lists_kind kinds.now kind) (2 ^ rank_of_kind kind) 0 }
 {
     if kinds.contains(&kind) {
         kind_number(kind)
