@@ -5,11 +5,10 @@ ghost use Rattle.fare_law.specs.Limits.{IsRequest};
 ghost use Rattle.fare_law.specs.Lists.{Each, IsIn};
 ghost use Rattle.outlines.specs.Outcomes.{EntryWithin, GivesOutcomes, Grows, IsTried, LeadsAs, LeadsTo};
 
-use crate::leaving::next_by;
 use crate::reading::facts_of;
 use crate::{Entry, Outcome};
 use fare_law::{List, Mem, Request, Role};
-use residual_keys::Residual;
+use residual_keys::{Residual, next_after};
 use std::alloc::Global;
 
 /// What the components of a table leave of a residual, each entry tried in each role and slot. Where
@@ -80,7 +79,7 @@ fn add_role(
     ensures { OnOk result (Grows (LeadsAs request.now residual.now entry.now role slot) found.old found.new) }
 {
     let facts = facts_of(residual.at.place, request.sale, entry);
-    match next_by(residual, entry.outline.after, &facts, role, slot) {
+    match next_after(residual, entry.outline.after, &facts, role, slot) {
         Some(next) => {
             found.push(Outcome {
                 next,

@@ -1,12 +1,12 @@
-//! What a unit reads of an entry's component.
+//! What a unit reads of an entry's component, and what its rule asks of the whole ticket.
 ghost use Rattle.std.specs.Prelude.{◌≡◌};
 ghost use Rattle.fare_law.specs.Days.{IsCalendarDay};
 ghost use Rattle.open_unit.specs.Ranges.{PieceInRanges};
-ghost use Rattle.outlines.specs.Marks.{written};
+ghost use Rattle.outlines.specs.Marks.{ends_of, written};
 ghost use Rattle.outlines.specs.Outcomes.{EntryWithin};
 
 use crate::Entry;
-use fare_law::{Place, Rule};
+use fare_law::{CombineRule, EndOnEnd, Place, Rule};
 use open_unit::Facts;
 use rule_unit::rules_stay_in_range;
 
@@ -31,5 +31,15 @@ pub fn facts_of<'a>(begin: Place, sale: i32, entry: &'a Entry) -> Facts<'a>
         first_day: outline.first,
         last_day: outline.last,
         sale,
+    }
+}
+
+/// What category 10 asks of the whole ticket.
+pub fn ends_of(combine: &Option<CombineRule>) -> EndOnEnd
+    ensures { result ≡ ends_of combine.now }
+{
+    match combine {
+        Some(combine) => combine.end_on_end,
+        None => EndOnEnd::Free,
     }
 }

@@ -8,6 +8,7 @@ pub mod Fitting
 pub mod Runs
 pub mod NothingLost
 pub mod OneNext
+pub mod OtherFares
 pub mod OneTicket
 pub mod Adding
 pub mod RolesHad

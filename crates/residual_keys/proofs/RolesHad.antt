@@ -1,11 +1,10 @@
 -- The moves of one component: one in each role and slot at most, and in no others than six.
-use Rattle.std.proofs.Common.{◌≡◌, ◌≢◌, ◌⊎◌, ℕ, zero, suc, ◌≤◌, List, [], ◌∷◌, ◌++◌, length, slice_get, Option, Some, refl, sym, ap, subst, ◌∙◌, inl, inr, arith}
+use Rattle.std.proofs.Common.{◌≡◌, ◌≢◌, ◌⊎◌, ℕ, zero, suc, ◌≤◌, List, [], ◌∷◌, ◌++◌, length, slice_get, Some, refl, sym, ap, subst, ◌∙◌, inl, inr, arith}
 use Rattle.fare_law.specs.declared.moves.Move.{Move}
 use Rattle.fare_law.specs.declared.moves.Role.{Role}
 use Rattle.fare_law.specs.declared.moves.Role.TheVariants.{Alone, Opens, GoesOn, Closes}
-use Rattle.fare_law.specs.declared.tickets.Piece.{Piece}
-use Rattle.flight_paths.specs.declared.positions.Position.{Position}
 use Rattle.open_unit.specs.declared.units.OpenUnit.{OpenUnit}
+use Rattle.residual_keys.specs.declared.priced.PricedComponent.{PricedComponent}
 use Rattle.residual_keys.specs.declared.residual.Chosen.{Chosen}
 use Rattle.residual_keys.specs.declared.residual.Next.{Next}
 use Rattle.residual_keys.specs.Gathered.{Adds, IsChoice, IsChoiceOf}
@@ -14,31 +13,31 @@ use Rattle.residual_keys.specs.Steps.{Leaves, left_at}
 use Rattle.residual_keys.proofs.Adding.{adds_like, adds_none, adds_one, adds_then}
 use Rattle.residual_keys.proofs.OneNext.{units_one}
 
-module _ (r : State) (ns : List ℕ) (after : Option Position) (p : Piece) (price : ℕ) where
+module _ (r : State) (p : PricedComponent) where
   -- a component leaves one thing
-  leaves_one : (role : Role) (slot : ℕ) (x y : Next) → Leaves r after p role slot x → Leaves r after p role slot y → x ≡ y
-  leaves_one role slot x y h k = h.left ∙ ap (λ us. left_at after us (part_with r.part (begins role) p)) (units_one role slot r.units h.units k.units p h.step k.step) ∙ sym k.left
+  leaves_one : (role : Role) (slot : ℕ) (x y : Next) → Leaves r p.path.now.after p.facts role slot x → Leaves r p.path.now.after p.facts role slot y → x ≡ y
+  leaves_one role slot x y h k = h.left ∙ ap (λ us. left_at p.path.now.after us (part_with r.part (begins role) p.facts)) (units_one role slot r.units h.units k.units p.facts h.step k.step) ∙ sym k.left
 
-  pub choice_made : (role : Role) (slot : ℕ) (m : Move) (next : Next) (old new : List Chosen) → m ≡ record { flights = ns; carrier = p.fare.key.carrier; basis = p.fare.key.basis; role = role; slot = slot }
-      → Leaves r after p role slot next → new ≡ old ++ record { mv = m; price = price; next = next } ∷ [] → Adds (IsChoice r ns after p price role slot) old new
-  choice_made role slot m next old new e l is = adds_one (IsChoice r ns after p price role slot) old new (record { mv = m; price = price; next = next }) is (record { move = e; price_is = refl; leaves = l }) only
+  pub choice_made : (role : Role) (slot : ℕ) (m : Move) (next : Next) (old new : List Chosen) → m ≡ record { flights = p.path.now.flights; carrier = p.key.now.carrier; basis = p.key.now.basis; role = role; slot = slot }
+      → Leaves r p.path.now.after p.facts role slot next → new ≡ old ++ record { mv = m; price = p.price; next = next } ∷ [] → Adds (IsChoice r p role slot) old new
+  choice_made role slot m next old new e l is = adds_one (IsChoice r p role slot) old new (record { mv = m; price = p.price; next = next }) is (record { move = e; price_is = refl; leaves = l }) only
     where
-      only : (d : Chosen) → IsChoice r ns after p price role slot d → d ≡ record { mv = m; price = price; next = next }
+      only : (d : Chosen) → IsChoice r p role slot d → d ≡ record { mv = m; price = p.price; next = next }
       only d h =
           let a : d.mv ≡ m = h.move ∙ sym e in
-          let b : d.price ≡ price = h.price_is in
+          let b : d.price ≡ p.price = h.price_is in
           let c : d.next ≡ next = leaves_one role slot d.next next h.leaves l in
           λ i. record { mv = a i; price = b i; next = c i }
 
-  pub no_choice : (role : Role) (slot : ℕ) (old : List Chosen) → ((next : Next) → Leaves r after p role slot next → ⊥) → Adds (IsChoice r ns after p price role slot) old old
-  no_choice role slot old none = adds_none (IsChoice r ns after p price role slot) old (λ c h. none c.next h.leaves)
+  pub no_choice : (role : Role) (slot : ℕ) (old : List Chosen) → ((next : Next) → Leaves r p.path.now.after p.facts role slot next → ⊥) → Adds (IsChoice r p role slot) old old
+  no_choice role slot old none = adds_none (IsChoice r p role slot) old (λ c h. none c.next h.leaves)
 
   -- one move has one role and one slot
-  role_one : (role role' : Role) (slot slot' : ℕ) (x y : Chosen) → IsChoice r ns after p price role slot x → IsChoice r ns after p price role' slot' y → x.mv ≡ y.mv → (role ≡ role') × (slot ≡ slot')
+  role_one : (role role' : Role) (slot slot' : ℕ) (x y : Chosen) → IsChoice r p role slot x → IsChoice r p role' slot' y → x.mv ≡ y.mv → (role ≡ role') × (slot ≡ slot')
   role_one role role' slot slot' x y h k e = let same = sym h.move ∙ e ∙ k.move in (ap (λ m. m.role) same, ap (λ m. m.slot) same)
 
   abbrev Q : Role → ℕ → Chosen → Type 0
-  Q role slot c = IsChoice r ns after p price role slot c
+  Q role slot c = IsChoice r p role slot c
 
   -- a component in a role stands in one of six places
   six : length r.units ≤ 2 → (c : Chosen) (role : Role) (slot : ℕ) → Q role slot c
@@ -64,7 +63,7 @@ module _ (r : State) (ns : List ℕ) (after : Option Position) (p : Piece) (pric
       places (x ∷ y ∷ []) (suc (suc s)) u few e = cc
       places (x ∷ y ∷ z ∷ us) (suc (suc s)) u few e = absurd (omega arith)
 
-  one_of : (c : Chosen) → ((((Q Alone 0 c ⊎ Q Opens 0 c) ⊎ Q GoesOn 0 c) ⊎ Q GoesOn 1 c) ⊎ Q Closes 0 c) ⊎ Q Closes 1 c → IsChoiceOf r ns after p price c
+  one_of : (c : Chosen) → ((((Q Alone 0 c ⊎ Q Opens 0 c) ⊎ Q GoesOn 0 c) ⊎ Q GoesOn 1 c) ⊎ Q Closes 0 c) ⊎ Q Closes 1 c → IsChoiceOf r p c
   one_of c (inl (inl (inl (inl (inl h))))) = (Alone, 0, h)
   one_of c (inl (inl (inl (inl (inr h))))) = (Opens, 0, h)
   one_of c (inl (inl (inl (inr h)))) = (GoesOn, 0, h)
@@ -78,14 +77,14 @@ module _ (r : State) (ns : List ℕ) (after : Option Position) (p : Piece) (pric
   other_slot : (role : Role) (slot slot' : ℕ) (x y : Chosen) → (slot ≡ slot' → ⊥) → Q role slot x → Q role slot' y → x.mv ≢ y.mv
   other_slot role slot slot' x y ne h k e = ne (role_one role role slot slot' x y h k e).1
 
-  pub all_choices : length r.units ≤ 2 → (a b c d e f g : List Chosen) → Adds (Q Alone 0) a b → Adds (Q Opens 0) b c → Adds (Q GoesOn 0) c d → Adds (Q GoesOn 1) d e → Adds (Q Closes 0) e f → Adds (Q Closes 1) f g → Adds (IsChoiceOf r ns after p price) a g
+  pub all_choices : length r.units ≤ 2 → (a b c d e f g : List Chosen) → Adds (Q Alone 0) a b → Adds (Q Opens 0) b c → Adds (Q GoesOn 0) c d → Adds (Q GoesOn 1) d e → Adds (Q Closes 0) e f → Adds (Q Closes 1) f g → Adds (IsChoiceOf r p) a g
   all_choices few a b c d e f g h1 h2 h3 h4 h5 h6 =
       let two = adds_then (Q Alone 0) (Q Opens 0) a b c h1 h2 (λ x y i j. other_role Alone Opens 0 0 x y (λ n. cc) i j) in
       let three = adds_then (λ z. Q Alone 0 z ⊎ Q Opens 0 z) (Q GoesOn 0) a c d two h3 (λ x y i j. elim i [ inl k ↦ other_role Alone GoesOn 0 0 x y (λ n. cc) k j | inr k ↦ other_role Opens GoesOn 0 0 x y (λ n. cc) k j ]) in
       let four = adds_then (λ z. (Q Alone 0 z ⊎ Q Opens 0 z) ⊎ Q GoesOn 0 z) (Q GoesOn 1) a d e three h4 (λ x y i j. elim i [ inl k ↦ elim k [ inl l ↦ other_role Alone GoesOn 0 1 x y (λ n. cc) l j | inr l ↦ other_role Opens GoesOn 0 1 x y (λ n. cc) l j ] | inr k ↦ other_slot GoesOn 0 1 x y (λ n. cc) k j ]) in
       let five = adds_then (λ z. ((Q Alone 0 z ⊎ Q Opens 0 z) ⊎ Q GoesOn 0 z) ⊎ Q GoesOn 1 z) (Q Closes 0) a e f four h5 (λ x y i j. before_closing x y 0 i j) in
       let six_of = adds_then (λ z. (((Q Alone 0 z ⊎ Q Opens 0 z) ⊎ Q GoesOn 0 z) ⊎ Q GoesOn 1 z) ⊎ Q Closes 0 z) (Q Closes 1) a f g five h6 (λ x y i j. elim i [ inl k ↦ before_closing x y 1 k j | inr k ↦ other_slot Closes 0 1 x y (λ n. cc) k j ]) in
-      adds_like (λ z. ((((Q Alone 0 z ⊎ Q Opens 0 z) ⊎ Q GoesOn 0 z) ⊎ Q GoesOn 1 z) ⊎ Q Closes 0 z) ⊎ Q Closes 1 z) (IsChoiceOf r ns after p price) a g six_of (λ z. (one_of z, λ k. six few z k.0 k.1 k.2))
+      adds_like (λ z. ((((Q Alone 0 z ⊎ Q Opens 0 z) ⊎ Q GoesOn 0 z) ⊎ Q GoesOn 1 z) ⊎ Q Closes 0 z) ⊎ Q Closes 1 z) (IsChoiceOf r p) a g six_of (λ z. (one_of z, λ k. six few z k.0 k.1 k.2))
     where
       before_closing : (x y : Chosen) (slot : ℕ) → ((Q Alone 0 x ⊎ Q Opens 0 x) ⊎ Q GoesOn 0 x) ⊎ Q GoesOn 1 x → Q Closes slot y → x.mv ≢ y.mv
       before_closing x y slot (inl (inl (inl h))) j = other_role Alone Closes 0 slot x y (λ n. cc) h j

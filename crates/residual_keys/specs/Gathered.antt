@@ -1,5 +1,5 @@
 -- What calls add to a list of moves: those of one component, of one sheet, of one path.
-use Rattle.std.specs.Prelude.{◌≡◌, ◌↔◌, ℕ, Bool, List, ◌++◌, map, slice_get, Option, Some}
+use Rattle.std.specs.Prelude.{◌≡◌, ◌↔◌, ℕ, ℤ, Bool, List, ◌++◌, map, slice_get, Some}
 use Rattle.fare_component.specs.declared.offer.Offer.{Offer}
 use Rattle.fare_component.specs.Offers.{StandsBefore}
 use Rattle.fare_law.specs.declared.fares.FareKey.{FareKey}
@@ -10,12 +10,12 @@ use Rattle.fare_law.specs.declared.sheets.Leg.{Leg}
 use Rattle.fare_law.specs.declared.sheets.SheetRow.{SheetRow}
 use Rattle.fare_law.specs.declared.tickets.Piece.{Piece}
 use Rattle.fare_law.specs.Book.{Book, live_fare, live_rule}
-use Rattle.fare_law.specs.Lists.{AllDifferent, EachPair, IsIn, Matched}
+use Rattle.fare_law.specs.Lists.{AllDifferent, EachPair, IsIn, Matched, OnFirst, OnLast}
 use Rattle.fare_law.specs.Offers.{IsOffered, flights_of, row_price}
 use Rattle.flight_paths.specs.declared.positions.Path.{Path}
-use Rattle.flight_paths.specs.declared.positions.Position.{Position}
 use Rattle.flight_paths.specs.Positions.{IsPath}
 use Rattle.residual_keys.specs.AskedKeys.{IsLeg}
+use Rattle.residual_keys.specs.declared.priced.PricedComponent.{PricedComponent}
 use Rattle.residual_keys.specs.declared.residual.Chosen.{Chosen}
 use Rattle.residual_keys.specs.Residuals.{State, closes}
 use Rattle.residual_keys.specs.Steps.{IsChosen, Leaves, MarketOver}
@@ -27,15 +27,26 @@ pub record Adds (P : Chosen → Type 0) (old new : List Chosen) : Type 0 where
   pub once : AllDifferent (map (λ c. c.mv) more)
   pub are : (c : Chosen) → IsIn c more ↔ P c
 
--- The move of a component on these flights in this role and slot, with its price and what it leaves.
-pub record IsChoice (r : State) (ns : List ℕ) (after : Option Position) (p : Piece) (price : ℕ) (role : Role) (slot : ℕ) (c : Chosen) : Type 0 where
-  pub move : c.mv ≡ record { flights = ns; carrier = p.fare.key.carrier; basis = p.fare.key.basis; role = role; slot = slot }
-  pub price_is : c.price ≡ price
-  pub leaves : Leaves r after p role slot c.next
+-- what units and tickets read of a fare of this row over these flights
+pub record IsReadOver (sale : ℤ) (fs : List Flight) (row : SheetRow) (reverse : Bool) (p : Piece) : Type 0 where
+  pub begins : OnFirst (λ f. (p.begin ≡ f.from) × (p.first_day ≡ f.day)) fs
+  pub ends : OnLast (λ f. (p.end ≡ f.to) × (p.last_day ≡ f.day)) fs
+  pub carrier : p.fare.key.carrier ≡ row.fare.key.carrier
+  pub number : p.fare.rule ≡ row.fare.rule
+  pub kind : p.fare.kind ≡ row.fare.kind
+  pub rule : p.rule ≡ row.rule
+  pub reverse_is : p.reverse ≡ reverse
+  pub sale_is : p.sale ≡ sale
+
+-- The move of a component in this role and slot, with its price and what it leaves.
+pub record IsChoice (r : State) (x : PricedComponent) (role : Role) (slot : ℕ) (c : Chosen) : Type 0 where
+  pub move : c.mv ≡ record { flights = x.path.now.flights; carrier = x.key.now.carrier; basis = x.key.now.basis; role = role; slot = slot }
+  pub price_is : c.price ≡ x.price
+  pub leaves : Leaves r x.path.now.after x.facts role slot c.next
 
 -- a move of the component in some role and slot
-abbrev pub IsChoiceOf : State → List ℕ → Option Position → Piece → ℕ → Chosen → Type 0
-IsChoiceOf r ns after p price c = (role : Role) × (slot : ℕ) × IsChoice r ns after p price role slot c
+abbrev pub IsChoiceOf : State → PricedComponent → Chosen → Type 0
+IsChoiceOf r x c = (role : Role) × (slot : ℕ) × IsChoice r x role slot c
 
 -- a move on these flights
 abbrev pub IsChosenOn : Book → Request → State → List ℕ → Chosen → Type 0

@@ -4,28 +4,26 @@ ghost use Rattle.open_unit.specs.Ranges.{PieceInRanges};
 ghost use Rattle.residual_keys.specs.Gathered.{Adds, IsChoice, IsChoiceOf};
 
 use crate::leaving::next_after;
+use crate::priced::PricedComponent;
 use crate::{Chosen, Residual};
-use fare_law::{List, Mem, Move, Piece, Role};
-use flight_paths::Path;
+use fare_law::{List, Mem, Move, Role};
 
 /// Adds the moves of a component on a path of a residual, in whatever role and slot it may have.
 pub fn add_choices(
     found: &mut List<Chosen>,
     residual: &Residual,
-    path: &Path,
-    piece: &Piece,
-    price: u64,
+    component: &PricedComponent<'_>,
 ) -> Result<(), Mem>
-    requires { PieceInRanges piece.now }
-    ensures { OnOk result (Adds (IsChoiceOf residual.now path.now.flights path.now.after piece.now price) found.old found.new) }
+    requires { PieceInRanges component.now.facts }
+    ensures { OnOk result (Adds (IsChoiceOf residual.now component.now) found.old found.new) }
 {
     residual.keeps();
-    add_choice(found, residual, path, piece, price, Role::Alone, 0)?;
-    add_choice(found, residual, path, piece, price, Role::Opens, 0)?;
-    add_choice(found, residual, path, piece, price, Role::GoesOn, 0)?;
-    add_choice(found, residual, path, piece, price, Role::GoesOn, 1)?;
-    add_choice(found, residual, path, piece, price, Role::Closes, 0)?;
-    add_choice(found, residual, path, piece, price, Role::Closes, 1)?;
+    add_choice(found, residual, component, Role::Alone, 0)?;
+    add_choice(found, residual, component, Role::Opens, 0)?;
+    add_choice(found, residual, component, Role::GoesOn, 0)?;
+    add_choice(found, residual, component, Role::GoesOn, 1)?;
+    add_choice(found, residual, component, Role::Closes, 0)?;
+    add_choice(found, residual, component, Role::Closes, 1)?;
     Ok(())
 }
 
@@ -33,20 +31,18 @@ pub fn add_choices(
 fn add_choice(
     found: &mut List<Chosen>,
     residual: &Residual,
-    path: &Path,
-    piece: &Piece,
-    price: u64,
+    component: &PricedComponent<'_>,
     role: Role,
     slot: u8,
 ) -> Result<(), Mem>
-    requires { PieceInRanges piece.now }
-    ensures { OnOk result (Adds (IsChoice residual.now path.now.flights path.now.after piece.now price role slot) found.old found.new) }
+    requires { PieceInRanges component.now.facts }
+    ensures { OnOk result (Adds (IsChoice residual.now component.now role slot) found.old found.new) }
 {
-    match next_after(residual, path.after, piece, role, slot) {
+    match next_after(residual, component.path.after, &component.facts, role, slot) {
         Some(next) => {
             found.push(Chosen {
-                mv: move_of(path, piece, role, slot),
-                price,
+                mv: move_of(component, role, slot),
+                price: component.price,
                 next,
             })?;
             Ok(())
@@ -55,14 +51,14 @@ fn add_choice(
     }
 }
 
-/// The move of a component on a path in a role and slot.
-fn move_of(path: &Path, piece: &Piece, role: Role, slot: u8) -> Move
-    ensures { result ≡ record { flights = path.now.flights; carrier = piece.now.fare.key.carrier; basis = piece.now.fare.key.basis; role = role; slot = slot } }
+/// The move of a component in a role and slot.
+fn move_of(component: &PricedComponent<'_>, role: Role, slot: u8) -> Move
+    ensures { result ≡ record { flights = component.now.path.now.flights; carrier = component.now.key.now.carrier; basis = component.now.key.now.basis; role = role; slot = slot } }
 {
     Move {
-        flights: path.flights.copied(),
-        carrier: piece.fare.key.carrier,
-        basis: piece.fare.key.basis.copied(),
+        flights: component.path.flights.copied(),
+        carrier: component.key.carrier,
+        basis: component.key.basis.copied(),
         role,
         slot,
     }

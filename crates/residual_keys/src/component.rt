@@ -1,4 +1,4 @@
-//! One component of a search: its flights, its legs, and what a fare over them is to a unit.
+//! One component of a search: its flights, its legs, and what units read of a fare over them.
 ghost use Rattle.std.specs.Prelude.{◌≡◌, ◌≤◌, All, List, length};
 ghost use Rattle.fare_law.specs.Days.{IsCalendarDay};
 ghost use Rattle.fare_law.specs.Limits.{IsFlight};
@@ -12,9 +12,11 @@ ghost use Rattle.fare_law.specs.Offers.{flights_of};
 ghost use Rattle.fare_law.specs.Parts.{Numbers};
 ghost use Rattle.flight_paths.specs.Plans.{HasPlan};
 ghost use Rattle.residual_keys.specs.AskedKeys.{IsLeg};
+ghost use Rattle.residual_keys.specs.Gathered.{IsReadOver};
 
-use fare_book::{Book, copied_rule};
-use fare_law::{ArrayVec, FareKey, Flight, Leg, Move, Piece, Place, Role, SheetRow};
+use fare_book::Book;
+use fare_law::{ArrayVec, FareKey, Flight, Leg, Move, Place, Role, SheetRow};
+use open_unit::Facts;
 use rule_unit::rules_stay_in_range;
 use schedule_book::Schedule;
 
@@ -57,28 +59,25 @@ pub fn legs_of(book: &Book, party: u8, flights: &[Flight]) -> ArrayVec<Leg, 4>
     legs
 }
 
-/// What a fare with its rule over these flights is to a unit and to a ticket.
-pub fn piece_over(flights: &[Flight], row: &SheetRow, reverse: bool, sale: i32) -> Piece
+/// What units and tickets read of a fare with its rule over these flights.
+pub fn facts_over<'a>(flights: &[Flight], row: &'a SheetRow, reverse: bool, sale: i32) -> Facts<'a>
     requires some { 1 ≤ length flights.now }
     requires flights { All IsFlight flights.now }
     requires rule { IsRule row.now.rule }
     requires sale { IsCalendarDay sale }
     ensures in_ranges { PieceInRanges result }
-    ensures begins { OnFirst (λ f. (result.begin ≡ f.from) × (result.first_day ≡ f.day)) flights.now }
-    ensures ends { OnLast (λ f. (result.end ≡ f.to) × (result.last_day ≡ f.day)) flights.now }
-    ensures fare { result.fare ≡ row.now.fare }
-    ensures rule { result.rule ≡ row.now.rule }
-    ensures reverse { result.reverse ≡ reverse }
-    ensures sale { result.sale ≡ sale }
+    ensures over { IsReadOver sale flights.now row.now reverse result }
 {
     rules_stay_in_range();
     let first = first_of(flights);
     let last = last_of(flights);
-    Piece {
+    Facts {
         begin: first.from,
         end: last.to,
-        fare: row.fare.copied(),
-        rule: copied_rule(&row.rule),
+        carrier: row.fare.key.carrier,
+        number: row.fare.rule,
+        kind: row.fare.kind,
+        rule: &row.rule,
         reverse,
         first_day: first.day,
         last_day: last.day,

@@ -13,8 +13,9 @@ ghost use Rattle.residual_keys.specs.Steps.{MarketOver};
 ghost use Rattle.residual_keys.specs.WaysOf.{IsWayOf};
 
 use crate::choices::add_choices;
-use crate::component::{first_of, last_of, piece_over};
+use crate::component::{facts_over, first_of, last_of};
 use crate::open_units::OpenUnits;
+use crate::priced::PricedComponent;
 use crate::way::Way;
 use crate::{Chosen, Residual};
 use fare_book::Book;
@@ -219,7 +220,12 @@ fn add_offer(
     requires rule { IsRule row.now.rule }
     ensures { OnOk result (Adds (IsChosenWith book.now request.now residual.now way.now.path.flights reverse row.now) found.old found.new) }
 {
-    let piece = piece_over(way.flights.as_slice(), row, reverse, request.sale);
-    add_choices(found, residual, &way.path, &piece, price)?;
+    let component = PricedComponent {
+        path: &way.path,
+        facts: facts_over(way.flights.as_slice(), row, reverse, request.sale),
+        key: &row.fare.key,
+        price,
+    };
+    add_choices(found, residual, &component)?;
     Ok(())
 }

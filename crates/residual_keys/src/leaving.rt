@@ -8,8 +8,9 @@ ghost use Rattle.residual_keys.specs.Steps.{Leaves, left_at};
 use crate::open_units::OpenUnits;
 use crate::parts::{begins, part_allows, part_with};
 use crate::{Next, Residual, TicketPart};
-use fare_law::{Piece, Role};
+use fare_law::Role;
 use flight_paths::Position;
+use open_unit::Facts;
 
 /// What a component leaves that leads to a position, or to the end of the journey, in this role and slot.
 /// None exactly where it is no move of the residual: its unit doesn't allow it, the ticket doesn't, or
@@ -17,20 +18,20 @@ use flight_paths::Position;
 pub fn next_after(
     residual: &Residual,
     after: Option<Position>,
-    piece: &Piece,
+    facts: &Facts<'_>,
     role: Role,
     slot: u8,
 ) -> Option<Next>
-    requires { PieceInRanges piece.now }
-    ensures some { IfSome result (Leaves residual.now after piece.now role slot) }
-    ensures none { IfNone result ((next : After) → Leaves residual.now after piece.now role slot next → ⊥) }
+    requires { PieceInRanges facts.now }
+    ensures some { IfSome result (Leaves residual.now after facts.now role slot) }
+    ensures none { IfNone result ((next : After) → Leaves residual.now after facts.now role slot next → ⊥) }
 {
     residual.keeps();
-    let part = part_with(&residual.part, begins(role), piece);
+    let part = part_with(&residual.part, begins(role), facts);
     if !part_allows(&part) {
         return None;
     }
-    match OpenUnits::of(residual).after(role, slot, piece) {
+    match OpenUnits::of(residual).after(role, slot, facts) {
         Some(units) => standing(after, &units, part),
         None => None,
     }
@@ -38,7 +39,7 @@ pub fn next_after(
 
 /// Where a search stands with these open units and this ticket part. None where the journey is complete
 /// and a unit is open.
-pub fn standing(after: Option<Position>, units: &OpenUnits, part: TicketPart) -> Option<Next>
+fn standing(after: Option<Position>, units: &OpenUnits, part: TicketPart) -> Option<Next>
     requires { PartKept part }
     ensures some { IfSome result (λ next. IfNone after (units.now ≡ []) × (next ≡ left_at after units.now part)) }
     ensures none { IfNone result (IfNone after (units.now ≡ []) → ⊥) }

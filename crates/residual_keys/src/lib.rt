@@ -15,6 +15,7 @@ mod leaving;
 mod limits;
 mod open_units;
 mod parts;
+mod priced;
 mod reading;
 mod residual;
 mod stepping;
@@ -24,13 +25,13 @@ mod words;
 
 pub use beginning::root;
 pub use choosing::moves;
-pub use component::{first_of, last_of};
+pub use component::{facts_over, first_of, last_of};
 pub use kept::{part_kept, unit_kept};
 pub use laws::{
     best_runs, nothing_lost, one_best, one_next, one_size, reached_is_written, residual_order,
     runs_are_short,
 };
-pub use leaving::{next_after, standing};
+pub use leaving::next_after;
 pub use limits::book_limits;
 pub use open_units::OpenUnits;
 pub use parts::{TicketPart, one_more, part_allows, with_end};

@@ -7,9 +7,9 @@ ghost use Rattle.residual_keys.specs.Kept.{PartKept};
 ghost use Rattle.residual_keys.specs.Residuals.{UnitStep};
 
 use crate::{Residual, TicketPart};
-use fare_law::{Piece, Role};
+use fare_law::Role;
 use flight_paths::Position;
-use open_unit::OpenUnit;
+use open_unit::{Facts, OpenUnit};
 use std::marker::Model;
 
 /// At most two open units, in the order of opening. Contracts see their list.
@@ -47,68 +47,68 @@ impl OpenUnits {
     }
 
     /// The open units after a component in this role and slot. None exactly where it may not have them.
-    pub fn after(self, role: Role, slot: u8, piece: &Piece) -> Option<OpenUnits>
-        requires { PieceInRanges piece.now }
-        ensures some { IfSome result (λ us. UnitStep role slot self piece.now us) }
-        ensures none { IfNone result ((us : List Unit) → UnitStep role slot self piece.now us → ⊥) }
+    pub(crate) fn after(self, role: Role, slot: u8, facts: &Facts<'_>) -> Option<OpenUnits>
+        requires { PieceInRanges facts.now }
+        ensures some { IfSome result (λ us. UnitStep role slot self facts.now us) }
+        ensures none { IfNone result ((us : List Unit) → UnitStep role slot self facts.now us → ⊥) }
     {
         match role {
-            Role::Alone => self.after_alone(slot, piece),
-            Role::Opens => self.after_opening(slot, piece),
-            Role::GoesOn => self.after_going_on(slot, piece),
-            Role::Closes => self.after_closing(slot, piece),
+            Role::Alone => self.after_alone(slot, facts),
+            Role::Opens => self.after_opening(slot, facts),
+            Role::GoesOn => self.after_going_on(slot, facts),
+            Role::Closes => self.after_closing(slot, facts),
         }
     }
 
-    fn after_alone(self, slot: u8, piece: &Piece) -> Option<OpenUnits>
-        requires { PieceInRanges piece.now }
-        ensures some { IfSome result (λ us. UnitStep Alone slot self piece.now us) }
-        ensures none { IfNone result ((us : List Unit) → UnitStep Alone slot self piece.now us → ⊥) }
+    fn after_alone(self, slot: u8, facts: &Facts<'_>) -> Option<OpenUnits>
+        requires { PieceInRanges facts.now }
+        ensures some { IfSome result (λ us. UnitStep Alone slot self facts.now us) }
+        ensures none { IfNone result ((us : List Unit) → UnitStep Alone slot self facts.now us → ⊥) }
     {
-        if slot == 0 && OpenUnit::alone(piece) {
+        if slot == 0 && OpenUnit::alone_by(facts) {
             Some(self)
         } else {
             None
         }
     }
 
-    fn after_opening(self, slot: u8, piece: &Piece) -> Option<OpenUnits>
-        requires { PieceInRanges piece.now }
-        ensures some { IfSome result (λ us. UnitStep Opens slot self piece.now us) }
-        ensures none { IfNone result ((us : List Unit) → UnitStep Opens slot self piece.now us → ⊥) }
+    fn after_opening(self, slot: u8, facts: &Facts<'_>) -> Option<OpenUnits>
+        requires { PieceInRanges facts.now }
+        ensures some { IfSome result (λ us. UnitStep Opens slot self facts.now us) }
+        ensures none { IfNone result ((us : List Unit) → UnitStep Opens slot self facts.now us → ⊥) }
     {
         if slot != 0 || self.second.is_some() {
             return None;
         }
-        match OpenUnit::first(piece) {
+        match OpenUnit::first_by(facts) {
             Some(unit) => Some(self.with(unit)),
             None => None,
         }
     }
 
-    fn after_going_on(self, slot: u8, piece: &Piece) -> Option<OpenUnits>
-        requires { PieceInRanges piece.now }
-        ensures some { IfSome result (λ us. UnitStep GoesOn slot self piece.now us) }
-        ensures none { IfNone result ((us : List Unit) → UnitStep GoesOn slot self piece.now us → ⊥) }
+    fn after_going_on(self, slot: u8, facts: &Facts<'_>) -> Option<OpenUnits>
+        requires { PieceInRanges facts.now }
+        ensures some { IfSome result (λ us. UnitStep GoesOn slot self facts.now us) }
+        ensures none { IfNone result ((us : List Unit) → UnitStep GoesOn slot self facts.now us → ⊥) }
     {
         let Some(unit) = self.at(slot) else {
             return None;
         };
-        match unit.go_on(piece) {
+        match unit.go_on_by(facts) {
             Some(longer) => Some(self.replaced(slot, longer)),
             None => None,
         }
     }
 
-    fn after_closing(self, slot: u8, piece: &Piece) -> Option<OpenUnits>
-        requires { PieceInRanges piece.now }
-        ensures some { IfSome result (λ us. UnitStep Closes slot self piece.now us) }
-        ensures none { IfNone result ((us : List Unit) → UnitStep Closes slot self piece.now us → ⊥) }
+    fn after_closing(self, slot: u8, facts: &Facts<'_>) -> Option<OpenUnits>
+        requires { PieceInRanges facts.now }
+        ensures some { IfSome result (λ us. UnitStep Closes slot self facts.now us) }
+        ensures none { IfNone result ((us : List Unit) → UnitStep Closes slot self facts.now us → ⊥) }
     {
         let Some(unit) = self.at(slot) else {
             return None;
         };
-        match unit.close(piece) {
+        match unit.close_by(facts) {
             Some(_) => Some(self.without(slot)),
             None => None,
         }
@@ -127,7 +127,7 @@ impl OpenUnits {
     }
 
     /// One more open unit, where there is room.
-    pub fn with(self, unit: OpenUnit) -> OpenUnits
+    fn with(self, unit: OpenUnit) -> OpenUnits
         requires room { length self < 2 }
         requires unit { UnitInRanges unit }
         ensures { result ≡ self ++ unit ∷ [] }
@@ -145,7 +145,7 @@ impl OpenUnits {
     }
 
     /// Another unit in a slot that has one.
-    pub fn replaced(self, slot: u8, unit: OpenUnit) -> OpenUnits
+    fn replaced(self, slot: u8, unit: OpenUnit) -> OpenUnits
         requires taken { slot < length self }
         requires unit { UnitInRanges unit }
         ensures { result ≡ set self slot unit }
@@ -164,7 +164,7 @@ impl OpenUnits {
     }
 
     /// The units without that of a slot which has one.
-    pub fn without(self, slot: u8) -> OpenUnits
+    fn without(self, slot: u8) -> OpenUnits
         requires { slot < length self }
         ensures { result ≡ remove self slot }
     {
@@ -182,7 +182,7 @@ impl OpenUnits {
     }
 
     /// The residual at a position with these open units and this ticket part.
-    pub fn residual(&self, at: Position, part: TicketPart) -> Residual
+    pub(crate) fn residual(&self, at: Position, part: TicketPart) -> Residual
         requires { PartKept part }
         ensures { result ≡ record { at = at; units = self.now; part = part } }
     {

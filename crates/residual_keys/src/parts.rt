@@ -3,8 +3,8 @@ ghost use Rattle.std.specs.Prelude.{◌≡◌, ◌≤◌, ◌↔◌, IsTrue};
 ghost use Rattle.residual_keys.specs.Kept.{PartKept};
 ghost use Rattle.residual_keys.specs.Residuals.{PartAllows, begins, ends_with, one_more, part_with, with_end};
 
-use fare_law::{CombineRule, EndOnEnd, Piece, Role};
-use open_unit::CarrierMark;
+use fare_law::{CombineRule, EndOnEnd, Role};
+use open_unit::{CarrierMark, Facts};
 
 /// What the fares so far ask of the whole ticket.
 #[derive(Clone, Copy, PartialEq, Eq, PartialOrd, Ord, Hash, Debug)]
@@ -24,15 +24,15 @@ pub fn begins(role: Role) -> bool
 }
 
 /// The ticket part with one more component, which begins a unit or not.
-pub fn part_with(part: &TicketPart, begins_unit: bool, piece: &Piece) -> TicketPart
+pub fn part_with(part: &TicketPart, begins_unit: bool, facts: &Facts<'_>) -> TicketPart
     requires { PartKept part.now }
-    ensures value { result ≡ part_with part.now begins_unit piece.now }
+    ensures value { result ≡ part_with part.now begins_unit facts.now }
     ensures kept { PartKept result }
 {
     TicketPart {
         units: one_more(begins_unit, part.units),
-        ends: ends_with(&piece.rule.cat10, part.ends),
-        carrier: part.carrier.with(piece.fare.key.carrier),
+        ends: ends_with(&facts.rule.cat10, part.ends),
+        carrier: part.carrier.with(facts.carrier),
     }
 }
 

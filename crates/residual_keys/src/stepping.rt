@@ -9,7 +9,7 @@ ghost use Rattle.residual_keys.specs.ResidualText.{IsWritten};
 ghost use Rattle.residual_keys.specs.Steps.{IsLiveOn, StepsTo};
 ghost use Rattle.residual_keys.specs.Written.{IsWrittenNext};
 
-use crate::component::{closes, flights_of, key_on, legs_of, piece_over, schedule_of};
+use crate::component::{closes, facts_over, flights_of, key_on, legs_of, schedule_of};
 use crate::laws::reached_is_written;
 use crate::leaving::next_after;
 use crate::limits::book_limits;
@@ -93,6 +93,6 @@ fn step_with(
     if !is_offered(row, legs.as_slice(), flights) {
         return None;
     }
-    let piece = piece_over(flights, row, closes(mv.role), request.sale);
-    next_after(residual, after, &piece, mv.role, mv.slot)
+    let facts = facts_over(flights, row, closes(mv.role), request.sale);
+    next_after(residual, after, &facts, mv.role, mv.slot)
 }

@@ -9,7 +9,7 @@ use Rattle.residual_keys.proofs.leaving.next_after.Goals as goal
 pub returns-in-Some-clause-none : goal.returns-in-Some-clause-none
 returns-in-Some-clause-none c =
     let r = c.args.residual.now in
-    let p = c.args.piece.now in
+    let p = c.args.facts.now in
     let us = c.in-Some.units in
     if_none (IfNone c.args.after (us ≡ []) → ⊥) ((next : Next) → Leaves r c.args.after p c.args.role c.args.slot next → ⊥) c.standing.result c.standing.ensures.none
     (λ no next l.

@@ -1,4 +1,4 @@
-use Rattle.std.proofs.Common.{◌≡◌, ℤ, arith, pos, rules, subst, sym}
+use Rattle.std.proofs.Common.{◌≡◌, ℤ, arith, pos, refl, rules, subst, sym}
 use Rattle.std.proofs.lemmas.Int.{ints}
 use Rattle.fare_law.specs.Days.{IsCalendarDay}
 use Rattle.fare_law.specs.Limits.{IsFlight}
@@ -9,7 +9,7 @@ use Rattle.fare_law.specs.declared.tickets.Piece.{Piece}
 use Rattle.open_unit.specs.Ranges.{PieceInRanges}
 use Rattle.law_lemmas.proofs.Ends.{last_like}
 use Rattle.rule_unit.specs.Ranges.{IsDayWithin, StaysInRange}
-use Rattle.residual_keys.proofs.component.piece_over.Goals as goal
+use Rattle.residual_keys.proofs.component.facts_over.Goals as goal
 
 -- a day of the calendar lies in the range of a component's days
 within : (day : ℤ) → IsCalendarDay day → IsDayWithin (pos 99000) day
@@ -29,5 +29,14 @@ pub returns-clause-in_ranges : goal.returns-clause-in_ranges
 returns-clause-in_ranges c =
     in_ranges c.rules_stay_in_range.ensures _ _ _ _ (c.first_of-first.ensures.limits c.requires.flights) (c.last_of-last.ensures.limits c.requires.flights) c.requires.rule (search rules) (search rules) (search rules) (search rules)
 
-pub returns-clause-ends : goal.returns-clause-ends
-returns-clause-ends c = last_like _ _ c.args.flights.now c.last_of-last.ensures.last (λ f e. search rules)
+pub returns-clause-over : goal.returns-clause-over
+returns-clause-over c = record {
+  begins = search rules;
+  ends = last_like _ _ c.args.flights.now c.last_of-last.ensures.last (λ f e. search rules);
+  carrier = refl;
+  number = refl;
+  kind = refl;
+  rule = search rules;
+  reverse_is = refl;
+  sale_is = search rules;
+}
