@@ -1,5 +1,5 @@
 -- Lists of outcomes, as they grow. Given on to the crates above.
-use Rattle.std.proofs.Common.{◌≡◌, ◌⊎◌, ◌↔◌, ℕ, ℤ, zero, suc, ◌+◌, ◌≤◌, ◌<◌, List, [], ◌∷◌, ◌++◌, append-nil, append_assoc, length, take, get_or, slice_get, Some, refl, sym, ap, ap₂, subst, ◌∙◌, inl, inr, arith}
+use Rattle.std.proofs.Common.{◌≡◌, ◌⊎◌, ◌↔◌, ℕ, ℤ, suc, ◌+◌, ◌≤◌, ◌<◌, List, [], ◌∷◌, ◌++◌, append-nil, append_assoc, length, take, get_or, refl, sym, ap, ap₂, subst, ◌∙◌, inl, inr, arith}
 use Rattle.std.proofs.Math.Seq.{take-suc}
 use Rattle.fare_law.specs.declared.moves.Role.{Role}
 use Rattle.fare_law.specs.declared.moves.Role.TheVariants.{Alone, Opens, GoesOn, Closes}
@@ -7,7 +7,6 @@ use Rattle.fare_law.specs.declared.requests.Request.{Request}
 use Rattle.fare_law.specs.declared.rules.Rule.{Rule}
 use Rattle.fare_law.specs.declared.tickets.Piece.{Piece}
 use Rattle.fare_law.specs.Lists.{IsIn}
-use Rattle.open_unit.specs.declared.units.OpenUnit.{OpenUnit}
 use Rattle.outlines.specs.declared.outline.Entry.{Entry}
 use Rattle.outlines.specs.declared.outline.Outcome.{Outcome}
 use Rattle.outlines.specs.declared.outline.Outline.{Outline}
@@ -17,6 +16,7 @@ use Rattle.residual_keys.specs.declared.residual.Next.{Next}
 use Rattle.residual_keys.specs.Residuals.{State, begins, part_with}
 use Rattle.residual_keys.specs.Steps.{Leaves, left_at}
 use Rattle.residual_keys.proofs.OneNext.{units_one}
+pub use Rattle.residual_keys.proofs.RolesHad.{places}
 use Rattle.law_lemmas.proofs.Members.{in_either, in_left, in_right}
 
 pub grows_none : (P : Outcome → Type 0) (old : List Outcome) → ((o : Outcome) → P o → ⊥) → Grows P old old
@@ -37,14 +37,6 @@ grows_then P Q a b c h k = record {
 
 pub grows_like : (P Q : Outcome → Type 0) (a b : List Outcome) → Grows P a b → ((o : Outcome) → P o ↔ Q o) → Grows Q a b
 grows_like P Q a b h same = record { more = h.more; joined = h.joined; are = λ o. (λ i. (same o).0 ((h.are o).0 i), λ k. (h.are o).1 ((same o).1 k)) }
-
-pub places : (us : List OpenUnit) (slot : ℕ) (u : OpenUnit) → length us ≤ 2 → slice_get us slot ≡ Some u → (◌≡◌ {A = ℕ} slot 0) ⊎ (◌≡◌ {A = ℕ} slot 1)
-places us zero u few e = inl refl
-places us (suc zero) u few e = inr refl
-places [] (suc (suc s)) u few e = cc
-places (x ∷ []) (suc (suc s)) u few e = cc
-places (x ∷ y ∷ []) (suc (suc s)) u few e = cc
-places (x ∷ y ∷ z ∷ us) (suc (suc s)) u few e = absurd (omega arith)
 
 module _ (q : Request) (r : State) (e : Entry) where
   -- an entry leaves one thing in a role and slot

@@ -24,7 +24,7 @@ use Rattle.residual_keys.specs.declared.parts.TicketPart.{TicketPart}
 use Rattle.residual_keys.specs.Kept.{IsResidual}
 use Rattle.residual_keys.specs.ResidualOrder.{FieldBefore, OptionBefore, ListBefore, NumberBefore, DayBefore, PlaceBefore, CarrierBefore, CarriersBefore, RulesBefore, PositionBefore, UnitBefore, PartBefore, StateBefore}
 use Rattle.residual_keys.specs.Residuals.{State}
-use Rattle.residual_keys.proofs.Ordered.{states}
+use Rattle.residual_keys.proofs.Ordered.{states, unit_one}
 
 -- the answer of a comparison tells the order
 abbrev Tells : {X : Type 0} → Ordering → (X → X → Type 0) → X → X → Type 0
@@ -146,19 +146,7 @@ units =
     (then (λ z. z.partner) nat_cmp NumberBefore _ _ _ numbers
     (then (λ z. z.carrier) carriers.cmp-value.it CarriersBefore _ _ _ carrier_marks
     (last (λ z. z.rule) rules.cmp-value.it RulesBefore rule_marks)))))))))))
-    (λ u v e. λ i. record {
-      origin = e.0 i;
-      end = e.1.0 i;
-      count = e.1.1.0 i;
-      first_day = e.1.1.1.0 i;
-      least = e.1.1.1.1.0 i;
-      greatest = e.1.1.1.1.1.0 i;
-      by = e.1.1.1.1.1.1.0 i;
-      kinds = e.1.1.1.1.1.1.1.0 i;
-      partner = e.1.1.1.1.1.1.1.1.0 i;
-      carrier = e.1.1.1.1.1.1.1.1.1.0 i;
-      rule = e.1.1.1.1.1.1.1.1.1.1 i;
-    })
+    unit_one
 
 parts : (s t : TicketPart) → Tells (part.cmp-value.it s t) PartBefore s t
 parts =

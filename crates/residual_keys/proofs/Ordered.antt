@@ -8,6 +8,7 @@ use Rattle.open_unit.specs.declared.marks.CarrierMark.{CarrierMark}
 use Rattle.open_unit.specs.declared.marks.CarrierMark.TheVariants.{NotYet, One, Mixed}
 use Rattle.open_unit.specs.declared.marks.RuleMark.{RuleMark}
 use Rattle.open_unit.specs.declared.marks.RuleMark.TheVariants.{One as OneRule, Mixed as MixedRules}
+use Rattle.open_unit.specs.declared.units.OpenUnit.{OpenUnit}
 use Rattle.residual_keys.specs.ResidualOrder.{FieldBefore, OptionBefore, ListBefore, NumberBefore, DayBefore, PlaceBefore, CarrierBefore, CarriersBefore, RulesBefore, PositionBefore, UnitBefore, PartBefore, StateBefore, IsStrictOrder}
 
 -- a strict order on some fields, total up to these
@@ -196,6 +197,26 @@ positions =
     (last (λ a. a.hi) NumberBefore numbers))))))
     (λ a c e. λ i. record { slice = e.0 i; leg = e.1.0 i; place = e.1.1.0 i; via = e.1.1.1.0 i; lo = e.1.1.1.1.0 i; hi = e.1.1.1.1.1 i })
 
+-- open units are one where their fields are, in the order of their comparison
+abbrev SameFields : OpenUnit → OpenUnit → Type 0
+SameFields u v =
+    (u.origin ≡ v.origin) × ((u.end ≡ v.end) × ((u.count ≡ v.count) × ((u.first_day ≡ v.first_day) × ((u.least ≡ v.least) × ((u.greatest ≡ v.greatest) × ((u.by ≡ v.by) × ((u.kinds ≡ v.kinds) × ((u.partner ≡ v.partner) × ((u.carrier ≡ v.carrier) × (u.rule ≡ v.rule))))))))))
+
+pub unit_one : (u v : OpenUnit) → SameFields u v → u ≡ v
+unit_one u v e = λ i. record {
+  origin = e.0 i;
+  end = e.1.0 i;
+  count = e.1.1.0 i;
+  first_day = e.1.1.1.0 i;
+  least = e.1.1.1.1.0 i;
+  greatest = e.1.1.1.1.1.0 i;
+  by = e.1.1.1.1.1.1.0 i;
+  kinds = e.1.1.1.1.1.1.1.0 i;
+  partner = e.1.1.1.1.1.1.1.1.0 i;
+  carrier = e.1.1.1.1.1.1.1.1.1.0 i;
+  rule = e.1.1.1.1.1.1.1.1.1.1 i;
+}
+
 units : IsStrictOrder UnitBefore
 units =
     whole UnitBefore _
@@ -210,19 +231,7 @@ units =
     (before (λ u. u.partner) NumberBefore _ _ numbers
     (before (λ u. u.carrier) CarriersBefore _ _ carrier_marks
     (last (λ u. u.rule) RulesBefore rule_marks)))))))))))
-    (λ a c e. λ i. record {
-      origin = e.0 i;
-      end = e.1.0 i;
-      count = e.1.1.0 i;
-      first_day = e.1.1.1.0 i;
-      least = e.1.1.1.1.0 i;
-      greatest = e.1.1.1.1.1.0 i;
-      by = e.1.1.1.1.1.1.0 i;
-      kinds = e.1.1.1.1.1.1.1.0 i;
-      partner = e.1.1.1.1.1.1.1.1.0 i;
-      carrier = e.1.1.1.1.1.1.1.1.1.0 i;
-      rule = e.1.1.1.1.1.1.1.1.1.1 i;
-    })
+    unit_one
 
 parts : IsStrictOrder PartBefore
 parts =

@@ -1,4 +1,4 @@
--- The text of a residual is read as its parts.
+-- The text of a residual is read as its parts. Given on to the crates above.
 use Rattle.std.proofs.Common.{bytes_eq, ◌≡◌, ◌≤◌, ℕ, List, [], ◌∷◌, ◌++◌, length, slice_get, Some, refl, arith, ap, sym, ◌∙◌, rules, length-append, append-nil, false}
 use Rattle.std.specs.Fmt.{decimal, signed_decimal}
 use Rattle.std.specs.List.{join_with_byte}

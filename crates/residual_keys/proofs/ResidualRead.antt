@@ -1,4 +1,4 @@
--- A text that is read is that of a residual.
+-- A text that is read is that of a residual. Given on to the crates above.
 use Rattle.std.proofs.Common.{◌≡◌, ◌≤◌, ◌↔◌, ℕ, List, [], ◌∷◌, ◌++◌, length, slice_get, Option, Some, None, refl, arith, ap, sym, ◌∙◌, subst, inl, inr, option_and_then}
 use Rattle.std.specs.Fmt.{decimal, signed_decimal}
 use Rattle.std.specs.Prelude.{IfSome, IsSome}

@@ -1,4 +1,4 @@
--- The moves of one component: one in each role and slot at most, and in no others than six.
+-- The moves of one component: one in each role and slot at most, and in no others than six. Given on to the crates above.
 use Rattle.std.proofs.Common.{◌≡◌, ◌≢◌, ◌⊎◌, ℕ, zero, suc, ◌≤◌, List, [], ◌∷◌, ◌++◌, length, slice_get, Some, refl, sym, ap, subst, ◌∙◌, inl, inr, arith}
 use Rattle.fare_law.specs.declared.moves.Move.{Move}
 use Rattle.fare_law.specs.declared.moves.Role.{Role}
@@ -12,6 +12,15 @@ use Rattle.residual_keys.specs.Residuals.{State, begins, part_with}
 use Rattle.residual_keys.specs.Steps.{Leaves, left_at}
 use Rattle.residual_keys.proofs.Adding.{adds_like, adds_none, adds_one, adds_then}
 use Rattle.residual_keys.proofs.OneNext.{units_one}
+
+-- one of two open units stands in the first slot or in the second
+pub places : (us : List OpenUnit) (slot : ℕ) (u : OpenUnit) → length us ≤ 2 → slice_get us slot ≡ Some u → (◌≡◌ {A = ℕ} slot 0) ⊎ (◌≡◌ {A = ℕ} slot 1)
+places us zero u few e = inl refl
+places us (suc zero) u few e = inr refl
+places [] (suc (suc s)) u few e = cc
+places (x ∷ []) (suc (suc s)) u few e = cc
+places (x ∷ y ∷ []) (suc (suc s)) u few e = cc
+places (x ∷ y ∷ z ∷ us) (suc (suc s)) u few e = absurd (omega arith)
 
 module _ (r : State) (p : PricedComponent) where
   -- a component leaves one thing
@@ -45,23 +54,7 @@ module _ (r : State) (p : PricedComponent) where
   six few c Alone slot h = inl (inl (inl (inl (inl (subst (λ s. Q Alone s c) h.leaves.step.0 h)))))
   six few c Opens slot h = inl (inl (inl (inl (inr (subst (λ s. Q Opens s c) h.leaves.step.0 h)))))
   six few c GoesOn slot h = elim (places r.units slot h.leaves.step.0 few h.leaves.step.1) [ inl e ↦ inl (inl (inl (inr (subst (λ s. Q GoesOn s c) e h)))) | inr e ↦ inl (inl (inr (subst (λ s. Q GoesOn s c) e h))) ]
-    where
-      places : (us : List OpenUnit) (slot : ℕ) (u : OpenUnit) → length us ≤ 2 → slice_get us slot ≡ Some u → (◌≡◌ {A = ℕ} slot 0) ⊎ (◌≡◌ {A = ℕ} slot 1)
-      places us zero u few e = inl refl
-      places us (suc zero) u few e = inr refl
-      places [] (suc (suc s)) u few e = cc
-      places (x ∷ []) (suc (suc s)) u few e = cc
-      places (x ∷ y ∷ []) (suc (suc s)) u few e = cc
-      places (x ∷ y ∷ z ∷ us) (suc (suc s)) u few e = absurd (omega arith)
   six few c Closes slot h = elim (places r.units slot h.leaves.step.0 few h.leaves.step.1) [ inl e ↦ inl (inr (subst (λ s. Q Closes s c) e h)) | inr e ↦ inr (subst (λ s. Q Closes s c) e h) ]
-    where
-      places : (us : List OpenUnit) (slot : ℕ) (u : OpenUnit) → length us ≤ 2 → slice_get us slot ≡ Some u → (◌≡◌ {A = ℕ} slot 0) ⊎ (◌≡◌ {A = ℕ} slot 1)
-      places us zero u few e = inl refl
-      places us (suc zero) u few e = inr refl
-      places [] (suc (suc s)) u few e = cc
-      places (x ∷ []) (suc (suc s)) u few e = cc
-      places (x ∷ y ∷ []) (suc (suc s)) u few e = cc
-      places (x ∷ y ∷ z ∷ us) (suc (suc s)) u few e = absurd (omega arith)
 
   one_of : (c : Chosen) → ((((Q Alone 0 c ⊎ Q Opens 0 c) ⊎ Q GoesOn 0 c) ⊎ Q GoesOn 1 c) ⊎ Q Closes 0 c) ⊎ Q Closes 1 c → IsChoiceOf r p c
   one_of c (inl (inl (inl (inl (inl h))))) = (Alone, 0, h)
