@@ -1,4 +1,3 @@
-pub mod Known
 pub mod FareFacts
 pub mod Marks
 pub mod OneUnit

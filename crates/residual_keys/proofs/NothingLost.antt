@@ -27,8 +27,9 @@ use Rattle.residual_keys.proofs.TicketParts.{PartRun, is_new, news}
 use Rattle.residual_keys.proofs.Wholes.{labels, pieces, flights, same_count, Machines, machines_lawful, lawful_machines}
 use Rattle.unit_labels.specs.Labels.{LawfulLabels, LabelRun, part_of, parts_of, parts_between, slot_of, labels_so_far, Part as Mark, Alone as StaysAlone, Opens as Opening, GoesOn as GoingOn, Closes as Closing}
 use Rattle.unit_labels.specs.UnitRuns.{UnitRun, EachAccepted}
+use Rattle.unit_labels.proofs.LabelLaw.{label_laws}
+use Rattle.unit_labels.proofs.UnitJoin.{unit_laws}
 use Rattle.residual_keys.proofs.Fitting.{root_fits}
-use Rattle.residual_keys.proofs.Known.{Known}
 use Rattle.ticket_order.proofs.LiveKeys.{live_key}
 
 -- the part of a component in its unit, as its code has it
@@ -200,17 +201,17 @@ not_empty b q r (m ∷ ms) (x ∷ xs) [] price run h e z = omega arith
 not_empty b q r (m ∷ ms) (x ∷ xs) (l ∷ ls) price run h e z = cc
 
 -- Each run from the root is the moves of a lawful ticket of its price.
-pub run_ticket : Known → (b : Book) (q : Request) → Ascending b.timetable.flights → (ms : List Move) (price : ℕ) → RunFromRoot b q ms price → (t : Ticket) × Lawful t b q × (moves_of t ≡ ms) × Costs t b q price
+pub run_ticket : (b : Book) (q : Request) → Ascending b.timetable.flights → (ms : List Move) (price : ℕ) → RunFromRoot b q ms price → (t : Ticket) × Lawful t b q × (moves_of t ≡ ms) × Costs t b q price
 unfolding cost
-run_ticket known b q asc ms price (at, root, run) =
+run_ticket b q asc ms price (at, root, run) =
     let r = run_sides b q (record { at = at; units = []; part = no_part }) ms price run in
     let xs = r.0 in
     let s = r.1 in
-    let g = known.units.apart (map mark_of ms) (map (λ x. x.piece) xs) s.units in
+    let g = (unit_laws unit_steps).apart (map mark_of ms) (map (λ x. x.piece) xs) s.units in
     let ls = g.0 in
     let same : length ls ≡ length xs = g.2 ∙ same_length xs in
-    let law = (known.labels.runs (map mark_of ms) ls).0 g.1 in
-    let between : map mark_of ms ≡ parts_between [] ls = law.1 ∙ sym (known.labels.coded ls law.0.0) in
+    let law = (label_laws.runs (map mark_of ms) ls).0 g.1 in
+    let between : map mark_of ms ≡ parts_between [] ls = law.1 ∙ sym (label_laws.coded ls law.0.0) in
     let ps = parts xs ls in
     let el = parts_labels xs ls same in
     let ep = parts_pieces xs ls same in
@@ -331,17 +332,17 @@ pub record TicketSides (b : Book) (q : Request) (t : Ticket) (ps : List Part) : 
   pub label_run : LabelRun 0 [] (map mark_of (moves_of t)) (map (λ d. d.unit) t.components)
   pub unit_run : UnitRun unit_steps [] (map mark_of (moves_of t)) (pieces ps)
 
-pub ticket_sides : Known → (b : Book) (q : Request) (t : Ticket) (ps : List Part) → Matched (IsPart b q) t.components ps → PartsLawful b q ps → t.components ≢ [] → TicketSides b q t ps
-ticket_sides known b q t ps m law some =
+pub ticket_sides : (b : Book) (q : Request) (t : Ticket) (ps : List Part) → Matched (IsPart b q) t.components ps → PartsLawful b q ps → t.components ≢ [] → TicketSides b q t ps
+ticket_sides b q t ps m law some =
     let ms = moves_of t in
     let ns = flat_map (λ k. k.flights) ms in
     let us = units_same b q t.components ps m in
     let num = all_numbers b q [] t.components ps m in
     let machines = lawful_machines b q ns ps num law in
     let it = moves_items b q [] t.components ps m law.components in
-    let marks : map mark_of ms ≡ parts_of 0 (labels ps) = it.1 ∙ ap (parts_between []) us ∙ known.labels.coded (labels ps) law.numbered in
-    let run = (known.labels.runs (map mark_of ms) (labels ps)).1 (machines.labelled, marks) in
-    let units = known.units.together (map mark_of ms) (labels ps) (pieces ps) run (same_count ps) machines.units in
+    let marks : map mark_of ms ≡ parts_of 0 (labels ps) = it.1 ∙ ap (parts_between []) us ∙ label_laws.coded (labels ps) law.numbered in
+    let run = (label_laws.runs (map mark_of ms) (labels ps)).1 (machines.labelled, marks) in
+    let units = (unit_laws unit_steps).together (map mark_of ms) (labels ps) (pieces ps) run (same_count ps) machines.units in
     let at = root_some b q ns (flights ps) (some_numbers b q t.components ps m some) machines.flies in
     let sides : Sides b q at.0 [] no_part ms (items ps) = record {
       items = it.0;
@@ -352,10 +353,10 @@ ticket_sides known b q t ps m law some =
     record { at = at.0; root = at.1; sides = sides; label_run = subst (LabelRun 0 [] (map mark_of ms)) (sym us) run; unit_run = units }
 
 -- Each lawful ticket's moves are a run from the root, of its price.
-pub ticket_run : Known → (b : Book) (q : Request) (t : Ticket) → Lawful t b q → (price : ℕ) × RunFromRoot b q (moves_of t) price × Costs t b q price
+pub ticket_run : (b : Book) (q : Request) (t : Ticket) → Lawful t b q → (price : ℕ) × RunFromRoot b q (moves_of t) price × Costs t b q price
 unfolding cost
-ticket_run known b q t (ps, m, law, some) =
-    let s = ticket_sides known b q t ps m law some in
+ticket_run b q t (ps, m, law, some) =
+    let s = ticket_sides b q t ps m law some in
     (total (items ps), (s.at, s.root, sides_run b q (record { at = s.at; units = []; part = no_part }) (moves_of t) (items ps) (root_fits b q s.at s.root) s.sides), (ps, m, items_cost ps))
 
 pub moves_many : (before : List ℕ) (cs : List Component) → length (moves_after before cs) ≡ length cs

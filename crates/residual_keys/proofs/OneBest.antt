@@ -14,7 +14,6 @@ use Rattle.fare_law.specs.Codes.{run_code, code}
 use Rattle.fare_law.specs.Best.{Before, Best, Cheaper, Costs}
 use Rattle.fare_law.specs.Limits.{HasKeys}
 use Rattle.residual_keys.specs.Searches.{Drawn, IsDrawn, DrawnBefore, BestRuns}
-use Rattle.residual_keys.proofs.Known.{Known}
 use Rattle.residual_keys.proofs.LeastOne.{k_least_one}
 use Rattle.residual_keys.proofs.NothingLost.{ticket_run}
 use Rattle.residual_keys.proofs.OneNext.{run_has_keys}
@@ -62,7 +61,7 @@ module _ (trans : (p q r : ℕ) (u v w : List ℕ) → Before p u q v → Before
 module _
     (total : (p q : ℕ) (v w : List ℕ) → Before p v q w ⊎ (((p ≡ q) × (v ≡ w)) ⊎ Before q w p v))
     (same : (xs ys : List Move) → Each Coded xs → Each Coded ys → run_code xs ≡ run_code ys → xs ≡ ys)
-    (known : Known) (b : Book) (q : Request) (keys : HasKeys b) where
+    (b : Book) (q : Request) (keys : HasKeys b) where
   pub runs_total : (d e : Drawn) → IsDrawn b q d → IsDrawn b q e → DrawnBefore d e ⊎ ((d ≡ e) ⊎ DrawnBefore e d)
   runs_total d e h k = elim (total d.price e.price (run_code d.moves) (run_code e.moves)) [
     | inl l ↦ inl l
@@ -76,14 +75,14 @@ module _
 
   pub tickets_total : (t u : Ticket) → Lawful t b q → Lawful u b q → Cheaper b q t u ⊎ ((t ≡ u) ⊎ Cheaper b q u t)
   tickets_total t u h k =
-      let r = ticket_run known b q t h in
-      let s = ticket_run known b q u k in
+      let r = ticket_run b q t h in
+      let s = ticket_run b q u k in
       let d : Drawn = record { price = r.0; moves = moves_of t } in
       let e : Drawn = record { price = s.0; moves = moves_of u } in
       elim (runs_total d e r.1 s.1) [
         | inl l ↦ inl (cheaper b q d e t u (h, refl, r.2) (k, refl, s.2) l)
         | inr o ↦ elim o [
-          | inl z ↦ inr (inl (ticket_one known b q t u h k (ap (λ y. y.moves) z)))
+          | inl z ↦ inr (inl (ticket_one b q t u h k (ap (λ y. y.moves) z)))
           | inr g ↦ inr (inr (cheaper b q e d u t (k, refl, s.2) (h, refl, r.2) g))
         ]
       ]

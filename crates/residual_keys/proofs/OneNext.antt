@@ -20,7 +20,6 @@ use Rattle.fare_law.specs.Flights.{Ascending}
 use Rattle.residual_keys.specs.Residuals.{State, begins, closes, part_with, UnitStep, Moves, Run, no_part, LeadsFrom}
 use Rattle.residual_keys.specs.NothingLost.{SameCompletions}
 use Rattle.ticket_order.specs.Coding.{Coded}
-use Rattle.residual_keys.proofs.Known.{Known}
 use Rattle.residual_keys.proofs.Runs.{flies_numbers}
 use Rattle.residual_keys.proofs.NothingLost.{run_ticket, ticket_run}
 use Rattle.law_lemmas.proofs.LawFacts.{numbers_one}
@@ -130,13 +129,13 @@ pub run_leads : (b : Book) (q : Request) (r x : State) (ms rest : List Move) →
 run_leads b q r x [] rest h k = subst (λ z. Runs b q z rest) (sym h) k
 run_leads b q r x (m ∷ ms) rest (fs, p, at, us, mv, h) k = run_leads b q (record { at = at; units = us; part = part_with r.part (begins m.role) p }) x ms rest h (less_run b q r m (ms ++ rest) fs p at us mv k)
 
-pub same_completions : Known → (b : Book) (q : Request) → Ascending b.timetable.flights → SameCompletions b q
-same_completions known b q asc ms ms' rest x (at, root, h) (at', root', h') (t, law, e) =
-    let run = ticket_run known b q t law in
+pub same_completions : (b : Book) (q : Request) → Ascending b.timetable.flights → SameCompletions b q
+same_completions b q asc ms ms' rest x (at, root, h) (at', root', h') (t, law, e) =
+    let run = ticket_run b q t law in
     let one : (at'' : Position) → before_slice b 0 (slice_get q.slices 0) None ≡ Some at'' → at'' ≡ at = λ z w. some_one (before_slice b 0 (slice_get q.slices 0) None) z at w root in
     let k : Runs b q (record { at = at; units = []; part = no_part }) (ms ++ rest) = (run.0, subst (λ z. Run b q (record { at = z; units = []; part = no_part }) (ms ++ rest) run.0) (one run.1.0 run.1.1) (subst (λ z. Run b q (record { at = run.1.0; units = []; part = no_part }) z run.0) e run.1.2)) in
     let o = leads_run b q (record { at = at'; units = []; part = no_part }) x ms' rest h' (run_leads b q (record { at = at; units = []; part = no_part }) x ms rest h k) in
-    let u = run_ticket known b q asc (ms' ++ rest) o.0 (at', root', o.1) in
+    let u = run_ticket b q asc (ms' ++ rest) o.0 (at', root', o.1) in
     (u.0, u.1, u.2)
 
 pub leads_to_one : (b : Book) (q : Request) (r x y : State) (ms : List Move) → LeadsFrom b q r ms x → LeadsFrom b q r ms y → x ≡ y

@@ -20,7 +20,7 @@ use Rattle.residual_keys.proofs.Runs.{mark_of}
 use Rattle.residual_keys.proofs.Wholes.{pieces}
 use Rattle.unit_labels.specs.Labels.{LabelRun, Part as Mark, Alone as StaysAlone, Opens as Opening, GoesOn as GoingOn, Closes as Closing}
 use Rattle.unit_labels.specs.UnitRuns.{UnitRun}
-use Rattle.residual_keys.proofs.Known.{Known}
+use Rattle.unit_labels.proofs.LabelLaw.{label_laws}
 use Rattle.law_lemmas.proofs.LawFacts.{numbers_one}
 
 ends' : Mark → Bool
@@ -74,12 +74,12 @@ components_one b q before before' (x ∷ cs) (y ∷ ds) (p ∷ ps) (r ∷ qs) (m
     ap₂ (λ z zs. z ∷ zs) (λ i. record { flights = fl i; fare = fare i; unit = unit i }) (components_one b q (before ++ x.unit ∷ []) (before' ++ y.unit ∷ []) cs ds ps qs ms tail units h.1 k.1 d.1 f.1)
 
 -- Two lawful tickets with the same moves are one.
-pub ticket_one : Known → (b : Book) (q : Request) (t u : Ticket) → Lawful t b q → Lawful u b q → moves_of t ≡ moves_of u → t ≡ u
-ticket_one known b q t u (ps, m, law, some) (qs, m', law', some') e =
-    let s = ticket_sides known b q t ps m law some in
-    let s' = ticket_sides known b q u qs m' law' some' in
+pub ticket_one : (b : Book) (q : Request) (t u : Ticket) → Lawful t b q → Lawful u b q → moves_of t ≡ moves_of u → t ≡ u
+ticket_one b q t u (ps, m, law, some) (qs, m', law', some') e =
+    let s = ticket_sides b q t ps m law some in
+    let s' = ticket_sides b q u qs m' law' some' in
     let marks : map mark_of (moves_of u) ≡ map mark_of (moves_of t) = ap (map mark_of) (sym e) in
-    let labels = known.labels.one (map mark_of (moves_of t)) (map (λ d. d.unit) t.components) (map (λ d. d.unit) u.components) s.label_run (subst (λ z. LabelRun 0 [] z (map (λ d. d.unit) u.components)) marks s'.label_run) in
+    let labels = label_laws.one (map mark_of (moves_of t)) (map (λ d. d.unit) t.components) (map (λ d. d.unit) u.components) s.label_run (subst (λ z. LabelRun 0 [] z (map (λ d. d.unit) u.components)) marks s'.label_run) in
     let d = directions [] (map mark_of (moves_of t)) (pieces ps) s.unit_run in
     let d' = directions [] (map mark_of (moves_of t)) (pieces qs) (subst (λ z. UnitRun unit_steps [] z (pieces qs)) marks s'.unit_run) in
     let same = components_one b q [] [] t.components u.components ps qs (map mark_of (moves_of t)) e labels m m' d d' in

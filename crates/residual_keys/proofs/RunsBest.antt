@@ -10,16 +10,15 @@ use Rattle.fare_law.specs.Codes.{code, run_code}
 use Rattle.fare_law.specs.Flights.{Ascending}
 use Rattle.fare_law.specs.Moves.{moves_of}
 use Rattle.residual_keys.specs.Searches.{Drawn, IsDrawn, DrawnBefore, BestRuns, TicketOf}
-use Rattle.residual_keys.proofs.Known.{Known}
 use Rattle.residual_keys.proofs.NothingLost.{run_ticket, ticket_run}
 use Rattle.residual_keys.proofs.OneTicket.{ticket_one}
 
 -- each drawn run has its ticket
-pub tickets_of : Known → (b : Book) (q : Request) → Ascending b.timetable.flights → (ds : List Drawn) → Each (IsDrawn b q) ds → (ts : List Ticket) × Matched (TicketOf b q) ds ts
-tickets_of known b q asc [] h = ([], tt)
-tickets_of known b q asc (d ∷ ds) h =
-    let t = run_ticket known b q asc d.moves d.price h.0 in
-    let r = tickets_of known b q asc ds h.1 in
+pub tickets_of : (b : Book) (q : Request) → Ascending b.timetable.flights → (ds : List Drawn) → Each (IsDrawn b q) ds → (ts : List Ticket) × Matched (TicketOf b q) ds ts
+tickets_of b q asc [] h = ([], tt)
+tickets_of b q asc (d ∷ ds) h =
+    let t = run_ticket b q asc d.moves d.price h.0 in
+    let r = tickets_of b q asc ds h.1 in
     (t.0 ∷ r.0, ((t.1, t.2, t.3), r.1))
 
 code_is : (b : Book) (q : Request) (d : Drawn) (t : Ticket) → TicketOf b q d t → run_code d.moves ≡ code t
@@ -50,11 +49,11 @@ lengths b q (d ∷ ds) [] m = absurd m
 lengths b q (d ∷ ds) (t ∷ ts) m = ap suc (lengths b q ds ts m.1)
 
 -- a lawful ticket whose run is drawn is one of the tickets
-drawn_in : Known → (b : Book) (q : Request) (e : Drawn) (u : Ticket) → TicketOf b q e u → (ds : List Drawn) (ts : List Ticket) → Matched (TicketOf b q) ds ts → IsIn e ds → IsIn u ts
-drawn_in known b q e u h [] ts m i = absurd i
-drawn_in known b q e u h (d ∷ ds) [] m i = absurd m
-drawn_in known b q e u h (d ∷ ds) (t ∷ ts) m (inl s) = inl (ticket_one known b q u t h.0 m.0.0 (h.1 ∙ ap (λ z. z.moves) s ∙ sym m.0.1))
-drawn_in known b q e u h (d ∷ ds) (t ∷ ts) m (inr i) = inr (drawn_in known b q e u h ds ts m.1 i)
+drawn_in : (b : Book) (q : Request) (e : Drawn) (u : Ticket) → TicketOf b q e u → (ds : List Drawn) (ts : List Ticket) → Matched (TicketOf b q) ds ts → IsIn e ds → IsIn u ts
+drawn_in b q e u h [] ts m i = absurd i
+drawn_in b q e u h (d ∷ ds) [] m i = absurd m
+drawn_in b q e u h (d ∷ ds) (t ∷ ts) m (inl s) = inl (ticket_one b q u t h.0 m.0.0 (h.1 ∙ ap (λ z. z.moves) s ∙ sym m.0.1))
+drawn_in b q e u h (d ∷ ds) (t ∷ ts) m (inr i) = inr (drawn_in b q e u h ds ts m.1 i)
 
 below : (b : Book) (q : Request) (e : Drawn) (u : Ticket) → TicketOf b q e u → (ds : List Drawn) (ts : List Ticket) → Matched (TicketOf b q) ds ts → Each (λ d. DrawnBefore d e) ds → Each (λ t. Cheaper b q t u) ts
 below b q e u h [] [] m w = tt
@@ -62,18 +61,18 @@ below b q e u h [] (t ∷ ts) m w = absurd m
 below b q e u h (d ∷ ds) [] m w = absurd m
 below b q e u h (d ∷ ds) (t ∷ ts) m w = (cheaper b q d e t u m.0 h w.0, below b q e u h ds ts m.1 w.1)
 
-pub runs_best : Known → (b : Book) (q : Request) (ds : List Drawn) (ts : List Ticket) → BestRuns b q q.best ds → Matched (TicketOf b q) ds ts → Best b q ts
-runs_best known b q ds ts best m = record {
+pub runs_best : (b : Book) (q : Request) (ds : List Drawn) (ts : List Ticket) → BestRuns b q q.best ds → Matched (TicketOf b q) ds ts → Best b q ts
+runs_best b q ds ts best m = record {
   ascending = pairs b q ds ts m best.ascending;
   each = lawfuls b q ds ts m;
   few = subst (λ n. n ≤ q.best) (sym (lengths b q ds ts m)) best.few;
   rest = λ u law out.
-      let run = ticket_run known b q u law in
+      let run = ticket_run b q u law in
       let e : Drawn = record { price = run.0; moves = moves_of u } in
-      let r = best.rest e run.1 (λ i. out (drawn_in known b q e u (law, refl, run.2) ds ts m i)) in
+      let r = best.rest e run.1 (λ i. out (drawn_in b q e u (law, refl, run.2) ds ts m i)) in
       (below b q e u (law, refl, run.2) ds ts m r.0, lengths b q ds ts m ∙ r.1);
 }
 
 -- The k least runs have their tickets, and these are the best.
-pub best_tickets : Known → (b : Book) (q : Request) → Ascending b.timetable.flights → (ds : List Drawn) → BestRuns b q q.best ds → (ts : List Ticket) × Matched (TicketOf b q) ds ts × Best b q ts
-best_tickets known b q asc ds best = let r = tickets_of known b q asc ds best.each in (r.0, r.1, runs_best known b q ds r.0 best r.1)
+pub best_tickets : (b : Book) (q : Request) → Ascending b.timetable.flights → (ds : List Drawn) → BestRuns b q q.best ds → (ts : List Ticket) × Matched (TicketOf b q) ds ts × Best b q ts
+best_tickets b q asc ds best = let r = tickets_of b q asc ds best.each in (r.0, r.1, runs_best b q ds r.0 best r.1)

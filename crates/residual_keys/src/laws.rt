@@ -10,7 +10,6 @@ ghost use Rattle.fare_law.specs.Lists.{Matched};
 ghost use Rattle.fare_law.specs.Best.{Best, Cheaper};
 ghost use Rattle.fare_law.specs.Limits.{HasKeys};
 ghost use Rattle.fare_law.specs.Flights.{Ascending};
-ghost use Rattle.open_unit.specs.OpenUnits.{unit_steps};
 ghost use Rattle.residual_keys.specs.Kept.{IsResidual};
 ghost use Rattle.residual_keys.specs.NothingLost.{OneTicket, RunsAreTickets, SameCompletions, TicketsAreRuns};
 ghost use Rattle.residual_keys.specs.OneNext.{MoveLeavesOne, MovesLeadToOne, RunGoesOn, RunHasKeys};
@@ -23,18 +22,8 @@ ghost use Rattle.std.specs.declared.cmp.Ordering.TheVariants.{Equal, Less};
 ghost use Rattle.std.specs.Prelude.{List, length, ℕ, ◌≡◌, ◌≤◌, ◌<◌, ◌↔◌, ◌⊎◌};
 
 use crate::Residual;
-use fare_law::Piece;
-use open_unit::OpenUnit;
 use rule_unit::rules_stay_in_range;
 use ticket_order::{codes_tell, order_laws};
-use unit_labels::{UnitSteps, label_laws, unit_laws};
-
-/// The open units of fares, as the laws of units see them.
-struct FareUnits;
-
-impl UnitSteps<Piece, OpenUnit> for FareUnits {
-    ghost steps = { unit_steps };
-}
 
 /// Nothing is lost: where the timetable's flights stand in the order of their departures, a list of
 /// moves is a run from the root exactly where it is the moves of a lawful ticket, and then of one,
@@ -46,10 +35,7 @@ pub fn nothing_lost()
     ensures one { (b : Book) (q : Request) → OneTicket b q }
     ensures same { (b : Book) (q : Request) → Ascending b.timetable.flights → SameCompletions b q }
     ensures few { (b : Book) (q : Request) (t : Ticket) → length q.slices ≤ 6 → Lawful t b q → length t.components ≤ 18 }
-{
-    label_laws();
-    unit_laws::<Piece, OpenUnit, FareUnits>();
-}
+{}
 
 /// A move leaves one residual, so a list of moves leads to one, and a run that begins with the list
 /// goes on from there. Where the live fares' keys are well formed, so are those of a run's moves.
@@ -64,10 +50,7 @@ pub fn one_next()
 pub fn best_runs()
     ensures best { (b : Book) (q : Request) (ds : List Drawn) (ts : List Ticket) → BestRuns b q q.best ds → Matched (TicketOf b q) ds ts → Best b q ts }
     ensures tickets { (b : Book) (q : Request) → Ascending b.timetable.flights → (ds : List Drawn) → BestRuns b q q.best ds → (ts : List Ticket) × Matched (TicketOf b q) ds ts × Best b q ts }
-{
-    label_laws();
-    unit_laws::<Piece, OpenUnit, FareUnits>();
-}
+{}
 
 /// The order in which the rows of a certificate stand is strict and total, and the comparison of
 /// residuals tells it. So there is one list of the residuals that a search needs.
@@ -87,8 +70,6 @@ pub fn one_best()
     ensures runs { (b : Book) (q : Request) → HasKeys b → (ds es : List Drawn) → BestRuns b q q.best ds → BestRuns b q q.best es → ds ≡ es }
     ensures tickets { (b : Book) (q : Request) → HasKeys b → (ts us : List Ticket) → Best b q ts → Best b q us → ts ≡ us }
 {
-    label_laws();
-    unit_laws::<Piece, OpenUnit, FareUnits>();
     codes_tell();
     order_laws();
 }

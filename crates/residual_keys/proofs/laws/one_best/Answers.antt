@@ -9,10 +9,10 @@ pub returns-clause-further : goal.returns-clause-further
 returns-clause-further c = cheaper_trans c.order_laws.ensures.before_trans
 
 pub returns-clause-total : goal.returns-clause-total
-returns-clause-total c = tickets_total c.order_laws.ensures.before_total c.codes_tell.ensures.same (record { labels = c.label_laws.ensures; units = c.unit_laws.ensures })
+returns-clause-total c = tickets_total c.order_laws.ensures.before_total c.codes_tell.ensures.same
 
 pub returns-clause-runs : goal.returns-clause-runs
-returns-clause-runs c = λ b q keys. best_runs_one c.order_laws.ensures.before_total c.codes_tell.ensures.same (record { labels = c.label_laws.ensures; units = c.unit_laws.ensures }) b q keys c.order_laws.ensures.before_never c.order_laws.ensures.before_trans
+returns-clause-runs c = λ b q keys. best_runs_one c.order_laws.ensures.before_total c.codes_tell.ensures.same b q keys c.order_laws.ensures.before_never c.order_laws.ensures.before_trans
 
 pub returns-clause-tickets : goal.returns-clause-tickets
-returns-clause-tickets c = λ b q keys. best_tickets_one c.order_laws.ensures.before_total c.codes_tell.ensures.same (record { labels = c.label_laws.ensures; units = c.unit_laws.ensures }) b q keys c.order_laws.ensures.before_never c.order_laws.ensures.before_trans
+returns-clause-tickets c = λ b q keys. best_tickets_one c.order_laws.ensures.before_total c.codes_tell.ensures.same b q keys c.order_laws.ensures.before_never c.order_laws.ensures.before_trans
