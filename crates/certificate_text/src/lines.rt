@@ -3,10 +3,9 @@ ghost use Rattle.std.specs.Prelude.{◌≡◌, ◌++◌, ◌∷◌, [], map, fla
 ghost use Rattle.certificate_text.specs.CertText.{text_of};
 ghost use Rattle.certificate_text.specs.Lines as Lines;
 ghost use Rattle.certificate_text.specs.Lines.{answer_line, move_words, number_line, row_line, spaced};
-ghost use Rattle.fare_law.specs.Codes.{role_code};
 
 use certificate::CertAnswer;
-use fare_law::{Mem, Move, Role};
+use fare_law::{Mem, Move};
 use itoa::Buffer;
 use word_text::push_word;
 
@@ -50,7 +49,7 @@ fn push_move(text: &mut Vec<u8>, mv: &Move) -> Result<(), Mem>
     push_flights(text, mv.flights.as_slice())?;
     push_word(text, b' ', &mv.carrier.0)?;
     push_word(text, b' ', mv.basis.0.as_slice())?;
-    push_number(text, role_number(mv.role))?;
+    push_number(text, mv.role as u64)?;
     push_number(text, mv.slot.into())
 }
 
@@ -62,17 +61,6 @@ fn push_flights(text: &mut Vec<u8>, flights: &[u32]) -> Result<(), Mem>
         push_number(text, (*flight).into())?;
     }
     Ok(())
-}
-
-fn role_number(role: Role) -> u64
-    ensures { result ≡ role_code role }
-{
-    match role {
-        Role::Alone => 0,
-        Role::Opens => 1,
-        Role::GoesOn => 2,
-        Role::Closes => 3,
-    }
 }
 
 // Adds a number after a space.
