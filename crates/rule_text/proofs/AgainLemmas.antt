@@ -1,5 +1,5 @@
 -- Parts of a rule within their limits are read again from their values.
-use Rattle.std.proofs.Common.{◌≡◌, ◌<◌, ◌≤◌, ◌≤ℤ◌, ◌+◌, ℕ, ℤ, suc, int_le, eq-eqb, true, false, List, [], ◌∷◌, length, Some, Result, Ok, refl, arith, sym, subst, ap}
+use Rattle.std.proofs.Common.{◌≡◌, ◌<◌, ◌≤◌, ◌≤ℤ◌, ◌+◌, ℕ, ℤ, suc, int_le, true, false, List, [], ◌∷◌, length, Some, Result, Ok, refl, arith, sym, subst, ap}
 use Rattle.std.proofs.lemmas.Bool.Decides.{nat_tests}
 use Rattle.std.proofs.lemmas.Int.{ints}
 use Rattle.serde_json.specs.Data.{Data, Items, no_items, item, array, number, unsigned, string, items_depth}
@@ -17,7 +17,6 @@ use Rattle.fare_law.specs.declared.rules.TransferRule.{TransferRule}
 use Rattle.fare_law.specs.declared.rules.UnitKind.{UnitKind}
 use Rattle.market_time.specs.Clock.{minute_spelled}
 use Rattle.market_time.specs.Dates.{day_spelled}
-use Rattle.name_text.specs.Names.{place_of}
 use Rattle.fare_law.specs.Limits.{IsPlace}
 use Rattle.rule_text.specs.declared.fault.RuleFault.{RuleFault}
 use Rattle.fare_law.specs.RuleLimits.{IsListOf, IsWeekday, IsDays, IsDayRange, IsDayTime, IsFlightRange, IsMinStay, IsSurcharge, IsTransferRule, IsCombineRule, rank_of_kind}
@@ -27,17 +26,10 @@ use Rattle.rule_text.specs.Rules.{combine_rule_of, day_time_of, end_on_end_spell
 use Rattle.rule_text.specs.Again.{Spells}
 use Rattle.rule_text.specs.Written.{combine_rule_data, day_range_data, day_time_data, flight_range_data, flight_rule_data, min_stay_data, surcharge_data, transfer_rule_data}
 use Rattle.law_lemmas.proofs.Tests.{le_true}
-use Rattle.law_lemmas.proofs.Words.{capitals_again}
-use Rattle.name_text.proofs.TextLemmas.{carrier_again}
+use Rattle.name_text.proofs.TextLemmas.{carrier_again, place_again as place_named_again}
 
 int_true : (a b : ℤ) → a ≤ℤ b → int_le a b ≡ true
 int_true a b h = grind (arith, ints, nat_tests)
-
--- names
-
-place_named_again : (p : Place) → IsPlace p → place_of p.0 ≡ Some p
-unfolding place_of
-place_named_again p h = rw (eq-eqb (length p.0) 3 h.0, capitals_again p.0 h.1) refl
 
 -- single values
 
