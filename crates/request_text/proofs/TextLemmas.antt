@@ -1,5 +1,5 @@
--- What is written for a request has no float, is shallow, and reads as the request.
-use Rattle.std.proofs.Common.{◌<◌, ◌≤◌, ◌+◌, ℕ, zero, suc, List, [], ◌∷◌, ◌++◌, length, take, get_or, arith, subst}
+-- Slices that were written so far, each as its value.
+use Rattle.std.proofs.Common.{◌<◌, ◌≤◌, ◌+◌, ℕ, List, [], ◌∷◌, ◌++◌, length, take, get_or, subst}
 use Rattle.std.proofs.lemmas.List.{take_all, take_more}
 use Rattle.serde_json.specs.View.{view, items_view}
 use Rattle.serde_json.specs.declared.value.Value.{Value}
@@ -7,6 +7,7 @@ use Rattle.fare_law.specs.Lists.{Each}
 use Rattle.fare_law.specs.declared.requests.Slice.{Slice}
 use Rattle.fare_law.specs.Limits.{IsSlice}
 use Rattle.request_text.specs.Text.{WritesSlice, WritesSlices}
+use Rattle.law_lemmas.proofs.EachOne.{holds_at}
 
 grows : (ss : List Slice) (vs : List Value) (s : Slice) (v : Value) → WritesSlices ss (items_view vs) → WritesSlice s (view v) → WritesSlices (ss ++ s ∷ []) (items_view (vs ++ v ∷ []))
 grows [] [] s v h w = (w, tt)
@@ -22,8 +23,6 @@ slices_whole ss vs i l h = let e = take_all i ss l in subst (λ (xs : List Slice
 
 -- what each slice has, the one at this place has
 pub window_at : (ss : List Slice) (i : ℕ) (d : Slice) → i < length ss → Each IsSlice ss → IsSlice (get_or ss i d)
-window_at [] i d l h = absurd (omega arith)
-window_at (s ∷ ss) zero d l h = h.0
-window_at (s ∷ ss) (suc i) d l h = window_at ss i d (omega arith) h.1
+window_at = holds_at IsSlice
 
 pub ruleset slice_steps = (slices_grow, slices_whole, window_at)

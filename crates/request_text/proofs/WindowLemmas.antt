@@ -1,5 +1,5 @@
 -- Slices whose windows were judged, and those that are left.
-use Rattle.std.proofs.Common.{◌≡◌, ◌<◌, ◌≤◌, ◌+◌, ℕ, zero, suc, false, List, [], ◌∷◌, ◌++◌, length, drop, get_or, refl, ap, sym, ◌∙◌, Option, Some, None, append_assoc, append-nil, drop-cons, add-one, option_map, option_and_then, arith}
+use Rattle.std.proofs.Common.{◌≡◌, ◌<◌, ◌≤◌, ◌+◌, ℕ, false, List, [], ◌∷◌, ◌++◌, length, drop, get_or, refl, ap, sym, ◌∙◌, Option, Some, None, append_assoc, append-nil, drop-cons, add-one, option_map, option_and_then}
 use Rattle.std.proofs.lemmas.List.{drop_all}
 use Rattle.fare_law.specs.declared.requests.Slice.{Slice}
 use Rattle.request_text.specs.declared.asked.AskedSlice.{AskedSlice}
@@ -9,6 +9,7 @@ use Rattle.fare_law.specs.Lists.{Each}
 use Rattle.request_text.specs.Form.{IsAskedSlice}
 use Rattle.request_text.specs.Steps.{windowed, each_windowed, stays}
 use Rattle.fare_law.specs.Limits.{IsSlice, EndsDiffer}
+use Rattle.law_lemmas.proofs.EachOne.{each_more, holds_at}
 use Rattle.law_lemmas.proofs.Tests.{neither}
 
 -- slices that stand before the others
@@ -44,14 +45,11 @@ windows_all front ss i l h = sym (ap (λ ys. after front (each_windowed ys)) (dr
 
 -- what each slice has, the one at this place has
 pub asked_at : (ss : List AskedSlice) (i : ℕ) (d : AskedSlice) → i < length ss → Each IsAskedSlice ss → IsAskedSlice (get_or ss i d)
-asked_at [] i d l h = absurd (omega arith)
-asked_at (s ∷ ss) zero d l h = h.0
-asked_at (s ∷ ss) (suc i) d l h = asked_at ss i d (omega arith) h.1
+asked_at = holds_at IsAskedSlice
 
 -- one more slice with a window
 pub windows_grow : (front : List Slice) (s : Slice) → Each IsSlice front → IsSlice s → Each IsSlice (front ++ s ∷ [])
-windows_grow [] s h w = (w, tt)
-windows_grow (x ∷ xs) s h w = (h.0, windows_grow xs s h.1 w)
+windows_grow = each_more IsSlice
 
 pub ruleset window_steps = (after_none, windows_more, windows_bad, windows_all, asked_at, windows_grow)
 
