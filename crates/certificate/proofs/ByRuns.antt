@@ -4,7 +4,6 @@ use Rattle.certificate.specs.declared.parts.CertAnswer.{CertAnswer}
 use Rattle.certificate.specs.declared.parts.Certificate.{Certificate}
 use Rattle.certificate.specs.AnswerCheck.{AnswerIs, run_of}
 use Rattle.certificate.specs.CertOf.{CertOf, CertOfRuns, SameByRuns}
-use Rattle.certificate.proofs.Below.{fare_units}
 use Rattle.residual_keys.proofs.NothingLost.{run_ticket, ticket_run}
 use Rattle.residual_keys.proofs.OneTicket.{ticket_one}
 use Rattle.residual_keys.proofs.RunsBest.{best_tickets}
@@ -26,15 +25,15 @@ module _ (b : Book) (q : Request) (asc : Ascending b.timetable.flights) (c : Cer
   is_drawn : (a : CertAnswer) → IsIn a c.answers → IsDrawn b q (run_of a)
   is_drawn a i =
       let t = matched_right (AnswerIs b q) c.answers of.tickets of.answers a i in
-      let run = ticket_run fare_units b q t.0 t.2.0 in
+      let run = ticket_run b q t.0 t.2.0 in
       subst (λ z. RunFromRoot b q a.moves z) (costs_one b q t.0 run.0 a.price run.2 t.2.2) (subst (λ z. RunFromRoot b q z run.0) t.2.1 run.1)
 
   -- an answer with the moves of a run is that run
   same_run : (d : Drawn) → IsDrawn b q d → (a : CertAnswer) → IsIn a c.answers → a.moves ≡ d.moves → IsIn d (map run_of c.answers)
   same_run d run a i moves =
       let t = matched_right (AnswerIs b q) c.answers of.tickets of.answers a i in
-      let u = run_ticket fare_units b q asc d.moves d.price run in
-      let same = ticket_one fare_units b q u.0 t.0 u.1 t.2.0 (u.2 ∙ sym moves ∙ sym t.2.1) in
+      let u = run_ticket b q asc d.moves d.price run in
+      let same = ticket_one b q u.0 t.0 u.1 t.2.0 (u.2 ∙ sym moves ∙ sym t.2.1) in
       let price = costs_one b q t.0 a.price d.price t.2.2 (subst (λ z. Costs z b q d.price) same u.3) in
       let e : run_of a ≡ d = λ i. record { price = price i; moves = moves i } in
       subst (λ z. IsIn z (map run_of c.answers)) e (map_in run_of c.answers a i)
@@ -57,5 +56,5 @@ from_runs b q tickets c of =
 pub same_by_runs : (c : Certificate) (b : Book) (q : Request) → SameByRuns c b q
 same_by_runs c b q asc = (
   λ of. record { of = of.of; runs = best_runs b q asc c of; rows = of.rows },
-  from_runs b q (best_tickets fare_units b q asc) c,
+  from_runs b q (best_tickets b q asc) c,
 )

@@ -6,7 +6,6 @@ use Rattle.certificate.specs.BoundCheck.{state_after}
 use Rattle.certificate.specs.CertOf.{CertOf, SearchMeetsChecks}
 use Rattle.certificate.specs.declared.parts.Certificate.{Certificate}
 use Rattle.certificate.specs.DepartureCheck.{CountsFor, DeparturesHold, LeadsFor}
-use Rattle.certificate.proofs.Below.{fare_units}
 use Rattle.residual_keys.proofs.NothingLost.{run_ticket, ticket_run}
 use Rattle.residual_keys.proofs.OneNext.{run_has_keys}
 use Rattle.ticket_order.proofs.Codes.{code_front, codes_joined}
@@ -62,7 +61,7 @@ module _ (b : Book) (q : Request) (c : Certificate) (of : CertOf b q c) where
     pub comes_after : (ms : List Move) (price : ℕ) → RunFromRoot b q ms price → ((a : CertAnswer) → IsIn a c.answers → a.moves ≡ ms → ⊥)
         → Each (λ a. Before a.price (run_code a.moves) price (run_code ms)) c.answers × (length c.answers ≡ q.best)
     comes_after ms price run none =
-        let t = run_ticket fare_units b q asc ms price run in
+        let t = run_ticket b q asc ms price run in
         let e : CertAnswer = record { price = price; moves = ms } in
         let k = of.best.rest t.0 t.1 (λ i. let a = matched_left (AnswerIs b q) c.answers of.tickets of.answers t.0 i in none a.0 a.1 (sym a.2.1 ∙ t.2)) in (
           matched_back (AnswerIs b q) (λ a. AnswerBelow a e) (λ u. Cheaper b q u t.0) (λ a u h w. below b q a e u t.0 h (t.1, t.2, t.3) w) c.answers of.tickets of.answers k.0,
@@ -78,7 +77,7 @@ module _ (b : Book) (q : Request) (c : Certificate) (of : CertOf b q c) where
     answer_coded : HasKeys b → (a : CertAnswer) → IsIn a c.answers → Each Coded a.moves
     answer_coded keys a i =
         let t = matched_right (AnswerIs b q) c.answers of.tickets of.answers a i in
-        let run = ticket_run fare_units b q t.0 t.2.0 in
+        let run = ticket_run b q t.0 t.2.0 in
         subst (Each Coded) t.2.1 (run_has_keys b q keys _ (moves_of t.0) run.0 run.1.2)
 
     departures_hold : HasKeys b → 1 ≤ q.best → DeparturesHold b q c.rows c.answers

@@ -2,7 +2,6 @@
 use Rattle.std.proofs.Common.{◌≡◌, ◌≢◌, ℕ, List, [], ◌∷◌, None, refl, ap, ◌∙◌, subst, inl, inr, arith}
 use Rattle.certificate.specs.Checks.{FirstFailure}
 use Rattle.certificate.specs.OneWay.{flight, one_way_answer, one_way_book, one_way_certificate, one_way_move, one_way_request, one_way_root, one_way_row}
-use Rattle.certificate.proofs.Below.{fare_units}
 use Rattle.residual_keys.proofs.NothingLost.{run_ticket, ticket_run}
 use Rattle.certificate.proofs.OneWayChecks.{answers_hold, bounds_hold, departures_hold, root_one, rows_hold, starts}
 use Rattle.certificate.proofs.OneWayMoves.{one_way_piece, only_move, root_move}
@@ -65,7 +64,7 @@ wrong_price price ne = inr (
   where
     costs : (t : Ticket) → Lawful t one_way_book one_way_request → moves_of t ≡ one_way_move ∷ [] → Costs t one_way_book one_way_request price → price ≡ 20000
     costs t law moves k =
-        let run = ticket_run fare_units one_way_book one_way_request t law in
+        let run = ticket_run one_way_book one_way_request t law in
         costs_one one_way_book one_way_request t price run.0 k run.2 ∙ run_price (moves_of t) run.0 moves run.1
 
 pub answer_twice : ((p : ℕ) (w : List ℕ) → Before p w p w → ⊥) → FirstFailure (record (one_way_certificate 20000) { answers = one_way_answer ∷ one_way_answer ∷ [] }) one_way_book one_way_request 3 2
@@ -81,7 +80,7 @@ answer_twice never = inr (
         after = [];
         whole = refl;
         counted = refl;
-        earlier = answers_hold (run_ticket fare_units one_way_book one_way_request (tt, tt));
+        earlier = answers_hold (run_ticket one_way_book one_way_request (tt, tt));
         fails = λ r. never 20000 (run_code (one_way_move ∷ [])) r.greater;
       },
     ),
@@ -125,13 +124,13 @@ no_answer = inr (
 pub other_version : (n : ℕ) → n ≢ 1 → FirstFailure (record (one_way_certificate 20000) { number = n }) one_way_book one_way_request 5 1
 other_version n ne = inr (
   rows_hold 20000,
-  inr (bounds_hold 20000 (omega arith), inr (answers_hold (run_ticket fare_units one_way_book one_way_request (tt, tt)), inr (departures_hold 20000, (refl, inl (ne, refl))))),
+  inr (bounds_hold 20000 (omega arith), inr (answers_hold (run_ticket one_way_book one_way_request (tt, tt)), inr (departures_hold 20000, (refl, inl (ne, refl))))),
 )
 
 pub other_request : FirstFailure (record (one_way_certificate 20000) { request = record one_way_request { best = 4 } }) one_way_book one_way_request 5 2
 other_request = inr (
   rows_hold 20000,
-  inr (bounds_hold 20000 (omega arith), inr (answers_hold (run_ticket fare_units one_way_book one_way_request (tt, tt)), inr (departures_hold 20000, (refl, inr (refl, differs, refl))))),
+  inr (bounds_hold 20000 (omega arith), inr (answers_hold (run_ticket one_way_book one_way_request (tt, tt)), inr (departures_hold 20000, (refl, inr (refl, differs, refl))))),
 )
   where
     differs : record one_way_request { best = 4 } ≢ one_way_request

@@ -9,7 +9,6 @@ use Rattle.certificate.specs.declared.parts.CertRow.{CertRow}
 use Rattle.certificate.specs.DepartureCheck.{DeparturesHold, IsFront, LeadsFor}
 use Rattle.certificate.specs.RowCheck.{IsRoot, RootIsRow}
 use Rattle.certificate.proofs.Decided.{taken_decided}
-use Rattle.certificate.proofs.Below.{fare_units}
 use Rattle.residual_keys.proofs.NothingLost.{ticket_run}
 use Rattle.residual_keys.proofs.OneNext.{moves_one, run_leads}
 use Rattle.residual_keys.proofs.OneTicket.{ticket_one}
@@ -80,7 +79,7 @@ module _ (b : Book) (q : Request) (rows : List CertRow) (answers : List CertAnsw
   answer_runs : (root x : State) (front rest : List Move) (a : CertAnswer) → IsRoot b q root → LeadsFrom b q root front x → IsIn a answers → a.moves ≡ front ++ rest → (price : ℕ) × Run b q x rest price
   answer_runs root x front rest a ir lf i e =
       let t = matched_right (AnswerIs b q) answers tickets c.right a i in
-      let run = ticket_run fare_units b q t.0 t.2.0 in
+      let run = ticket_run b q t.0 t.2.0 in
       let s : (let z : State = record { at = run.1.0; units = []; part = no_part } in z) ≡ root = root_same b q _ root (run.1.0, run.1.1, refl) ir in
       run_leads b q root x front rest lf (run.0, subst (λ ms. Run b q root ms run.0) (t.2.1 ∙ e) (subst (λ z. Run b q z (moves_of t.0) run.0) s run.1.2))
 
@@ -100,7 +99,7 @@ module _ (b : Book) (q : Request) (rows : List CertRow) (answers : List CertAnsw
       only : (a : CertAnswer) (rest : List Move) → IsIn a answers → a.moves ≡ front ++ m ∷ rest → ⊥
       only a [] i' e' =
           let u = matched_right (AnswerIs b q) answers tickets c.right a i' in
-          out (subst (λ z. IsIn z tickets) (ticket_one fare_units b q u.0 t u.2.0 law (u.2.1 ∙ e' ∙ sym whole)) u.1)
+          out (subst (λ z. IsIn z tickets) (ticket_one b q u.0 t u.2.0 law (u.2.1 ∙ e' ∙ sym whole)) u.1)
       only a (n ∷ rest) i' e' =
           let r = answer_runs root x front (m ∷ n ∷ rest) a ir (leads_from b q root x front price lf) i' e' in
           some_none r.1.2 (moves_one b q x m fs r.1.0 p r.1.1 None (Some r.1.2) [] r.1.3 mv r.1.5).2
@@ -161,7 +160,7 @@ module _ (b : Book) (q : Request) (rows : List CertRow) (answers : List CertAnsw
     each = matched_each (AnswerIs b q) (λ t. Lawful t b q) (λ a t h. h.0) answers tickets c.right;
     few = subst (λ n. n ≤ q.best) (sym (matched_long (AnswerIs b q) answers tickets c.right)) c.few;
     rest = λ t law out.
-        let run = ticket_run fare_units b q t law in
+        let run = ticket_run b q t law in
         let root : State = record { at = run.1.0; units = []; part = no_part } in
         let first = c.root in
         let d = departs (moves_of t) root root [] 0 run.0 t first.0 (run.1.0, run.1.1, refl) (inl refl) (refl, refl) run.1.2 first.1
