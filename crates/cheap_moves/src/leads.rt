@@ -11,7 +11,8 @@ use crate::MoveSearch;
 use crate::bounds::{ResidualBounds, rest_after};
 use fare_law::{List, Mem, Role};
 use open_unit::Facts;
-use outlines::{Entry, Outline, facts_of, next_by};
+use outlines::{Entry, Outline, facts_of};
+use residual_keys::next_after;
 use std::alloc::Global;
 
 /// An outline of a residual's position, and a total that no move by a component of it is below.
@@ -141,7 +142,7 @@ fn total_as<B: ResidualBounds>(
     requires in_ranges { PieceInRanges facts.now }
     ensures { LeastAs search.now.request.now search.now.residual.now (B.bound search.now.bounds.now) entry.now role slot result }
 {
-    let next = next_by(search.residual, entry.outline.after, facts, role, slot)?;
+    let next = next_after(search.residual, entry.outline.after, facts, role, slot)?;
     let rest = rest_after(search.bounds, &next)?;
     Some(u128::from(entry.price) + u128::from(rest))
 }

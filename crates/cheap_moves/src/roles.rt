@@ -8,8 +8,7 @@ use crate::bounds::{ResidualBounds, rest_after};
 use crate::component::{Component, Onward};
 use crate::fares::add_fares;
 use fare_law::{List, Mem, Role};
-use outlines::next_by;
-use residual_keys::Chosen;
+use residual_keys::{Chosen, next_after};
 
 /// Adds the moves of a component that are within the limit, in whatever role and slot it may have.
 pub fn add_component<B: ResidualBounds>(
@@ -72,7 +71,7 @@ fn add_role<B: ResidualBounds>(
     ensures { OnOk result (Adds (IsRoleMove search.now.residual.now (B.bound search.now.bounds.now) search.now.limit component.now role slot) found.old found.new) }
 {
     let after = component.flown.way.path.after;
-    let Some(next) = next_by(search.residual, after, &component.facts, role, slot) else {
+    let Some(next) = next_after(search.residual, after, &component.facts, role, slot) else {
         return Ok(());
     };
     let Some(rest) = rest_after(search.bounds, &next) else {
