@@ -1,4 +1,4 @@
-use Rattle.std.proofs.Common.{◌≡◌, ℤ, arith, pos, refl, rules, subst, sym}
+use Rattle.std.proofs.Common.{◌≡◌, ◌∙◌, ℤ, ap, arith, pos, refl, rules, subst, sym}
 use Rattle.std.proofs.lemmas.Int.{ints}
 use Rattle.fare_law.specs.Days.{IsCalendarDay}
 use Rattle.fare_law.specs.Limits.{IsFlight}
@@ -9,25 +9,8 @@ use Rattle.fare_law.specs.declared.tickets.Piece.{Piece}
 use Rattle.open_unit.specs.Ranges.{PieceInRanges}
 use Rattle.law_lemmas.proofs.Ends.{last_like}
 use Rattle.rule_unit.specs.Ranges.{IsDayWithin, StaysInRange}
+use Rattle.residual_keys.proofs.OneNext.{first_one, last_one}
 use Rattle.residual_keys.proofs.component.facts_over.Goals as goal
-
--- a day of the calendar lies in the range of a component's days
-within : (day : ℤ) → IsCalendarDay day → IsDayWithin (pos 99000) day
-within day h = (omega (arith, ints), omega (arith, ints))
-
-in_ranges : ((r : Rule) → IsRule r → StaysInRange r) → (p : Piece) (first last : Flight) (rule : Rule) → IsFlight first → IsFlight last → IsRule rule → IsCalendarDay p.sale
-    → p.first_day ≡ first.day → p.last_day ≡ last.day → p.rule ≡ rule → PieceInRanges p
-in_ranges law p first last rule from to is sale begin end like =
-    record {
-      first_day = subst (IsDayWithin (pos 99000)) (sym begin) (within first.day from.day);
-      last_day = subst (IsDayWithin (pos 99000)) (sym end) (within last.day to.day);
-      sale = within p.sale sale;
-      rule = subst StaysInRange (sym like) (law rule is);
-    }
-
-pub returns-clause-in_ranges : goal.returns-clause-in_ranges
-returns-clause-in_ranges c =
-    in_ranges c.rules_stay_in_range.ensures _ _ _ _ (c.first_of-first.ensures.limits c.requires.flights) (c.last_of-last.ensures.limits c.requires.flights) c.requires.rule (search rules) (search rules) (search rules) (search rules)
 
 pub returns-clause-over : goal.returns-clause-over
 returns-clause-over c = record {
@@ -40,3 +23,28 @@ returns-clause-over c = record {
   reverse_is = refl;
   sale_is = search rules;
 }
+
+-- a day of the calendar lies in the range of a component's days
+within : (day : ℤ) → IsCalendarDay day → IsDayWithin (pos 99000) day
+within day h = (omega (arith, ints), omega (arith, ints))
+
+in_ranges : ((r : Rule) → IsRule r → StaysInRange r) → (p : Piece) (first last : Flight) (rule : Rule) (sale : ℤ) → IsFlight first → IsFlight last → IsRule rule → IsCalendarDay sale
+    → p.first_day ≡ first.day → p.last_day ≡ last.day → p.rule ≡ rule → p.sale ≡ sale → PieceInRanges p
+in_ranges law p first last rule sale from to is on begin end like day =
+    record {
+      first_day = subst (IsDayWithin (pos 99000)) (sym begin) (within first.day from.day);
+      last_day = subst (IsDayWithin (pos 99000)) (sym end) (within last.day to.day);
+      sale = subst (IsDayWithin (pos 99000)) (sym day) (within sale on);
+      rule = subst StaysInRange (sym like) (law rule is);
+    }
+
+pub returns-clause-in_ranges : goal.returns-clause-in_ranges
+returns-clause-in_ranges c =
+    let fs = c.args.flights.now in
+    let first = c.first_of-first.result.now in
+    let last = c.last_of-last.result.now in
+    let o = returns-clause-over c in
+    in_ranges c.rules_stay_in_range.ensures _ first last c.args.row.now.rule c.args.sale (c.first_of-first.ensures.limits c.requires.flights) (c.last_of-last.ensures.limits c.requires.flights) c.requires.rule c.requires.sale
+    (first_one (λ f. first ≡ f) _ _ (λ f e x. x.1 ∙ ap (λ g. g.day) (sym e)) fs c.first_of-first.ensures.first o.begins)
+    (last_one (λ f. last ≡ f) _ _ (λ f e x. x.1 ∙ ap (λ g. g.day) (sym e)) fs c.last_of-last.ensures.last o.ends)
+    o.rule o.sale_is
