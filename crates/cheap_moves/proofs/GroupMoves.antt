@@ -2,14 +2,14 @@
 use Rattle.std.proofs.Common.{◌≡◌, ℕ, ℤ, ◌+◌, ◌≤◌, Bool, List, slice_get, Option, Some, None, IsBitSet, Result, OnOk, refl, sym, ap, subst, ◌∙◌, arith}
 use Rattle.cheap_moves.specs.declared.component.Component.{Component}
 use Rattle.cheap_moves.specs.declared.component.Flown.{Flown}
-use Rattle.cheap_moves.specs.Making.{HasRows, IsComponent, IsComponentMove, IsGroupMove, IsOver, IsPieceOver, IsReadOver, IsRowIn}
+use Rattle.cheap_moves.specs.Making.{IsComponent, IsComponentMove, IsGroupMove, IsOver, IsPieceOver, IsReadOver}
 use Rattle.cheap_moves.specs.Within.{IsWithin}
 use Rattle.cheap_moves.proofs.FareMoves.{row_at}
 use Rattle.component_table.specs.declared.markets.Market.{Market}
 use Rattle.fare_groups.specs.declared.group.FareGroup.{FareGroup}
 use Rattle.fare_groups.specs.declared.group.GroupKey.{GroupKey}
 use Rattle.fare_groups.specs.declared.group.GroupedFare.{GroupedFare}
-use Rattle.fare_groups.specs.Grouping.{Cheapest, IsGroup}
+use Rattle.fare_groups.specs.Grouping.{Cheapest, IsRowIn}
 use Rattle.fare_groups.specs.Groups.{Permits, extra_of, group_of}
 use Rattle.fare_groups.proofs.ByGroup.{one_rule_all}
 use Rattle.fare_law.specs.declared.flights.Flight.{Flight}
@@ -142,12 +142,6 @@ module _ (b : Book) (q : Request) (r : State) (bound : State → Option ℕ) (li
 
         sums : (share extra rest price : ℕ) → least ≤ share → price ≡ share + extra → least ≤ price + rest
         sums share extra rest price le e = omega (arith, le, e)
-
-    pub has_row : HasRows m.sheet.value.rows g
-    has_row = record {
-      some = (each_in (IsGroup m.sheet.value.rows) m.groups g is.over.groups_are.each i).some;
-      are = λ f j. let x = row_at b q r.at flown.way.path flown.way.flights flown.way.legs flown.classes reverse m.sheet.value m.groups is.over g i f j in (x.row, x.stands, x.key_is);
-    }
 
     pub rule_within : (row : SheetRow) → IsRowIn m.sheet.value.rows g row → IsRule row.rule
     rule_within row x = is.over.limited.rules row.fare.key.carrier row.fare.rule row.rule ((is.over.sheet_is.live row).0 x.within).rule

@@ -1,5 +1,5 @@
 -- How the moves within a limit are made: fare by fare, role by role, group by group, path by path.
-use Rattle.std.specs.Prelude.{◌≡◌, ◌≢◌, ◌↔◌, ℕ, ℤ, ◌+◌, ◌≤◌, ◌<◌, Bool, List, [], slice_get, All, Option, Some, IsBitSet}
+use Rattle.std.specs.Prelude.{◌≡◌, ◌↔◌, ℕ, ℤ, ◌+◌, ◌≤◌, ◌<◌, Bool, List, slice_get, All, Option, Some, IsBitSet}
 use Rattle.cheap_moves.specs.declared.component.Component.{Component}
 use Rattle.cheap_moves.specs.declared.component.Flown.{Flown}
 use Rattle.cheap_moves.specs.declared.component.Onward.{Onward}
@@ -7,7 +7,8 @@ use Rattle.cheap_moves.specs.Within.{CountsWithin, IsWithin}
 use Rattle.component_table.specs.declared.markets.Market.{Market}
 use Rattle.fare_groups.specs.declared.group.FareGroup.{FareGroup}
 use Rattle.fare_groups.specs.declared.group.GroupedFare.{GroupedFare}
-use Rattle.fare_groups.specs.Groups.{HasClass, Permits, extra_of, group_of}
+use Rattle.fare_groups.specs.Grouping.{IsRowIn}
+use Rattle.fare_groups.specs.Groups.{HasClass, Permits, extra_of}
 use Rattle.fare_law.specs.declared.flights.Flight.{Flight}
 use Rattle.fare_law.specs.declared.moves.Role.{Role}
 use Rattle.fare_law.specs.declared.requests.Request.{Request}
@@ -55,16 +56,6 @@ pub record IsReadOver (sale : ℤ) (fs : List Flight) (row : SheetRow) (reverse 
 pub record IsPieceOver (sale : ℤ) (fs : List Flight) (row : SheetRow) (reverse : Bool) (p : Piece) : Type 0 where
   pub fare : p.fare ≡ row.fare
   pub reads : IsReadOver sale fs row reverse p
-
--- the row of some fare of a group
-pub record IsRowIn (rows : List SheetRow) (g : FareGroup) (row : SheetRow) : Type 0 where
-  pub within : IsIn row rows
-  pub key : group_of row ≡ g.key
-
--- the group has fares, each that of a row of its key
-pub record HasRows (rows : List SheetRow) (g : FareGroup) : Type 0 where
-  pub some : g.fares ≢ []
-  pub are : (f : GroupedFare) → IsIn f g.fares → (row : SheetRow) × (slice_get rows f.place ≡ Some row) × (group_of row ≡ g.key)
 
 -- The components of a group's fares on a flown path: its rule permits the flights, and adds these charges.
 pub record IsComponent (b : Book) (q : Request) (r : State) (k : Component) : Type 0 where

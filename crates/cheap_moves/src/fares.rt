@@ -1,5 +1,5 @@
 //! The moves of a component, fare by fare.
-ghost use Rattle.std.specs.Prelude.{◌≡◌, ◌↔◌, ◌+◌, ◌≤◌, IsBitSet, IsTrue, OnOk, Some, slice_get};
+ghost use Rattle.std.specs.Prelude.{◌≡◌, ◌↔◌, ◌+◌, ◌≤◌, IsTrue, OnOk, Some, slice_get};
 ghost use Rattle.cheap_moves.specs.Making.{IsComponent, IsFareMove, Of};
 ghost use Rattle.cheap_moves.specs.Within.{IsWithin};
 ghost use Rattle.fare_law.specs.Lists.{IsIn};
@@ -7,8 +7,8 @@ ghost use Rattle.residual_keys.specs.Gathered.{Adds};
 
 use crate::MoveSearch;
 use crate::component::{Component, Onward};
-use fare_groups::GroupedFare;
-use fare_law::{Class, List, MarketSheet, Mem, Move, SheetRow};
+use fare_groups::{GroupedFare, is_open};
+use fare_law::{List, MarketSheet, Mem, Move, SheetRow};
 use residual_keys::Chosen;
 use ticket_order::order_laws;
 
@@ -69,14 +69,6 @@ fn move_of(component: &Component<'_>, onward: &Onward, row: &SheetRow) -> Move
         role: onward.role,
         slot: onward.slot,
     }
-}
-
-/// Whether the class is among these.
-fn is_open(classes: u32, class: Class) -> bool
-    requires { class ≤ 25 }
-    ensures { IsTrue result ↔ IsBitSet classes class }
-{
-    classes & (1 << class) != 0
 }
 
 /// A share with the charges of a rule.

@@ -1,10 +1,9 @@
 //! The moves of a path with the fares of a group.
-ghost use Rattle.std.specs.Prelude.{◌≤◌, ◌≢◌, All, MatchOption, OnOk, length};
-ghost use Rattle.cheap_moves.specs.Making.{HasRows, IsGroupMove, IsOver, IsReadOver, IsRowIn};
+ghost use Rattle.std.specs.Prelude.{◌≤◌, All, OnOk, length};
+ghost use Rattle.cheap_moves.specs.Making.{IsGroupMove, IsOver, IsReadOver};
 ghost use Rattle.fare_law.specs.Days.{IsCalendarDay};
 ghost use Rattle.fare_law.specs.Limits.{IsFlight, IsRequest};
-ghost use Rattle.fare_groups.specs.Grouping.{HasKeyAt};
-ghost use Rattle.fare_law.specs.Lists.{Each, IsIn};
+ghost use Rattle.fare_law.specs.Lists.{IsIn};
 ghost use Rattle.fare_law.specs.RuleLimits.{IsRule};
 ghost use Rattle.open_unit.specs.Ranges.{PieceInRanges};
 ghost use Rattle.residual_keys.specs.Gathered.{Adds};
@@ -15,7 +14,7 @@ use crate::component::{Component, Flown};
 use crate::fares::is_within;
 use crate::roles::add_component;
 use component_table::Market;
-use fare_groups::{FareGroup, GroupKey, extra};
+use fare_groups::{FareGroup, extra, first_row};
 use fare_law::{Flight, List, MarketSheet, Mem, Rule, SheetRow};
 use open_unit::Facts;
 use residual_keys::{Chosen, first_of, last_of};
@@ -60,27 +59,6 @@ pub fn add_group<B: ResidualBounds>(
         charges,
     };
     add_component(found, search, &component)
-}
-
-/// The place of the group of a key.
-pub fn place_of(groups: &[FareGroup], key: GroupKey) -> Option<usize>
-    ensures { MatchOption result (Each (λ g. g.key ≢ key) groups.now) (HasKeyAt key groups.now) }
-{
-    for at in 0..groups.len() {
-        if groups[at].key.is(key) {
-            return Some(at);
-        }
-    }
-    None
-}
-
-/// The row of a group's first fare.
-fn first_row<'a>(sheet: &'a MarketSheet, group: &FareGroup) -> &'a SheetRow
-    requires { HasRows sheet.now.rows group.now }
-    ensures { IsRowIn sheet.now.rows group.now result.now }
-{
-    let place = group.fares.as_slice()[0].place as usize;
-    &sheet.rows.as_slice()[place]
 }
 
 /// What units and tickets read of a component: a fare of this row over these flights.

@@ -8,14 +8,14 @@ use Rattle.component_table.specs.declared.settled.SettledClass.{SettledClass}
 use Rattle.component_table.specs.Blocks.{outline_of}
 use Rattle.component_table.specs.Classes.{GroupSettled, IsOfClass}
 use Rattle.component_table.specs.Markets.{IsMarket}
-use Rattle.component_table.specs.Tables.{Flown, GroupDone, HasBelow, HasGroup, HasRow, IsEntry, IsOver, IsPathOver, IsRowOf, Lowered}
+use Rattle.component_table.specs.Tables.{Flown, GroupDone, HasBelow, HasGroup, IsEntry, IsOver, IsPathOver, Lowered}
 use Rattle.component_table.proofs.BlockFacts.{class_outline}
 use Rattle.component_table.proofs.Lower.{goes_lowered, goes_self}
 use Rattle.fare_book.specs.Keeping.{Limited}
 use Rattle.fare_groups.specs.declared.group.FareGroup.{FareGroup}
 use Rattle.fare_groups.specs.declared.group.GroupKey.{GroupKey}
 use Rattle.fare_groups.specs.declared.group.GroupedFare.{GroupedFare}
-use Rattle.fare_groups.specs.Grouping.{Cheapest, IsGroup}
+use Rattle.fare_groups.specs.Grouping.{Cheapest, IsRowIn}
 use Rattle.fare_groups.specs.Groups.{Permits, extra_of}
 use Rattle.fare_groups.proofs.OneGroup.{classes_are_low, fares_are_rows}
 use Rattle.fare_law.specs.declared.flights.Flight.{Flight}
@@ -108,16 +108,10 @@ module _ (b : Book) (m : Market) (g : FareGroup) (market : IsMarket b m) (limite
   low_classes = each_in (λ (x : FareGroup). Each (λ (f : GroupedFare). f.class ≤ 25) x.fares) m.groups g (classes_are_low m.sheet.value.rows m.groups market.groups
       (each_from (λ (row : SheetRow). row.fare.class ≤ 25) m.sheet.value.rows (λ row j. (limited.fares row.fare.key row.fare (live_of row j).fare).1.class))) i
 
-  pub has_row : HasRow m.sheet.value.rows g
-  has_row = record {
-    some = (each_in (IsGroup m.sheet.value.rows) m.groups g market.groups.each i).some;
-    are = λ f j. let x = fares_are_rows m.sheet.value.rows m.groups market.groups g i f j in (x.row, x.stands, x.key_is);
-  }
-
-  pub rule_live : (row : SheetRow) → IsRowOf m.sheet.value.rows g row → live_rule b g.key.carrier g.key.number ≡ Some row.rule
+  pub rule_live : (row : SheetRow) → IsRowIn m.sheet.value.rows g row → live_rule b g.key.carrier g.key.number ≡ Some row.rule
   rule_live row r = subst (λ (k : GroupKey). live_rule b k.carrier k.number ≡ Some row.rule) r.key (live_of row r.within).rule
 
-  pub rule_within : (row : SheetRow) → IsRowOf m.sheet.value.rows g row → IsRule row.rule
+  pub rule_within : (row : SheetRow) → IsRowIn m.sheet.value.rows g row → IsRule row.rule
   rule_within row r = limited.rules row.fare.key.carrier row.fare.rule row.rule (live_of row r.within).rule
 
   -- a least share is low
@@ -145,7 +139,7 @@ module _ (b : Book) (q : Request) (at : Position) (path : Path) (flown : Flown) 
     has = λ rule live permits least c. absurd (each_in (λ (f : GroupedFare). IsBitSet flown.classes f.class → ⊥) g.fares c.fare none c.within c.open_class);
   }
 
-  pub none_extra : (old : List Entry) (row : SheetRow) → IsRowOf m.sheet.value.rows g row → (Permits row.rule g.key.carrier flown.flights → ⊥) → GroupDone b q at path flown reverse g old old
+  pub none_extra : (old : List Entry) (row : SheetRow) → IsRowIn m.sheet.value.rows g row → (Permits row.rule g.key.carrier flown.flights → ⊥) → GroupDone b q at path flown reverse g old old
   none_extra old row r none = record {
     goes = goes_self b q at old;
     has = λ rule live permits least c. absurd (none (subst (λ x. Permits x g.key.carrier flown.flights) (some_one (live_rule b g.key.carrier g.key.number) rule row.rule live (rule_live b m g is.market_is is.limited i row r)) permits));
@@ -164,7 +158,7 @@ module _ (b : Book) (q : Request) (at : Position) (path : Path) (flown : Flown) 
       sums : (least extra : ℕ) → mine ≤ least → low.entry.price ≤ least + extra
       sums least extra h = let k = low.below in omega (arith, h, k)
 
-  group_has : (table : List Entry) (row : SheetRow) (mine charges : ℕ) (o : Outline) → IsRowOf m.sheet.value.rows g row → Cheapest flown.classes g.fares (Some mine) → charges ≡ extra_of row.rule flown.flights → OutlineOver o path.after flown.flights g.key reverse → HasBelow table o (mine + charges)
+  group_has : (table : List Entry) (row : SheetRow) (mine charges : ℕ) (o : Outline) → IsRowIn m.sheet.value.rows g row → Cheapest flown.classes g.fares (Some mine) → charges ≡ extra_of row.rule flown.flights → OutlineOver o path.after flown.flights g.key reverse → HasBelow table o (mine + charges)
       → HasGroup b path flown.flights flown.classes reverse g table
   group_has table row mine charges o r cheap extra oo has rule live permits least c =
       let same = some_one (live_rule b g.key.carrier g.key.number) row.rule rule (rule_live b m g is.market_is is.limited i row r) live in
@@ -174,14 +168,14 @@ module _ (b : Book) (q : Request) (at : Position) (path : Path) (flown : Flown) 
       sums p least y z h k e = omega (arith, h, k, e)
 
   -- nor where it stands at no more than the price
-  pub group_dear : (table : List Entry) (row : SheetRow) (mine charges price : ℕ) (o : Outline) → IsRowOf m.sheet.value.rows g row → Cheapest flown.classes g.fares (Some mine) → charges ≡ extra_of row.rule flown.flights → OutlineOver o path.after flown.flights g.key reverse → price ≡ mine + charges → HasBelow table o price
+  pub group_dear : (table : List Entry) (row : SheetRow) (mine charges price : ℕ) (o : Outline) → IsRowIn m.sheet.value.rows g row → Cheapest flown.classes g.fares (Some mine) → charges ≡ extra_of row.rule flown.flights → OutlineOver o path.after flown.flights g.key reverse → price ≡ mine + charges → HasBelow table o price
       → GroupDone b q at path flown reverse g table table
   group_dear table row mine charges price o r cheap extra oo is has = record {
     goes = goes_self b q at table;
     has = group_has table row mine charges o r cheap extra oo (subst (HasBelow table o) is has);
   }
 
-  pub group_had : All IsFlight flown.flights → IsPathOver b q at path flown reverse m → (old new : List Entry) (row : SheetRow) (least charges : ℕ) (o : Outline) → IsRowOf m.sheet.value.rows g row → Cheapest flown.classes g.fares (Some least) → Permits row.rule g.key.carrier flown.flights → charges ≡ extra_of row.rule flown.flights
+  pub group_had : All IsFlight flown.flights → IsPathOver b q at path flown reverse m → (old new : List Entry) (row : SheetRow) (least charges : ℕ) (o : Outline) → IsRowIn m.sheet.value.rows g row → Cheapest flown.classes g.fares (Some least) → Permits row.rule g.key.carrier flown.flights → charges ≡ extra_of row.rule flown.flights
       → OutlineOver o path.after flown.flights g.key reverse → Lowered (record { outline = o; rule = row.rule; price = least + charges }) old new → GroupDone b q at path flown reverse g old new
   group_had limits p old new row mine charges o r cheap permits extra oo l = record {
     goes = goes_lowered b q at x old new entry l;

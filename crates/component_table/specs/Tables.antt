@@ -1,5 +1,5 @@
 -- A table as it grows: what it has stands there at no more, and each group of a path's market is put in.
-use Rattle.std.specs.Prelude.{◌≡◌, ◌≢◌, ◌⊎◌, ◌↔◌, ℕ, ◌+◌, ◌≤◌, ◌<◌, Bool, List, [], ◌++◌, length, slice_get, Option, Some, All, IsBitSet}
+use Rattle.std.specs.Prelude.{◌≡◌, ◌⊎◌, ◌↔◌, ℕ, ◌+◌, ◌≤◌, ◌<◌, Bool, List, [], ◌++◌, length, slice_get, Option, Some, All, IsBitSet}
 use Rattle.std.specs.Int.{IsInRange}
 use Rattle.component_table.specs.declared.classes.PathClass.{PathClass}
 use Rattle.component_table.specs.declared.markets.Market.{Market}
@@ -11,15 +11,13 @@ use Rattle.component_table.specs.Markets.{IsMarket}
 use Rattle.component_table.specs.Reaches.{StandBetween}
 use Rattle.fare_book.specs.Keeping.{Limited}
 use Rattle.fare_groups.specs.declared.group.FareGroup.{FareGroup}
-use Rattle.fare_groups.specs.declared.group.GroupedFare.{GroupedFare}
 use Rattle.fare_groups.specs.Grouping.{Cheapest}
-use Rattle.fare_groups.specs.Groups.{HasClass, Permits, extra_of, group_of}
+use Rattle.fare_groups.specs.Groups.{HasClass, Permits, extra_of}
 use Rattle.fare_law.specs.declared.flights.Flight.{Flight}
 use Rattle.fare_law.specs.declared.names.Carrier.{Carrier}
 use Rattle.fare_law.specs.declared.requests.Request.{Request}
 use Rattle.fare_law.specs.declared.rules.Rule.{Rule}
 use Rattle.fare_law.specs.declared.sheets.Leg.{Leg}
-use Rattle.fare_law.specs.declared.sheets.SheetRow.{SheetRow}
 use Rattle.fare_law.specs.Book.{Book, live_rule}
 use Rattle.fare_law.specs.Limits.{IsFlight}
 use Rattle.fare_law.specs.Lists.{Each, IsIn, OnFirst, OnLast}
@@ -158,16 +156,6 @@ pub record IsPathOver (b : Book) (q : Request) (at : Position) (path : Path) (fl
 -- a path of the position
 abbrev pub IsPathFrom : Book → Request → Position → Path → Type 0
 IsPathFrom b q at path = (fs : List Flight) × IsPath b q.slices at path.flights fs path.after
-
--- the row of some fare of a group
-pub record IsRowOf (rows : List SheetRow) (g : FareGroup) (row : SheetRow) : Type 0 where
-  pub within : IsIn row rows
-  pub key : group_of row ≡ g.key
-
--- the group's first fare is that of a row of its key
-pub record HasRow (rows : List SheetRow) (g : FareGroup) : Type 0 where
-  pub some : g.fares ≢ []
-  pub are : (f : GroupedFare) → IsIn f g.fares → (row : SheetRow) × (slice_get rows f.place ≡ Some row) × (group_of row ≡ g.key)
 
 -- a group was put in
 pub record GroupDone (b : Book) (q : Request) (at : Position) (path : Path) (flown : Flown) (reverse : Bool) (g : FareGroup) (old new : List Entry) : Type 0 where

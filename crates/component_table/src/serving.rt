@@ -4,7 +4,7 @@ ghost use Rattle.component_table.specs.Blocks.{HasBlock, IsLow, outline_of, whol
 ghost use Rattle.component_table.specs.Classes.{GroupSettled, GroupsSettled, IsNumbered, WaySettled, class_landed};
 ghost use Rattle.component_table.specs.Markets.{AreMarkets, IsMarket};
 ghost use Rattle.component_table.specs.Reaches.{IsEnd, filed_of};
-ghost use Rattle.component_table.specs.Tables.{AreGathered, Covers, GroupDone, HasRow, IsOfPath, IsPathOver, IsRowOf, IsServed, IsWanted, MarketDone, WayDone, flown_on, numbers_of};
+ghost use Rattle.component_table.specs.Tables.{AreGathered, Covers, GroupDone, IsOfPath, IsPathOver, IsServed, IsWanted, MarketDone, WayDone, flown_on, numbers_of};
 ghost use Rattle.fare_law.specs.declared.flights.Flight.{Flight as DatedFlight};
 ghost use Rattle.fare_law.specs.Lists.{IsIn, OnFirst, OnLast};
 ghost use Rattle.fare_law.specs.Parts.{Numbers};
@@ -18,8 +18,8 @@ use crate::gathering::gather;
 use crate::growing::{Growing, Spot};
 use crate::markets::Market;
 use crate::ways::{Origin, Placed, Serving, Slotted, Wanted};
-use fare_groups::{FareGroup, GroupKey, extra};
-use fare_law::{ArrayVec, Flight, MarketSheet, Mem, SheetRow};
+use fare_groups::{GroupKey, extra, first_row};
+use fare_law::{ArrayVec, Flight, MarketSheet, Mem};
 use outlines::Outline;
 use rule_route::limits_are_met;
 use rule_unit::rules_stay_in_range;
@@ -222,15 +222,6 @@ fn sum(share: u64, charges: u64) -> u64
     ensures { result ≡ share + charges }
 {
     share + charges
-}
-
-/// The row of a group's first fare.
-fn first_row<'a>(sheet: &'a MarketSheet, group: &FareGroup) -> &'a SheetRow
-    requires { HasRow sheet.now.rows group.now }
-    ensures { IsRowOf sheet.now.rows group.now result.now }
-{
-    let place = group.fares.as_slice()[0].place as usize;
-    &sheet.rows.as_slice()[place]
 }
 
 /// The outline of a group's components on the paths of a class.

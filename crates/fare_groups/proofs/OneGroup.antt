@@ -3,7 +3,7 @@ use Rattle.std.proofs.Common.{◌≡◌, ◌≢◌, ℕ, zero, suc, ◌+◌, ◌
 use Rattle.fare_groups.specs.declared.group.FareGroup.{FareGroup}
 use Rattle.fare_groups.specs.declared.group.GroupKey.{GroupKey}
 use Rattle.fare_groups.specs.declared.group.GroupedFare.{GroupedFare}
-use Rattle.fare_groups.specs.Grouping.{AreFares, ClassesAreLow, EachStandsOnce, FaresAreRows, IsGroup, fare_at}
+use Rattle.fare_groups.specs.Grouping.{AreFares, ClassesAreLow, EachStandsOnce, FaresAreRows, AreGroups, HasRows, IsGroup, fare_at}
 use Rattle.fare_groups.specs.Groups.{group_of}
 use Rattle.fare_groups.proofs.Grouped.{keys_each}
 use Rattle.fare_law.specs.declared.sheets.SheetRow.{SheetRow}
@@ -69,6 +69,13 @@ fares_are_rows rows groups h g i f j =
       key_is = x.key_is;
       fare = x.fare ∙ ap (λ n. fare_at n x.row) (none_plus x.n ∙ sym place);
     }
+
+-- so each group has rows
+pub group_rows : (rows : List SheetRow) (groups : List FareGroup) → AreGroups rows groups → (g : FareGroup) → IsIn g groups → HasRows rows g
+group_rows rows groups h g i = record {
+  some = (each_in (IsGroup rows) groups g h.each i).some;
+  are = λ f j. let x = fares_are_rows rows groups h g i f j in (x.row, x.stands, x.key_is);
+}
 
 pub each_stands_once : EachStandsOnce
 each_stands_once rows groups h place row stands =

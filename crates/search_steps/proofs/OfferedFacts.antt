@@ -1,13 +1,12 @@
 -- Where no group of a market has an offered fare, no key of the flights and the market's sheet has an offer.
 use Rattle.std.proofs.Common.{◌≡◌, ◌≢◌, ◌⊎◌, ℕ, ◌+◌, ◌<◌, ◌≤◌, Bool, true, false, List, [], ◌∷◌, length, take, get_or, All, IsBitSet, slice_get, Option, Some, None, is_some, IfNone, MatchOption, MatchBool, sym, ap, ap₂, subst, ◌∙◌, inl, inr, refl, arith}
 use Rattle.std.proofs.lemmas.List.Elements.{All-head}
-use Rattle.cheap_moves.specs.Making.{HasRows, IsRowIn}
 use Rattle.component_table.specs.declared.markets.Market.{Market}
 use Rattle.component_table.specs.Markets.{IsMarket}
 use Rattle.fare_book.specs.Keeping.{Limited}
 use Rattle.fare_groups.specs.declared.group.FareGroup.{FareGroup}
 use Rattle.fare_groups.specs.declared.group.GroupedFare.{GroupedFare}
-use Rattle.fare_groups.specs.Grouping.{Cheapest, IsGroup, fare_at}
+use Rattle.fare_groups.specs.Grouping.{Cheapest, IsRowIn, fare_at}
 use Rattle.fare_groups.specs.Groups.{HasClass, Permits, group_of}
 use Rattle.fare_groups.proofs.ByGroup.{offered_by_group, one_rule_all}
 use Rattle.fare_groups.proofs.OneGroup.{classes_are_low, each_stands_once, fares_are_rows}
@@ -67,12 +66,6 @@ module _ (b : Book) (q : Request) (flown : Flown) (m : Market) (g : FareGroup) (
 
   pub low_classes : Each (λ (f : GroupedFare). f.class ≤ 25) g.fares
   low_classes = each_in (λ (x : FareGroup). Each (λ (f : GroupedFare). f.class ≤ 25) x.fares) m.groups g (classes_are_low m.sheet.value.rows m.groups market.groups (each_from (λ (row : SheetRow). row.fare.class ≤ 25) m.sheet.value.rows class_low)) i
-
-  pub has_rows : HasRows m.sheet.value.rows g
-  has_rows = record {
-    some = (each_in (IsGroup m.sheet.value.rows) m.groups g market.groups.each i).some;
-    are = λ f j. let x = fares_are_rows m.sheet.value.rows m.groups market.groups g i f j in (x.row, x.stands, x.key_is);
-  }
 
   pub rule_within : (row : SheetRow) → IsRowIn m.sheet.value.rows g row → IsRule row.rule
   rule_within row r = limited.rules row.fare.key.carrier row.fare.rule row.rule (live_of row r.within).rule

@@ -1,6 +1,5 @@
 //! Whether fares of a market may be offered on the flights of a path, by the groups of its fares.
 ghost use Rattle.std.specs.Prelude.{◌≡◌, ◌≤◌, All, IfOk, List, false, length};
-ghost use Rattle.cheap_moves.specs.Making.{HasRows, IsRowIn};
 ghost use Rattle.component_table.specs.Markets.{IsMarket};
 ghost use Rattle.component_table.specs.Masks.{AreMasks};
 ghost use Rattle.fare_book.specs.Keeping.{Limited};
@@ -14,8 +13,8 @@ ghost use Rattle.search_steps.specs.Settling.{IsFlown, NoneOver, OffersNone};
 
 use crate::Case;
 use component_table::{Market, Masks};
-use fare_groups::{FareGroup, extra};
-use fare_law::{ArrayVec, Flight, MarketSheet, Mem, SheetRow};
+use fare_groups::{FareGroup, extra, first_row};
+use fare_law::{ArrayVec, Flight, MarketSheet, Mem};
 use flight_paths::Path;
 use residual_keys::first_of;
 use ticket_order::order_laws;
@@ -95,13 +94,4 @@ fn is_offered(case: &Case, market: &Market, group: &FareGroup, flown: &Flown) ->
     let sheet: &MarketSheet = &market.sheet;
     let row = first_row(sheet, group);
     extra(&row.rule, group.key.carrier, flights).is_some()
-}
-
-/// The row of a group's first fare.
-fn first_row<'a>(sheet: &'a MarketSheet, group: &FareGroup) -> &'a SheetRow
-    requires { HasRows sheet.now.rows group.now }
-    ensures { IsRowIn sheet.now.rows group.now result.now }
-{
-    let place = group.fares.as_slice()[0].place as usize;
-    &sheet.rows.as_slice()[place]
 }

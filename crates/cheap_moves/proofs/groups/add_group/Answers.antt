@@ -1,10 +1,12 @@
 use Rattle.std.proofs.Common.{◌≡◌, ◌≤◌, rules, length, ap, sym, subst, ◌∙◌}
-use Rattle.cheap_moves.specs.Making.{HasRows, IsReadOver, IsRowIn}
+use Rattle.cheap_moves.specs.Making.{IsReadOver}
 use Rattle.cheap_moves.specs.Within.{IsWithin}
 use Rattle.cheap_moves.proofs.FareMoves.{class_low}
-use Rattle.cheap_moves.proofs.GroupMoves.{component_is, group_done, has_row, none_cheap, none_open, none_permitted, rule_within}
+use Rattle.cheap_moves.proofs.GroupMoves.{component_is, group_done, none_cheap, none_open, none_permitted, rule_within}
 use Rattle.fare_groups.specs.declared.group.GroupedFare.{GroupedFare}
+use Rattle.fare_groups.specs.Grouping.{HasRows, IsRowIn}
 use Rattle.fare_groups.specs.Groups.{Permits, extra_of}
+use Rattle.fare_groups.proofs.OneGroup.{group_rows}
 use Rattle.fare_law.specs.Parts.{stopover_charge, surcharges}
 use Rattle.fare_law.specs.RuleLimits.{IsRule}
 use Rattle.fare_law.specs.Sheets.{Sheet}
@@ -33,7 +35,7 @@ returns-then-not-is_within g c =
 pub first_row-row-requires : goal.first_row-row-requires
 first_row-row-requires g c =
     subst (λ (s : Sheet). HasRows s.rows c.args.group.now) (sym c.deref-sheet.ensures)
-    (has_row c.args.search.now.book.now c.args.search.now.request.now c.args.search.now.residual.now (g.B.ResidualBounds.bound c.args.search.now.bounds.now) c.args.search.now.limit c.args.flown.now c.args.reverse c.args.market.now c.requires.over c.args.group.now c.requires.group)
+    (group_rows c.args.market.now.sheet.value.rows c.args.market.now.groups c.requires.over.over.groups_are c.args.group.now c.requires.group)
 
 pub extra-requires-clause-rule : goal.extra-requires-clause-rule
 extra-requires-clause-rule g c =

@@ -1,12 +1,14 @@
 use Rattle.std.proofs.Common.{◌≤◌, All, List, ap, refl, subst, sym, ◌∙◌, length}
 use Rattle.std.specs.Int.{IsInRange}
-use Rattle.component_table.specs.Tables.{HasRow, IsRowOf, Lowered, flown_on, numbers_of}
+use Rattle.component_table.specs.Tables.{Lowered, flown_on, numbers_of}
 use Rattle.component_table.specs.Blocks.{HasOutline, outline_of}
 use Rattle.component_table.specs.Classes.{IsOfClass, class_landed}
 use Rattle.component_table.proofs.BlockFacts.{class_outline, wanted_outline}
-use Rattle.component_table.proofs.GroupFacts.{barred_settled, class_day, group_dear, group_had, had_settled, has_row, least_below, none_extra, rule_live, rule_within, share_low}
+use Rattle.component_table.proofs.GroupFacts.{barred_settled, class_day, group_dear, group_had, had_settled, least_below, none_extra, rule_live, rule_within, share_low}
 use Rattle.component_table.proofs.SettledFacts.{class_leads, numbered_flown, numbered_over}
+use Rattle.fare_groups.specs.Grouping.{HasRows, IsRowIn}
 use Rattle.fare_groups.specs.Groups.{Permits, extra_of}
+use Rattle.fare_groups.proofs.OneGroup.{group_rows}
 use Rattle.fare_law.specs.declared.flights.Flight.{Flight}
 use Rattle.fare_law.specs.declared.names.Carrier.{Carrier}
 use Rattle.fare_law.specs.declared.rules.Rule.{Rule}
@@ -27,7 +29,7 @@ returns-then-not-gather-clause-done c = λ path fs numbers p. absurd (c.gather.e
 
 pub first_row-row-requires : goal.first_row-row-requires
 first_row-row-requires c =
-    subst (λ (s : Sheet). HasRow s.rows c.args.wanted.now.group.now) (sym c.deref-sheet.ensures) (has_row c.args.origin.now.book.now c.args.serving.now.market.now c.args.wanted.now.group.now c.requires.market c.limits.ensures c.requires.group)
+    subst (λ (s : Sheet). HasRows s.rows c.args.wanted.now.group.now) (sym c.deref-sheet.ensures) (group_rows c.args.serving.now.market.now.sheet.value.rows c.args.serving.now.market.now.groups c.requires.market.groups c.args.wanted.now.group.now c.requires.group)
 
 pub extra-requires-clause-count : goal.extra-requires-clause-count
 extra-requires-clause-count c =
@@ -41,7 +43,7 @@ extra-requires-clause-flights c = subst (All IsFlight) (sym c.as_slice.ensures.i
 pub extra-requires-clause-rule : goal.extra-requires-clause-rule
 extra-requires-clause-rule c =
     let row = c.first_row-row.result.now in
-    let of = subst (λ (s : Sheet). IsRowOf s.rows c.args.wanted.now.group.now row) c.deref-sheet.ensures c.first_row-row.ensures in
+    let of = subst (λ (s : Sheet). IsRowIn s.rows c.args.wanted.now.group.now row) c.deref-sheet.ensures c.first_row-row.ensures in
     subst IsRule (sym c.deref.ensures) (rule_within c.args.origin.now.book.now c.args.serving.now.market.now c.args.wanted.now.group.now c.requires.market c.limits.ensures c.requires.group row of)
 
 pub sum-price-requires-clause-share : goal.sum-price-requires-clause-share
@@ -51,7 +53,7 @@ pub sum-price-requires-clause-charges : goal.sum-price-requires-clause-charges
 sum-price-requires-clause-charges c =
     let o = c.args.origin.now in
     let row = c.first_row-row.result.now in
-    let of = subst (λ (s : Sheet). IsRowOf s.rows c.args.wanted.now.group.now row) c.deref-sheet.ensures c.first_row-row.ensures in
+    let of = subst (λ (s : Sheet). IsRowIn s.rows c.args.wanted.now.group.now row) c.deref-sheet.ensures c.first_row-row.ensures in
     let rule = subst IsRule (sym c.deref.ensures) (rule_within o.book.now c.args.serving.now.market.now c.args.wanted.now.group.now c.requires.market c.limits.ensures c.requires.group row of) in
     let r = c.deref.result.now in
     let fs = c.as_slice.result.now in
@@ -70,7 +72,7 @@ returns-clause-settled c = λ all.
     let s = class_landed c.args.placed.now.path.now in
     let g = c.args.wanted.now.group.now in
     let row = c.first_row-row.result.now in
-    let of = subst (λ (s : Sheet). IsRowOf s.rows g row) c.deref-sheet.ensures c.first_row-row.ensures in
+    let of = subst (λ (s : Sheet). IsRowIn s.rows g row) c.deref-sheet.ensures c.first_row-row.ensures in
     let live = rule_live b c.args.serving.now.market.now g c.requires.market c.limits.ensures c.requires.group row of in
     let least = subst (λ (r : Rule). (fs : List Flight) → IsOfClass s.class s.class.after fs → c.in-Some.charges ≤ extra_of r fs) c.deref-2.ensures (c.are_least-least.ensures all) in
     had_settled b s c.args.serving.now.reverse g c.put.new.self.entries.items c.args.wanted.now.share c.sum-price.result c.outline_of-outline.result
@@ -88,7 +90,7 @@ returns-then-is_below-clause-settled c = λ all.
     let t = c.args.table.now in
     let o = outline_of p.path.now.class g.key r in
     let row = c.first_row-row.result.now in
-    let of = subst (λ (s : Sheet). IsRowOf s.rows g row) c.deref-sheet.ensures c.first_row-row.ensures in
+    let of = subst (λ (s : Sheet). IsRowIn s.rows g row) c.deref-sheet.ensures c.first_row-row.ensures in
     let live = rule_live b c.args.serving.now.market.now g c.requires.market c.limits.ensures c.requires.group row of in
     let least = subst (λ (r : Rule). (fs : List Flight) → IsOfClass s.class s.class.after fs → c.in-Some.charges ≤ extra_of r fs) c.deref-2.ensures (c.are_least-least.ensures all) in
     had_settled b s r g t.entries.items c.args.wanted.now.share c.sum-price.result o c.requires.wanted.share_is refl
@@ -108,7 +110,7 @@ returns-in_default-clause-settled c = λ all.
     let s = class_landed c.args.placed.now.path.now in
     let g = c.args.wanted.now.group.now in
     let row = c.first_row-row.result.now in
-    let of = subst (λ (s : Sheet). IsRowOf s.rows g row) c.deref-sheet.ensures c.first_row-row.ensures in
+    let of = subst (λ (s : Sheet). IsRowIn s.rows g row) c.deref-sheet.ensures c.first_row-row.ensures in
     let live = rule_live b c.args.serving.now.market.now g c.requires.market c.limits.ensures c.requires.group row of in
     barred_settled b s c.args.serving.now.reverse g c.args.table.now.entries.items row.rule live
     (subst (λ (r : Rule). (carrier : Carrier) (fs : List Flight) → IsOfClass s.class s.class.after fs → Permits r carrier fs → ⊥) c.deref-in_default.ensures (c.permits_none.ensures all))
@@ -121,7 +123,7 @@ returns-clause-done c = λ path fs numbers p.
     let m = c.args.serving.now.market.now in
     let g = c.args.wanted.now.group.now in
     let row = c.first_row-row.result.now in
-    let of = subst (λ (s : Sheet). IsRowOf s.rows g row) c.deref-sheet.ensures c.first_row-row.ensures in
+    let of = subst (λ (s : Sheet). IsRowIn s.rows g row) c.deref-sheet.ensures c.first_row-row.ensures in
     let has = c.gather.ensures.some c.if-not-gather.false in
     let same = numbers_one b (numbers_of l) c.gather.new.flights fs has.are numbers in
     let own = c.as_slice.ensures.items ∙ same in
@@ -142,7 +144,7 @@ returns-then-is_below-clause-done c = λ path fs numbers p.
     let t = c.args.table.now in
     let o = outline_of l.class g.key r in
     let row = c.first_row-row.result.now in
-    let of = subst (λ (s : Sheet). IsRowOf s.rows g row) c.deref-sheet.ensures c.first_row-row.ensures in
+    let of = subst (λ (s : Sheet). IsRowIn s.rows g row) c.deref-sheet.ensures c.first_row-row.ensures in
     let has = c.gather.ensures.some c.if-not-gather.false in
     let own = c.as_slice.ensures.items ∙ numbers_one b (numbers_of l) c.gather.new.flights fs has.are numbers in
     let extra = c.in-Some.ensures.some.1 ∙ ap (λ x. extra_of x c.as_slice.result.now) c.deref.ensures ∙ ap (extra_of row.rule) own in
@@ -158,7 +160,7 @@ returns-in_default-clause-done c = λ path fs numbers p.
     let m = c.args.serving.now.market.now in
     let g = c.args.wanted.now.group.now in
     let row = c.first_row-row.result.now in
-    let of = subst (λ (s : Sheet). IsRowOf s.rows g row) c.deref-sheet.ensures c.first_row-row.ensures in
+    let of = subst (λ (s : Sheet). IsRowIn s.rows g row) c.deref-sheet.ensures c.first_row-row.ensures in
     let has = c.gather.ensures.some c.if-not-gather.false in
     let own = c.as_slice.ensures.items ∙ numbers_one b (numbers_of l) c.gather.new.flights fs has.are numbers in
     none_extra b q c.args.origin.now.at.now path (flown_on l fs) c.args.serving.now.reverse m g (numbered_over b q l fs c.requires.path numbers m c.requires.market c.limits.ensures) c.requires.group

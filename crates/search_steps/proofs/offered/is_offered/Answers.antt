@@ -1,10 +1,11 @@
 use Rattle.std.proofs.Common.{◌≡◌, ◌∙◌, ◌≤◌, not, length, ap, subst, sym}
-use Rattle.cheap_moves.specs.Making.{HasRows, IsRowIn}
+use Rattle.fare_groups.specs.Grouping.{HasRows, IsRowIn}
 use Rattle.fare_groups.specs.Groups.{Permits}
+use Rattle.fare_groups.proofs.OneGroup.{group_rows}
 use Rattle.fare_law.specs.Lists.{OnFirst}
 use Rattle.fare_law.specs.RuleLimits.{IsRule}
 use Rattle.fare_law.specs.Sheets.{Sheet}
-use Rattle.search_steps.proofs.OfferedFacts.{cheapest_none, has_rows, low_classes, none_first, none_open, none_permitted, none_when, rule_within}
+use Rattle.search_steps.proofs.OfferedFacts.{cheapest_none, low_classes, none_first, none_open, none_permitted, none_when, rule_within}
 use Rattle.law_lemmas.proofs.Tests.{true_false}
 use Rattle.search_steps.proofs.offered.is_offered.Goals as goal
 
@@ -27,7 +28,7 @@ returns-then-is_none c = λ _.
 
 pub first_row-row-requires : goal.first_row-row-requires
 first_row-row-requires c =
-    subst (λ (s : Sheet). HasRows s.rows c.args.group.now) (sym c.deref-sheet.ensures) (has_rows c.args.case.now.book.now c.args.case.now.request.now c.args.flown.now c.args.market.now c.args.group.now c.requires.market c.requires.flown c.requires.limited c.requires.group)
+    subst (λ (s : Sheet). HasRows s.rows c.args.group.now) (sym c.deref-sheet.ensures) (group_rows c.args.market.now.sheet.value.rows c.args.market.now.groups c.requires.market.groups c.args.group.now c.requires.group)
 
 pub extra-requires-clause-rule : goal.extra-requires-clause-rule
 extra-requires-clause-rule c =
