@@ -2,7 +2,7 @@
 use Rattle.std.proofs.Common.{◌≡◌, ℕ, ℤ, ◌+◌, ◌≤◌, Bool, List, slice_get, Option, Some, None, IsBitSet, Result, OnOk, refl, sym, ap, subst, ◌∙◌, arith}
 use Rattle.cheap_moves.specs.declared.component.Component.{Component}
 use Rattle.cheap_moves.specs.declared.component.Flown.{Flown}
-use Rattle.cheap_moves.specs.Making.{IsComponent, IsComponentMove, IsGroupMove, IsOver, IsPieceOver, IsReadOver}
+use Rattle.cheap_moves.specs.Making.{IsComponent, IsComponentMove, IsGroupMove, IsOver, IsPieceOver}
 use Rattle.cheap_moves.specs.Within.{IsWithin}
 use Rattle.cheap_moves.proofs.FareMoves.{row_at}
 use Rattle.component_table.specs.declared.markets.Market.{Market}
@@ -23,7 +23,7 @@ use Rattle.open_unit.specs.Ranges.{PieceInRanges}
 use Rattle.outlines.specs.Outlines.{Alike}
 use Rattle.outlines.proofs.ByOutline.{tells_all}
 use Rattle.residual_keys.specs.declared.residual.Chosen.{Chosen}
-use Rattle.residual_keys.specs.Gathered.{Adds}
+use Rattle.residual_keys.specs.Gathered.{Adds, IsReadOver}
 use Rattle.residual_keys.specs.Residuals.{State}
 use Rattle.residual_keys.proofs.Adding.{adds_like, adds_none}
 use Rattle.residual_keys.proofs.OneNext.{first_one, last_one}

@@ -16,12 +16,12 @@ use Rattle.fare_law.specs.declared.sheets.SheetRow.{SheetRow}
 use Rattle.fare_law.specs.declared.tickets.Piece.{Piece}
 use Rattle.fare_law.specs.Book.{Book}
 use Rattle.fare_law.specs.Limits.{IsFlight}
-use Rattle.fare_law.specs.Lists.{IsIn, OnFirst, OnLast}
+use Rattle.fare_law.specs.Lists.{IsIn}
 use Rattle.flight_paths.specs.declared.positions.Path.{Path}
 use Rattle.open_unit.specs.Ranges.{PieceInRanges}
 use Rattle.outlines.specs.ByGroups.{OverMarket}
 use Rattle.residual_keys.specs.declared.residual.Chosen.{Chosen}
-use Rattle.residual_keys.specs.Gathered.{AreLegs, IsChosenFiled, IsChosenOn, IsPathOf}
+use Rattle.residual_keys.specs.Gathered.{AreLegs, IsChosenFiled, IsChosenOn, IsPathOf, IsReadOver}
 use Rattle.residual_keys.specs.Residuals.{State}
 use Rattle.residual_keys.specs.Steps.{Leaves}
 
@@ -40,17 +40,6 @@ pub record IsFlown (b : Book) (q : Request) (r : State) (flown : Flown) : Type 0
 pub record IsOver (b : Book) (q : Request) (r : State) (flown : Flown) (reverse : Bool) (m : Market) : Type 0 where
   pub over : OverMarket b q r.at flown.way.path flown.way.flights flown.way.legs flown.classes reverse m.sheet.value m.groups
   pub limits : All IsFlight flown.way.flights
-
--- what units and tickets read of a fare of this row over these flights
-pub record IsReadOver (sale : ℤ) (fs : List Flight) (row : SheetRow) (reverse : Bool) (p : Piece) : Type 0 where
-  pub begins : OnFirst (λ f. (p.begin ≡ f.from) × (p.first_day ≡ f.day)) fs
-  pub ends : OnLast (λ f. (p.end ≡ f.to) × (p.last_day ≡ f.day)) fs
-  pub carrier : p.fare.key.carrier ≡ row.fare.key.carrier
-  pub number : p.fare.rule ≡ row.fare.rule
-  pub kind : p.fare.kind ≡ row.fare.kind
-  pub rule : p.rule ≡ row.rule
-  pub reverse_is : p.reverse ≡ reverse
-  pub sale_is : p.sale ≡ sale
 
 -- the piece of a fare of this row over these flights
 pub record IsPieceOver (sale : ℤ) (fs : List Flight) (row : SheetRow) (reverse : Bool) (p : Piece) : Type 0 where

@@ -1,5 +1,4 @@
 use Rattle.std.proofs.Common.{◌≡◌, ◌≤◌, rules, length, ap, sym, subst, ◌∙◌}
-use Rattle.cheap_moves.specs.Making.{IsReadOver}
 use Rattle.cheap_moves.specs.Within.{IsWithin}
 use Rattle.cheap_moves.proofs.FareMoves.{class_low}
 use Rattle.cheap_moves.proofs.GroupMoves.{component_is, group_done, none_cheap, none_open, none_permitted, rule_within}
@@ -13,6 +12,7 @@ use Rattle.fare_law.specs.Sheets.{Sheet}
 use Rattle.law_lemmas.proofs.EachOne.{each_from}
 use Rattle.law_lemmas.proofs.LawFacts.{low_sum}
 use Rattle.law_lemmas.proofs.Tests.{true_false}
+use Rattle.residual_keys.specs.Gathered.{IsReadOver}
 use Rattle.cheap_moves.proofs.groups.add_group.Goals as goal
 
 pub cheapest-requires : goal.cheapest-requires
