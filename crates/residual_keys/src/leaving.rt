@@ -6,11 +6,12 @@ ghost use Rattle.residual_keys.specs.Kept.{PartKept};
 ghost use Rattle.residual_keys.specs.Steps.{Leaves, left_at};
 
 use crate::open_units::OpenUnits;
-use crate::parts::{begins, part_allows, part_with};
+use crate::parts::{part_allows, part_with};
 use crate::{Next, Residual, TicketPart};
 use fare_law::Role;
 use flight_paths::Position;
 use open_unit::Facts;
+use ticket_order::begins;
 
 /// What a component leaves that leads to a position, or to the end of the journey, in this role and slot.
 /// None exactly where it is no move of the residual: its unit doesn't allow it, the ticket doesn't, or

@@ -1,9 +1,9 @@
 //! What is kept of the whole ticket.
 ghost use Rattle.std.specs.Prelude.{◌≡◌, ◌≤◌, ◌↔◌, IsTrue};
 ghost use Rattle.residual_keys.specs.Kept.{PartKept};
-ghost use Rattle.residual_keys.specs.Residuals.{PartAllows, begins, ends_with, one_more, part_with, with_end};
+ghost use Rattle.residual_keys.specs.Residuals.{PartAllows, ends_with, one_more, part_with, with_end};
 
-use fare_law::{CombineRule, EndOnEnd, Role};
+use fare_law::{CombineRule, EndOnEnd};
 use open_unit::{CarrierMark, Facts};
 
 /// What the fares so far ask of the whole ticket.
@@ -14,13 +14,6 @@ pub struct TicketPart {
     /// One carrier asked 1, one unit asked 2, added.
     pub ends: u8,
     pub carrier: CarrierMark,
-}
-
-/// Whether a component in this role begins a unit.
-pub fn begins(role: Role) -> bool
-    ensures { result ≡ begins role }
-{
-    matches!(role, Role::Alone | Role::Opens)
 }
 
 /// The ticket part with one more component, which begins a unit or not.

@@ -14,6 +14,7 @@ mod tickets;
 pub use decoding::moves_of_code;
 pub use keys::cmp_key;
 pub use laws::{codes_tell, lawful_tickets, order_laws};
+pub use numbering::begins;
 pub use numbers::{code, move_code};
 pub use roles::moves_of;
 pub use tickets::ticket_of;

@@ -43,8 +43,8 @@ fn read_labels(moves: &[Move]) -> Option<ArrayVec<u8, 18>>
     Some(labels)
 }
 
-/// Whether a role begins a unit.
-fn begins(role: Role) -> bool
+/// Whether a component in this role begins a unit.
+pub fn begins(role: Role) -> bool
     ensures { result ≡ begins role }
 {
     matches!(role, Role::Alone | Role::Opens)
