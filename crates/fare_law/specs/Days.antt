@@ -1,10 +1,11 @@
 -- Days and weekdays.
 use Rattle.std.specs.Prelude.{ℕ, ℤ, pos, neg_ℤ, nat_abs, ◌+◌, ◌-◌, ◌%◌, ◌<◌, ◌≤ℤ◌, ◌+ℤ◌, List, Any}
 use Rattle.fare_law.specs.declared.rules.DayRange.{DayRange}
+use Rattle.fare_law.specs.declared.limits.TheConstants.{FIRST_DAY, LAST_DAY}
 
 -- the days from 2000-01-01 to 2099-12-31
 abbrev pub IsCalendarDay : ℤ → Type 0
-IsCalendarDay day = (pos 10957 ≤ℤ day) × (day ≤ℤ pos 47481)
+IsCalendarDay day = (FIRST_DAY ≤ℤ day) × (day ≤ℤ LAST_DAY)
 
 -- minutes since 1970-01-01 00:00 in universal time, far enough for each flight of these days
 abbrev pub IsInstant : ℤ → Type 0

@@ -5,6 +5,7 @@ use Rattle.fare_law.specs.declared.fares.Fare.{Fare}
 use Rattle.fare_law.specs.declared.fares.FareKey.{FareKey}
 use Rattle.fare_law.specs.declared.filings.SeatKey.{SeatKey}
 use Rattle.fare_law.specs.declared.flights.Flight.{Flight}
+use Rattle.fare_law.specs.declared.limits.TheConstants.{MOST_SLICES, MOST_PASSENGERS, MOST_TICKETS, MOST_WINDOW_DAYS}
 use Rattle.fare_law.specs.declared.names.Place.{Place}
 use Rattle.fare_law.specs.declared.requests.Request.{Request}
 use Rattle.fare_law.specs.declared.requests.Slice.{Slice}
@@ -103,7 +104,7 @@ pub record IsSlice (s : Slice) : Type 0 where
   pub from : IsPlace s.from
   pub to : IsPlace s.to
   pub first : IsCalendarDay s.first
-  pub days : IsInRange 1 7 s.days
+  pub days : IsInRange 1 MOST_WINDOW_DAYS s.days
 
 abbrev pub EndsDiffer : Slice → Type 0
 EndsDiffer s = s.from ≢ s.to
@@ -111,8 +112,8 @@ EndsDiffer s = s.from ≢ s.to
 -- a request within its limits
 pub record IsRequest (q : Request) : Type 0 where
   pub sale : IsCalendarDay q.sale
-  pub party : IsInRange 1 9 q.party
-  pub best : IsInRange 1 1000 q.best
-  pub count : IsInRange 1 6 (length q.slices)
+  pub party : IsInRange 1 MOST_PASSENGERS q.party
+  pub best : IsInRange 1 MOST_TICKETS q.best
+  pub count : IsInRange 1 MOST_SLICES (length q.slices)
   pub windows : Each IsSlice q.slices
   pub departs : Each EndsDiffer q.slices

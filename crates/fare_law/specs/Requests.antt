@@ -1,6 +1,7 @@
 -- Which requests are refused, and for what reason.
-use Rattle.std.specs.Prelude.{ℕ, ℤ, pos, Bool, true, false, not, nat_le, int_le, ◌&&◌, List, length, map, Option, Some, None}
+use Rattle.std.specs.Prelude.{ℕ, ℤ, Bool, true, false, not, nat_le, int_le, ◌&&◌, List, length, map, Option, Some, None}
 use Rattle.std.specs.List.{list_all, list_any}
+use Rattle.fare_law.specs.declared.limits.TheConstants.{FIRST_DAY, LAST_DAY, MOST_SLICES, MOST_PASSENGERS, MOST_TICKETS, MOST_WINDOW_DAYS}
 use Rattle.fare_law.specs.declared.names.Place.{Place}
 use Rattle.fare_law.specs.declared.requests.Request.{Request}
 use Rattle.fare_law.specs.declared.requests.Slice.{Slice}
@@ -14,11 +15,11 @@ within low high n = nat_le low n && nat_le n high
 
 -- a day from 2000-01-01 to 2099-12-31
 abbrev pub in_century : ℤ → Bool
-in_century day = int_le (pos 10957) day && int_le day (pos 47481)
+in_century day = int_le FIRST_DAY day && int_le day LAST_DAY
 
 -- a window of 1 to 7 days
 abbrev pub has_window : Slice → Bool
-has_window s = in_century s.first && within 1 7 s.days
+has_window s = in_century s.first && within 1 MOST_WINDOW_DAYS s.days
 
 -- the slice ends elsewhere than it begins
 abbrev pub departs : Slice → Bool
@@ -38,9 +39,9 @@ required false why next = Some why
 -- the first reason that the numbers and names of the request give, and else what comes after them
 abbrev pub by_limits : Request → Option Why → Option Why
 by_limits q next =
-    required (within 1 6 (length q.slices)) Slices
-    (required (within 1 9 q.party) Party
-    (required (within 1 1000 q.best) Best
+    required (within 1 MOST_SLICES (length q.slices)) Slices
+    (required (within 1 MOST_PASSENGERS q.party) Party
+    (required (within 1 MOST_TICKETS q.best) Best
     (required (in_century q.sale && list_all has_window q.slices) Window
     (required (list_all departs q.slices) SamePlace next))))
 

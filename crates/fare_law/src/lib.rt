@@ -9,6 +9,7 @@ mod filings;
 mod flights;
 mod gate;
 mod laws;
+mod limits;
 mod list;
 mod market;
 mod mem;
@@ -27,6 +28,11 @@ pub use filings::{Action, BookWhy, Filing, Refused, SeatKey};
 pub use flights::Flight;
 pub use gate::{Gate, NoGate};
 pub use laws::requests_are_judged;
+pub use limits::{
+    CODE_NUMBERS, CODE_NUMBERS_OF_A_MOVE, FIRST_DAY, LAST_DAY, MOST_COMPONENTS,
+    MOST_COMPONENTS_OF_A_SLICE, MOST_FLIGHTS, MOST_FLIGHTS_OF_A_COMPONENT, MOST_PASSENGERS,
+    MOST_PRICE, MOST_SLICES, MOST_TICKETS, MOST_WINDOW_DAYS, PRICES_OF_A_COMPONENT,
+};
 pub use list::List;
 pub use market::{MarketSheet, OfferKey};
 pub use mem::Mem;

@@ -1,7 +1,7 @@
 //! Moves of a search, and codes.
 ghost use Rattle.std.specs.Prelude.{◌≡◌};
 
-use crate::{ArrayVec, Basis, Carrier};
+use crate::{ArrayVec, Basis, CODE_NUMBERS, Carrier, MOST_FLIGHTS_OF_A_COMPONENT};
 
 /// The part of a component in its unit, numbered 0 to 3.
 #[derive(Clone, Copy, Default, PartialEq, Eq, PartialOrd, Ord, Hash, Debug)]
@@ -17,7 +17,7 @@ pub enum Role {
 #[derive(Default, PartialEq, Eq, Debug, Drop)]
 pub struct Move {
     /// Numbers of flights of the timetable.
-    pub flights: ArrayVec<u32, 4>,
+    pub flights: ArrayVec<u32, MOST_FLIGHTS_OF_A_COMPONENT>,
     pub carrier: Carrier,
     pub basis: Basis,
     pub role: Role,
@@ -26,7 +26,7 @@ pub struct Move {
 }
 
 /// The numbers by which tickets of equal price are ordered.
-pub type Code = ArrayVec<u64, 162>;
+pub type Code = ArrayVec<u64, CODE_NUMBERS>;
 
 impl Move {
     /// The same move.

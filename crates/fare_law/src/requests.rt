@@ -1,5 +1,5 @@
 //! Requests.
-use crate::{ArrayVec, Place};
+use crate::{ArrayVec, MOST_SLICES, Place};
 
 /// One slice of a journey.
 #[derive(Clone, Copy, Default, PartialEq, Eq, Debug)]
@@ -21,7 +21,7 @@ pub struct Request {
     pub party: u8,
     /// How many tickets at most, 1 to 1,000.
     pub best: u16,
-    pub slices: ArrayVec<Slice, 6>,
+    pub slices: ArrayVec<Slice, MOST_SLICES>,
 }
 
 /// Why a request is refused; of several reasons the first that is listed here.

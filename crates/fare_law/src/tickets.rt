@@ -1,11 +1,11 @@
 //! Tickets, and what the rules read of their components.
-use crate::{ArrayVec, Fare, FareKey, Place, Rule};
+use crate::{ArrayVec, Fare, FareKey, MOST_COMPONENTS, MOST_FLIGHTS_OF_A_COMPONENT, Place, Rule};
 
 /// A fare with the flights that it pays for, and the label of its unit.
 #[derive(Default, PartialEq, Eq, Debug, Drop)]
 pub struct Component {
     /// Numbers of flights of the timetable.
-    pub flights: ArrayVec<u32, 4>,
+    pub flights: ArrayVec<u32, MOST_FLIGHTS_OF_A_COMPONENT>,
     pub fare: FareKey,
     pub unit: u8,
 }
@@ -13,7 +13,7 @@ pub struct Component {
 /// Components in order.
 #[derive(Default, PartialEq, Eq, Debug, Drop)]
 pub struct Ticket {
-    pub components: ArrayVec<Component, 18>,
+    pub components: ArrayVec<Component, MOST_COMPONENTS>,
 }
 
 /// A ticket with its price for one passenger.
