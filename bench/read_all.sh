@@ -17,6 +17,7 @@ rustc -O -o "$copy/peer" "$top/bench/read_all/peer.rs"
 head -c 67108864 /dev/urandom > "$copy/input"
 
 from_file() { "$1" < "$copy/input" > /dev/null; }
+# shellcheck disable=SC2002 # a pipe is what is timed
 from_pipe() { cat "$copy/input" | "$1" > /dev/null; }
 
 # How long one run took, in microseconds.
@@ -29,6 +30,7 @@ taken() {
 ours=$crate/out/read_all_bench
 theirs=$copy/peer
 for program in "$ours" "$theirs"; do
+    # shellcheck disable=SC2094 # both only read it
     "$program" < "$copy/input" | cmp - "$copy/input"
 done
 # The runs of the two take turns, so that both meet the same machine.

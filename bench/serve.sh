@@ -4,8 +4,9 @@
 # time, processor time and memory of one run each are shown; the texts may differ in their versions alone.
 set -euo pipefail
 top=$(cd "$(dirname "$0")/.." && pwd)
+# shellcheck source=bench/survey/program.sh
+source "$top/bench/survey/program.sh"
 peer=$1 case=$2
-program=${LOWFARE:-$top/lowfare}
 folder=$(mktemp -d)
 trap 'rm -r "$folder"' EXIT
 python3 - "$case" > "$folder/case" <<'MAKE'

@@ -1,45 +1,90 @@
 #!/usr/bin/env bash
-# Tries the edits that the prover must refuse, those in edits/CRATE and in the crate's own must-fail folder; the gate tries the
-# latter alone. Ends with status 0 where each is refused.
+# Tries the edits that the prover must refuse, those in edits/CRATE and in the crate's own must-fail folder (the gate tries the
+# latter alone), and writes what becomes of each to edits/VERDICTS as soon as it is known. An edit whose verdict is of its crate
+# as it stands isn't tried again, so a run that was cut off goes on where it was. Ends with status 0 where each that was tried is
+# refused for what its crate says.
 #
-#   bash edits/try.sh           of all crates
-#   bash edits/try.sh COMMIT    of the crates whose files or edits differ from that commit's
-#   bash edits/try.sh CRATE..   of these crates
+#   edits/try.sh [--anew]           of all crates, the lowest first
+#   edits/try.sh [--anew] COMMIT    of the crates whose files or edits differ from that commit's
+#   edits/try.sh [--anew] CRATE..   of these crates
 #
-# Each takes ten to thirty seconds, and the first of a crate a whole check where none is kept.
+# With --anew those are tried too whose verdict is up to date. Each takes ten to thirty seconds, and the first of a crate a whole
+# check where none is kept. It works at the lowest priority and with one job, or as many as RT_JOBS says, over a copy of the files
+# as they stand when it starts: so it can run for a night beside other work.
 set -euo pipefail
-cd "$(dirname "$(readlink -f "${BASH_SOURCE[0]}")")/.."
-
-# The crates that have edits, of those that stdin names.
-with_edits() {
-  sort -u | while IFS= read -r name; do
-    if compgen -G "edits/$name/*.edit" >/dev/null || compgen -G "crates/$name/must-fail/*.edit" >/dev/null; then echo "$name"; fi
-  done
-}
+top=$(dirname "$(dirname "$(readlink -f "${BASH_SOURCE[0]}")")")
+cd "$top"
+renice -n 19 $$ >/dev/null 2>&1 || true
+export RT_JOBS=${RT_JOBS:-1}
+anew=()
+if [ "${1:-}" = --anew ]; then
+  anew=(--anew)
+  shift
+fi
 
 # The crates that are named in paths such as crates/NAME/src/lib.rt and edits/NAME/one.edit.
 crates_of() {
-  sed -nE 's,^(crates|edits)/([^/]+)/.*,\2,p'
+  sed -nE 's,^(crates|edits)/([^/]+)/.*,\2,p' | sort -u
 }
 
 if [ $# -eq 0 ]; then
-  mapfile -t names < <(git ls-files crates edits | crates_of | with_edits)
+  mapfile -t names < <(find crates edits -path '*/out' -prune -o -name '*.edit' -print | crates_of)
 elif [ -d "crates/$1" ]; then
-  mapfile -t names < <(printf '%s\n' "$@" | with_edits)
+  names=("$@")
 else
   commit=$(git rev-parse --verify "$1^{commit}")
-  mapfile -t names < <({ git diff --name-only "$commit" -- crates edits; git ls-files --others --exclude-standard crates edits; } | crates_of | with_edits)
-fi
-if [ ${#names[@]} -eq 0 ]; then
-  echo 'no crate to try has edits'
-  exit 0
+  mapfile -t names < <({ git diff --name-only "$commit" -- crates edits; git ls-files --others --exclude-standard crates edits; } | crates_of)
 fi
 copy=$(mktemp -d)
 trap 'rm -rf "$copy"' EXIT
-tar --exclude='crates/*/out' -cf - crates crates.txt HANDLES | tar -xf - -C "$copy"
-for name in "${names[@]}"; do
-  mkdir -p "$copy/crates/$name/must-fail"
-  find "edits/$name" -name '*.edit' -exec cp {} "$copy/crates/$name/must-fail" \; 2>/dev/null || true
+tar --exclude='crates/*/out' -cf - crates crates.txt HANDLES edits | tar -xf - -C "$copy"
+mapfile -t batches < <(python3 edits/verdicts.py due "$copy" ${anew[@]+"${anew[@]}"} ${names[@]+"${names[@]}"})
+if [ ${#batches[@]} -eq 0 ]; then
+  echo 'the verdict of each edit is of its crate as it stands'
+  exit 0
+fi
+echo "$(for batch in "${batches[@]}"; do wc -w <<<"$batch"; done | awk '{ n += $1 - 1 } END { print n }') edits to try"
+
+# So that each is tried beside no other than those of its batch.
+for folder in "$copy"/crates/*/must-fail; do
+  [ -d "$folder" ] || continue
+  crate=$(basename "$(dirname "$folder")")
+  mkdir -p "$copy/edits/$crate"
+  mv "$folder"/*.edit "$copy/edits/$crate"
+  rm -r "$folder"
 done
-cd "$copy"
-rt must-fail "${names[@]}"
+
+# Whether the crate is proved as it stands: over one that isn't, each edit would seem refused. The edits begin with what is kept here.
+is_proved() {
+  if (cd "$copy/crates/$1" && rt check --jobs "$RT_JOBS") >"$copy/checked" 2>&1; then return; fi
+  tail -n 20 "$copy/checked"
+  echo "$1: it isn't proved as it stands, so none of its edits is tried"
+  return 1
+}
+
+# Tries some edits of a crate.
+try_batch() {
+  local crate=$1 edit folder=$copy/crates/$1/must-fail
+  shift
+  rm -rf "$folder"
+  mkdir "$folder"
+  for edit in "$@"; do cp "$copy/edits/$crate/$edit.edit" "$folder"; done
+  (cd "$copy" && rt must-fail "$crate" ${anew[@]+"${anew[@]}"}) >"$copy/said" 2>&1 || true
+  python3 edits/verdicts.py record . "$copy" "$crate" "$copy/said" || return
+  if [ "$(grep -cE '^rt: must-fail [^ ]+: (refused|NOT REFUSED|BAD EDIT)' "$copy/said")" -ne $# ]; then
+    echo "$crate: not each of its edits was tried: $(grep -E '^rt: .*NOT TRIED' "$copy/said" || tail -n 3 "$copy/said")"
+    return 1
+  fi
+}
+
+status=0 crate='' proved=''
+for batch in "${batches[@]}"; do
+  read -ra words <<<"$batch"
+  if [ "${words[0]}" != "$crate" ]; then
+    crate=${words[0]}
+    proved=1
+    is_proved "$crate" || proved=''
+  fi
+  if [ -z "$proved" ] || ! try_batch "${words[@]}"; then status=1; fi
+done
+exit "$status"
