@@ -1,0 +1,91 @@
+"""What the commands on answers share: reading their files, and one line for each thing that goes wrong.
+
+| Status | Comes where |
+|---|---|
+| 0 | it was done |
+| 1 | a file can't be read, isn't of its form, is refused, or doesn't belong to the other one |
+| 2 | the words are not those of the command |
+| 7 | `lowfare-audit` alone: the certificate fails a check, or the printed tickets aren't its answers |
+| 10 | the proved program can't be run |
+"""
+import os
+import pathlib
+import sys
+
+from lowfare_tools import answer, program
+from lowfare_tools.book import Book
+from lowfare_tools.case import read_case
+
+REFUSALS = "docs/FORMATS.md#refusals"
+
+
+class Trouble(Exception):
+    """Why a command can't do its work, in one line with the page that says more."""
+
+
+def read_bytes(name):
+    """The bytes of a file, or of standard input where the name is `-`."""
+    try:
+        data = sys.stdin.buffer.read() if name == "-" else pathlib.Path(name).read_bytes()
+    except OSError as bad:
+        raise Trouble(f"{name} can't be read: {bad.strerror}; see docs/VIEWS.md#statuses") from None
+    return data
+
+
+def read_answer(name, data):
+    """What the program printed; a refusal or too large is trouble, for there is nothing to show."""
+    try:
+        found = answer.read(data.decode("utf-8", "replace"))
+    except answer.NotAnAnswer as bad:
+        raise Trouble(f"{name} isn't what the program prints: {bad}; see docs/FORMATS.md#the-answer") from None
+    if isinstance(found, answer.Refused):
+        raise Trouble(f"{name} says that the case was refused at line {found.line}, {found.reason}; see {REFUSALS}")
+    if isinstance(found, answer.TooLarge):
+        raise Trouble(f"{name} says that the search was too large: ask with a greater --budget; see docs/FORMATS.md#statuses")
+    return found
+
+
+def sound_case(name, data):
+    """A case that could be read whole."""
+    case = read_case(data)
+    if case.faults:
+        fault = case.faults[0]
+        raise Trouble(f"{name} is no case: line {fault.line}: {fault.reason}; see {REFUSALS}")
+    if case.request is None or "end" not in case.headers:
+        raise Trouble(f"{name} is no case: {'#end' if case.request else 'a request'} is missing; see {REFUSALS}")
+    return case
+
+
+def book_of(name, case, version):
+    """The book of a case at a version."""
+    if version > len(case.filings):
+        count = len(case.filings)
+        raise Trouble(f"{name} has {count} filings, and version {version} was asked for; see docs/AUDIT.md#what-can-differ")
+    return Book(case, version)
+
+
+def out(text):
+    """Writes a text to standard output."""
+    sys.stdout.write(text)
+    sys.stdout.flush()
+
+
+def with_colour():
+    """Whether standard output is a terminal that takes colour."""
+    return sys.stdout.isatty() and "NO_COLOR" not in os.environ
+
+
+def main(name, work):
+    """Runs a command. What goes wrong is one line on standard error; a reader of our output who leaves ends us in silence."""
+    try:
+        status = work(sys.argv[1:])
+    except Trouble as bad:
+        print(f"{name}: {bad}", file=sys.stderr)
+        status = 1
+    except program.CannotRun as bad:
+        print(f"{name}: {bad}", file=sys.stderr)
+        status = program.NOT_PROVED
+    except BrokenPipeError:
+        os.dup2(os.open(os.devnull, os.O_WRONLY), sys.stdout.fileno())
+        status = 0
+    sys.exit(status)
