@@ -2,6 +2,7 @@
 or that a book would refuse is kept as a Fault and passed over.
 """
 from lowfare_tools.case import (
+    MOST_AMOUNT,
     NO_RULE,
     BadField,
     Fare,
@@ -16,7 +17,6 @@ from lowfare_tools.case import (
     whole,
 )
 
-MOST_AMOUNT = 1_000_000_000
 CATEGORIES = ("cat2", "cat3", "cat4", "cat5", "cat6", "cat7", "cat8", "cat9", "cat10", "cat12", "cat14")
 
 

@@ -11,6 +11,7 @@ from datetime import date, timedelta
 
 HEADERS = ("places", "flights", "seats", "filings", "later", "request", "script", "ticket", "certificate", "end")
 ONE_DAY = 1440
+MOST_AMOUNT = 1_000_000_000
 EPOCH = date(1970, 1, 1).toordinal()
 BOM = b"\xef\xbb\xbf"
 
