@@ -80,9 +80,14 @@ def put_fare(book, action):
     book.fares[fare.key] = fare
 
 
+def drop(live, key, what):
+    if live.pop(key, None) is None:
+        raise BadField(0, f"it drops {what} that isn't there")
+
+
 def drop_fare(book, action):
     at = action.members
-    del book.fares[at["carrier"], at["from"], at["to"], at["basis"]]
+    drop(book.fares, (at["carrier"], at["from"], at["to"], at["basis"]), "a fare")
 
 
 def put_rule(book, action):
@@ -94,7 +99,7 @@ def put_rule(book, action):
 
 def drop_rule(book, action):
     at = action.members
-    del book.rules[at["carrier"], at["rule"]]
+    drop(book.rules, (at["carrier"], at["rule"]), "a rule")
 
 
 def seat_key(at):
@@ -108,7 +113,7 @@ def put_seats(book, action):
 
 
 def drop_seats(book, action):
-    del book.seats[seat_key(action.members)]
+    drop(book.seats, seat_key(action.members), "seats")
 
 
 ACTIONS = {

@@ -271,7 +271,7 @@ class Reader:
     def element(self, line, text):
         if not self.legs or self.legs[-1].key != text[1:14]:
             raise BadField(6, "it belongs to no leg before it")
-        self.legs[-1].elements[text[30:33]] = text[39:194].strip()
+        self.legs[-1].elements[text[30:33]] = " ".join(text[39:194].split())
         self.report.took(self.name)
 
     def trailer(self, line, text):
