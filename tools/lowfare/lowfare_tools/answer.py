@@ -3,7 +3,6 @@ refusal. The forms are those of docs/FORMATS.md.
 
 Reading is strict: a text that isn't one of these raises `NotAnAnswer` with the first line at fault.
 """
-import json
 import re
 from dataclasses import dataclass
 from datetime import date
@@ -167,7 +166,7 @@ class TooLarge:
     """The search reaches more residuals than its budget."""
 
 
-NUMBER = r"0|[1-9][0-9]*"
+NUMBER = r"0|[1-9][0-9]{0,18}"
 CARRIER = r"[A-Z0-9]{2}"
 PLACE = r"[A-Z]{3}"
 BASIS = r"[A-Z0-9]{1,8}"
@@ -183,7 +182,7 @@ def form(text):
 TICKET = form("ticket N price N")
 COMPONENT = form(f"component N unit N ({'|'.join(KINDS)}) (forward|reverse) C P P B N")
 FLIGHT = form("flight C N D P P")
-CELL = form("cell D D (none|too large|0|[1-9][0-9]*)")
+CELL = re.compile(rf"cell ({DAY}) ({DAY}) (none|too large|{NUMBER})")
 BREACH = form("breach N component N unit N category N")
 RESIDUAL = re.compile(rf"row ([0-9]+ [012] [A-Z]{{3}} [^ ]+ [0-9]+ [0-9]+ [^ ]+ [^ ]+) (-|{NUMBER})")
 
@@ -204,6 +203,10 @@ class Lines:
 
     def fault(self, due):
         return NotAnAnswer(self.at + 1, due)
+
+    def fault_before(self, due):
+        """The fault of the line that was taken last."""
+        return NotAnAnswer(self.at, due)
 
     def take(self, pattern, due):
         """The groups of the next line, which has to match whole."""
@@ -226,8 +229,7 @@ def day_of(lines, text):
     try:
         return date.fromisoformat(text)
     except ValueError:
-        lines.at -= 1
-        raise lines.fault("a line with a day of the calendar") from None
+        raise lines.fault_before("a line with a day of the calendar") from None
 
 
 def read_flight(lines):
@@ -238,8 +240,7 @@ def read_flight(lines):
 def read_component(lines, number):
     at, unit, kind, direction, *fare, price = lines.take(COMPONENT, f"component {number}")
     if int(at) != number:
-        lines.at -= 1
-        raise lines.fault(f"component {number}")
+        raise lines.fault_before(f"component {number}")
     flights = [read_flight(lines)]
     while lines.begins("flight"):
         flights.append(read_flight(lines))
@@ -249,8 +250,7 @@ def read_component(lines, number):
 def read_ticket(lines, number):
     at, price = lines.take(TICKET, f"ticket {number} with its price")
     if int(at) != number:
-        lines.at -= 1
-        raise lines.fault(f"ticket {number} with its price")
+        raise lines.fault_before(f"ticket {number} with its price")
     components = [read_component(lines, 1)]
     while lines.begins("component"):
         components.append(read_component(lines, len(components) + 1))
@@ -273,8 +273,7 @@ def read_move(lines, words):
     except (ValueError, IndexError):
         right = False
     if not right:
-        lines.at -= 1
-        raise lines.fault("an answer's price and moves")
+        raise lines.fault_before("an answer's price and moves")
     del words[: count + 5]
     return move
 
@@ -318,11 +317,18 @@ def read_search(lines):
 
 
 def read_cells(lines, version):
-    outs, backs = lines.take(form("calendar N N"), "`calendar` and the numbers of days")
+    due = "`calendar` and the numbers of days, 1 to 31 each"
+    outs, backs = map(int, lines.take(form("calendar N N"), due))
+    if not (1 <= outs <= 31 and 1 <= backs <= 31):
+        raise lines.fault_before(due)
     cells = []
-    for _ in range(int(outs) * int(backs)):
-        out, back, price = lines.take(CELL, "a cell: a day out, a day back and the least price")
-        cells.append(Cell(day_of(lines, out), day_of(lines, back), int(price) if price.isdecimal() else price))
+    for at in range(outs * backs):
+        due = "a cell: a day out, a day back and the least price, each day out with each day back in order"
+        out, back, price = lines.take(CELL, due)
+        cell = Cell(day_of(lines, out), day_of(lines, back), int(price) if price.isdecimal() else price)
+        cells.append(cell)
+        if cell.out != cells[at - at % backs].out or cell.back != cells[at % backs].back:
+            raise lines.fault_before(due)
     lines.end()
     return Calendar(version, tuple(cells))
 
@@ -363,10 +369,3 @@ def read(text):
     return read_search(lines)
 
 
-def request_members(certificate):
-    """The members of a certificate's request; none where its text isn't JSON."""
-    try:
-        value = json.loads(certificate.request)
-    except ValueError:
-        return {}
-    return value if isinstance(value, dict) else {}

@@ -8,8 +8,10 @@
 | 7 | `lowfare-audit` alone: the certificate fails a check, or the printed tickets aren't its answers |
 | 10 | the proved program can't be run |
 """
+import argparse
 import os
 import pathlib
+import re
 import sys
 
 from lowfare_tools import answer, program
@@ -24,7 +26,9 @@ class Trouble(Exception):
 
 
 def read_bytes(name):
-    """The bytes of a file, or of standard input where the name is `-`."""
+    """The bytes of a file, or of standard input where the name is `-`, which we say that we wait for."""
+    if name == "-" and sys.stdin.isatty():
+        print("waiting for what lowfare printed, on standard input", file=sys.stderr)
     try:
         data = sys.stdin.buffer.read() if name == "-" else pathlib.Path(name).read_bytes()
     except OSError as bad:
@@ -34,6 +38,8 @@ def read_bytes(name):
 
 def read_answer(name, data):
     """What the program printed; a refusal or too large is trouble, for there is nothing to show."""
+    if not data.strip():
+        raise Trouble(f"{name} is empty: did the search end well? see docs/FORMATS.md#statuses")
     try:
         found = answer.read(data.decode("utf-8", "replace"))
     except answer.NotAnAnswer as bad:
@@ -62,6 +68,20 @@ def book_of(name, case, version):
         count = len(case.filings)
         raise Trouble(f"{name} has {count} filings, and version {version} was asked for; see docs/AUDIT.md#what-can-differ")
     return Book(case, version)
+
+
+def number(low, high):
+    """Reads the value of an option that is a whole number in a range."""
+
+    def read(text):
+        if not re.fullmatch(r"0|[1-9][0-9]{0,6}", text) or not low <= int(text) <= high:
+            raise argparse.ArgumentTypeError(f"{text} isn't a whole number from {low} to {high:,}")
+        return int(text)
+
+    return read
+
+
+VERSION = number(0, 1_000_000)
 
 
 def out(text):

@@ -82,14 +82,15 @@ class Timetable:
 
 
 def cut(flights, request):
-    """The flights of each slice: a slice ends with the first arrival at its destination. Flights left over are the last part."""
+    """The flights of each slice: a slice ends with the first arrival at its destination. Flights left over are the last part,
+    and slices without a flight are left out, which a lawful ticket doesn't have."""
     slices, rest = [], list(flights)
     for part in request.slices:
         ends = [at for at, flight in enumerate(rest, 1) if flight.destination == part.destination]
         count = ends[0] if ends else len(rest)
         slices.append(tuple(rest[:count]))
         rest = rest[count:]
-    return tuple(slices) + ((tuple(rest),) if rest else ())
+    return tuple(part for part in (*slices, tuple(rest)) if part)
 
 
 def wait_between(before, after, within_fare, within_slice):

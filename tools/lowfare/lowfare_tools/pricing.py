@@ -4,6 +4,7 @@ docs/LAW.md; nothing here is proved, and the price that counts is the one that t
 from dataclasses import dataclass
 
 from lowfare_tools.case import ONE_DAY
+from lowfare_tools.command import REFUSALS, Trouble
 
 
 @dataclass(frozen=True)
@@ -27,16 +28,23 @@ def fits(entry, flight):
 
 
 def parts_of(fare, rule, flights):
-    """The parts of what a component costs."""
+    """The parts of what a component costs. A rule that isn't of its form, which the program refuses, is trouble."""
+    try:
+        return list(parts(fare, rule, flights))
+    except (KeyError, TypeError, AttributeError):
+        raise Trouble(f"line {rule.line}: rule {rule.number} of {rule.carrier} isn't of its form; see {REFUSALS}") from None
+
+
+def parts(fare, rule, flights):
     half = fare.kind == "R"
-    parts = [Part(f"half of {fare.amount}" if half else "fare", fare.amount // 2 if half else fare.amount)]
+    yield Part(f"half of {fare.amount}" if half else "fare", fare.amount // 2 if half else fare.amount)
     charge = rule.categories.get("cat8", {}).get("charge", 0)
     if charge:
-        parts += [Part(f"stopover at {place}", charge) for place in stopovers(flights)]
+        yield from (Part(f"stopover at {place}", charge) for place in stopovers(flights))
     for flight in flights:
-        entries = [entry for entry in rule.categories.get("cat12", ()) if fits(entry, flight)]
-        parts += [Part(f"surcharge on {flight.carrier} {flight.number}", entry["amount"]) for entry in entries]
-    return parts
+        for entry in rule.categories.get("cat12", ()):
+            if fits(entry, flight):
+                yield Part(f"surcharge on {flight.carrier} {flight.number}", entry["amount"])
 
 
 def price_of(parts):

@@ -3,7 +3,7 @@ import argparse
 import shutil
 import sys
 
-from lowfare_tools import answer, blocks, command, heat_map, matrix, page, plain
+from lowfare_tools import answer, blocks, command, graph, heat_map, matrix, page, plain
 
 NAME = "lowfare-view"
 PIPE_WIDTH = 100
@@ -37,11 +37,20 @@ def view_calendar(given, found, asked):
     return matrix.matrix_text(shown, given.request, found.version, width, lambda cell: pen(plain.GREEN, cell))
 
 
+def view_graph(asked, given, found):
+    if not isinstance(found, answer.Answer) or found.certificate is None:
+        raise command.Trouble("the answer has no certificate to draw; see docs/VIEWS.md#the-graph-of-a-certificate")
+    certificate = found.certificate
+    return graph.dot_text(certificate, given, command.book_of(asked.case, given, certificate.version))
+
+
 def work(words):
     asked = words_of(words)
     given = command.sound_case(asked.case, command.read_bytes(asked.case))
     found = command.read_answer("the answer", command.read_bytes("-"))
-    if isinstance(found, answer.Calendar):
+    if asked.dot:
+        text = view_graph(asked, given, found)
+    elif isinstance(found, answer.Calendar):
         text = view_calendar(given, found, asked)
     elif isinstance(found, answer.Answer):
         text = view_tickets(given, found, asked)
