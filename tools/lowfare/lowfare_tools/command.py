@@ -17,6 +17,7 @@ import sys
 from lowfare_tools import answer, program
 from lowfare_tools.book import Book
 from lowfare_tools.case import read_case
+from lowfare_tools.wording import counted
 
 REFUSALS = "docs/FORMATS.md#refusals"
 
@@ -65,8 +66,8 @@ def sound_case(name, data):
 def book_of(name, case, version):
     """The book of a case at a version."""
     if version > len(case.filings):
-        count = len(case.filings)
-        raise Trouble(f"{name} has {count} filings, and version {version} was asked for; see docs/AUDIT.md#what-can-differ")
+        filings = counted(len(case.filings), "filing")
+        raise Trouble(f"{name} has {filings}, and version {version} was asked for; see docs/AUDIT.md#what-can-differ")
     return Book(case, version)
 
 
@@ -95,17 +96,22 @@ def with_colour():
     return sys.stdout.isatty() and "NO_COLOR" not in os.environ
 
 
-def main(name, work):
-    """Runs a command. What goes wrong is one line on standard error; a reader of our output who leaves ends us in silence."""
+def run(name, work, words):
+    """Runs a command and gives its status. What goes wrong is one line on standard error; a reader of our output who leaves ends
+    us in silence."""
     try:
-        status = work(sys.argv[1:])
+        return work(words)
     except Trouble as bad:
         print(f"{name}: {bad}", file=sys.stderr)
-        status = 1
+        return 1
     except program.CannotRun as bad:
         print(f"{name}: {bad}", file=sys.stderr)
-        status = program.NOT_PROVED
+        return program.NOT_PROVED
     except BrokenPipeError:
         os.dup2(os.open(os.devnull, os.O_WRONLY), sys.stdout.fileno())
-        status = 0
-    sys.exit(status)
+        return 0
+
+
+def main(name, work):
+    """Runs a command with the words that it was called with."""
+    sys.exit(run(name, work, sys.argv[1:]))
