@@ -24,34 +24,47 @@ class Trials:
     more: bool
 
 
+def run_of(market, slices):
+    """The first slices of these, one after another without a gap, that lead between the places of a market, as the places of the
+    first and behind the last; None where there are none."""
+    for begin in range(len(slices)):
+        for end in range(begin + 1, len(slices) + 1):
+            run = slices[begin:end]
+            if any(one.destination != other.origin for one, other in zip(run, run[1:])):
+                break
+            if (run[0].origin, run[-1].destination) == market:
+                return begin, end
+    return None
+
+
 def slices_for(fare, request):
-    """The slice that the fare's way out is asked for, and the one for its way back or None: the first of the request between
-    the fare's places, and the first later one the other way. Where there is none, its own market on the days of the first and of
-    the last slice."""
+    """The slices that the fare's way out is asked for, and those for its way back or none: the first of the request that lead
+    between the fare's places, and the first later ones the other way. Where there are none, its own market on the days of the first
+    and of the last slice."""
     market = (fare.origin, fare.destination)
-    ends = [(part.origin, part.destination) for part in request.slices]
-    if market in ends:
-        at = ends.index(market)
-        later = (part for part, end in zip(request.slices[at + 1 :], ends[at + 1 :]) if end == market[::-1])
-        return request.slices[at], next(later, None)
+    run = run_of(market, request.slices)
+    if run:
+        later = request.slices[run[1] :]
+        back = run_of(market[::-1], later)
+        return request.slices[run[0] : run[1]], later[back[0] : back[1]] if back else ()
     first, last = request.slices[0], request.slices[-1]
-    out = Slice(*market, first.first, first.days)
-    return out, Slice(*market[::-1], last.first, last.days) if len(request.slices) > 1 else None
+    back = (Slice(*market[::-1], last.first, last.days),) if len(request.slices) > 1 else ()
+    return (Slice(*market, first.first, first.days),), back
 
 
 def trials_of(fare, rule, request, ways):
     """The trials of a fare: alone on each way out where its kind allows it or there is no way back, and, but for kind S, out and
-    back."""
+    back. No fare pays for a way that begins with another carrier's flight, or has one where its rule wants its own alone."""
     out, back = slices_for(fare, request)
     whole_way = rule.categories.get("cat9", {}).get("online", False)
-    outs, more = ways.of(out, fare.carrier, whole_way)
+    outs, more = ways.through(out, fare.carrier, whole_way)
     trials = []
-    if fare.kind != "R" or back is None:
-        alone = replace(request, slices=(out,))
+    if fare.kind != "R" or not back:
+        alone = replace(request, slices=out)
         trials += [Trial((way,), alone) for way in outs]
-    if fare.kind != "S" and back is not None:
-        backs, more_back = ways.of(back, fare.carrier, whole_way)
-        both = replace(request, slices=(out, back))
+    if fare.kind != "S" and back:
+        backs, more_back = ways.through(back, fare.carrier, whole_way)
+        both = replace(request, slices=out + back)
         trials += [Trial(pair, both) for pair in ways.pairs(outs, backs)]
         more = more or more_back
     return Trials(tuple(trials), more)
@@ -76,11 +89,10 @@ def numbered(components):
     return tuple(replace(part, unit=labels[part.unit]) for part in components)
 
 
-def parts_beside(ticket, request, at, timetable):
-    """The components of a ticket before the slice at this place and after it; None where a component or a unit reaches into it."""
+def parts_beside(ticket, request, run, timetable):
+    """The components of a ticket before a run of slices and after it; None where a component or a unit reaches into it."""
     slices = journey.cut([timetable.find(named) for named in ticket.flights], request)
-    begin = sum(map(len, slices[:at]))
-    end = begin + len(slices[at])
+    begin, end = (sum(map(len, slices[:at])) for at in run)
     before, inside, after, flown = [], [], [], 0
     for component in ticket.components:
         first, flown = flown, flown + len(component.flights)
@@ -94,13 +106,14 @@ def parts_beside(ticket, request, at, timetable):
 
 def beside(fare, trial, request, tickets, timetable):
     """The whole ticket of a trial on one way: with all that an answer has for the other slices. It comes with the answer's number;
-    None where the way is no slice of several, or each answer has units that reach into it."""
-    part = trial.request.slices[0]
-    if len(trial.ways) != 1 or part not in request.slices or len(request.slices) == 1:
+    None where there are no other slices, or each answer has units that reach into the way's."""
+    part = trial.request.slices
+    places = (at for at in range(len(request.slices)) if request.slices[at : at + len(part)] == part)
+    at = next(places, None)
+    if len(trial.ways) != 1 or at is None or part == request.slices:
         return None
-    at = request.slices.index(part)
     for number, ticket in enumerate(tickets, 1):
-        parts = parts_beside(ticket, request, at, timetable)
+        parts = parts_beside(ticket, request, (at, at + len(part)), timetable)
         if parts is not None:
             own = component_of(fare, trial.ways[0], 0, "one_way")
             return number, Ticket(0, numbered([*parts[0], own, *parts[1]]))

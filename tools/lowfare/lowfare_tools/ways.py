@@ -4,11 +4,12 @@ from collections import defaultdict
 from lowfare_tools.case import ONE_DAY
 
 MOST_FLIGHTS = 3
+MOST_IN_COMPONENT = 4
 MOST_WAYS = 200
 
 
 class Ways:
-    """Ways over a timetable. The first flight is of the carrier that is asked, since no fare pays for another one first."""
+    """Ways over a timetable."""
 
     def __init__(self, given, flights):
         self.connect = {place.code: place.connect for place in given.places}
@@ -25,27 +26,42 @@ class Ways:
             if least <= flight.leaves <= last.lands + ONE_DAY and flight.destination not in called:
                 yield (*path, flight)
 
-    def of(self, part, carrier, whole_way):
-        """The ways of a slice that begin with this carrier, or are of it alone where `whole_way`: those with the fewest flights
-        first, then by departure; at most `MOST_WAYS`, and whether there are more."""
-        days = range(part.first.toordinal(), part.last.toordinal() + 1)
-        first = (flight for flight in self.from_place[part.origin] if flight.carrier == carrier)
-        paths = [(flight,) for flight in first if flight.day.toordinal() in days]
+    def of(self, part, first, every):
+        """The ways of a slice whose first flight, or whose every flight, is of a carrier, where one is named: those with the
+        fewest flights first, then by departure; at most one more than `MOST_WAYS`."""
+        on_days = (flight for flight in self.from_place[part.origin] if part.first <= flight.day <= part.last)
+        paths = [(flight,) for flight in on_days if first in (None, flight.carrier)]
         found = []
         for _ in range(MOST_FLIGHTS):
             found += [path for path in paths if path[-1].destination == part.destination]
             if len(found) > MOST_WAYS:
                 break
             going = (path for path in paths if path[-1].destination != part.destination)
-            paths = [longer for path in going for longer in self.onward(path) if not whole_way or longer[-1].carrier == carrier]
+            paths = [longer for path in going for longer in self.onward(path) if every in (None, longer[-1].carrier)]
+        return found[: MOST_WAYS + 1]
+
+    def through(self, parts, carrier, whole_way):
+        """The ways through slices one after another, as one component of this carrier's: at most `MOST_WAYS`, and whether there
+        are more."""
+        every, found = carrier if whole_way else None, [()]
+        for part in parts:
+            ways = self.of(part, every if found[0] else carrier, every)
+            joined = (path + way for path in found for way in ways if self.follows(path, way))
+            found = sorted((path for path in joined if len(path) <= MOST_IN_COMPONENT), key=len)[: MOST_WAYS + 1]
+            if not found:
+                break
         return found[:MOST_WAYS], len(found) > MOST_WAYS
+
+    def follows(self, path, way):
+        """Whether a way leaves late enough after a path of the slice before."""
+        return not path or way[0].leaves >= path[-1].lands + self.connect.get(way[0].origin, 0)
 
     def pairs(self, outs, backs):
         """A way out with each way back that leaves late enough after it, the fewest flights first, then by departure."""
         pairs = []
         for out in outs:
             for back in backs:
-                if back[0].leaves >= out[-1].lands + self.connect.get(back[0].origin, 0):
+                if self.follows(out, back):
                     pairs.append((out, back))
         pairs.sort(key=lambda pair: (len(pair[0]) + len(pair[1]), pair[0][0].leaves, pair[1][0].leaves))
         return pairs

@@ -118,9 +118,10 @@ def head_text(fare, found):
 
 
 def no_flights_text(fare, request):
-    part = trials.slices_for(fare, request)[0]
-    days = f"on {part.first}" if part.days == 1 else f"from {part.first} to {part.last}"
-    return f"There is nothing to try: {fare.carrier} has no way from {part.origin} to {part.destination} {days}, or none with a way back."
+    out, _ = trials.slices_for(fare, request)
+    days = f"on {out[0].first}" if out[0].days == 1 else f"from {out[0].first} to {out[0].last}"
+    lacking = f"no way from {fare.origin} to {fare.destination} {days} begins with a flight of {fare.carrier}, as its fares want"
+    return f"There is nothing to try: {lacking}, or none with a way back."
 
 
 def fare_lines(judge, fare, most):
