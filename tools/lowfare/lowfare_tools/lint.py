@@ -8,7 +8,9 @@ from lowfare_tools.case import expand, read_case
 from lowfare_tools.command import out, read_bytes
 from lowfare_tools.findings import NAMES, Finding
 from lowfare_tools.refusals import explained
+from lowfare_tools.report import printable
 
+SECTIONS = ("places", "flights", "seats", "filings", "request", "end")
 ABOUT = """Names what is lawful in a case and surely not meant, one finding a line: FILE:LINE: NAME: what it is. The status is 0 where
 there is none, else 1. The names stay as they are; --list shows them."""
 
@@ -20,8 +22,9 @@ def of_form(case, data):
         yield Finding(len(case.lines), "no-last-feed", "the last line has no line feed: was the file cut?")
     for fault in case.faults:
         yield Finding(fault.line, "unreadable", fault.reason)
-    if "end" not in case.headers:
-        yield Finding(len(case.lines) + 1, "unreadable", "the case ends without #end")
+    for header in SECTIONS:
+        if header not in case.headers:
+            yield Finding(len(case.lines) + 1, "unreadable", f"the case ends without #{header}")
 
 
 def of_request(case, request, flights):
@@ -91,8 +94,8 @@ def work(words):
         parser.error("a case is needed")
     if asked.refusal is not None:
         line = sys.stdin.readline() if asked.refusal == "-" else asked.refusal
-        out(explained(line, read_case(read_bytes(asked.case))))
+        out(printable(explained(line, read_case(read_bytes(asked.case)))))
         return 0
     found = [one for one in findings(read_bytes(asked.case), dict(asked.zone)) if one.name not in asked.allow]
-    out("".join(f"{asked.case}:{one.line}: {one.name}: {one.text}\n" for one in found))
+    out(printable("".join(f"{asked.case}:{one.line}: {one.name}: {one.text}\n" for one in found)))
     return 1 if found else 0

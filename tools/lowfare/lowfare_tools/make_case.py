@@ -23,6 +23,7 @@ MOST = {
     "bytes": 67_108_864,
 }
 USUAL_CONNECT = 60
+SHOWN = 20
 ABOUT = """Makes a case for lowfare search. Messages name each line that can't be taken (bad) or isn't wanted (passed over), and the
 counts at the end say what became of all; both go to standard error. Where a line is bad no case is written and the status is 1."""
 
@@ -180,15 +181,16 @@ def fares_on_rules(asked, fares, rules, report):
             untaken(report, asked.fares, fare.line, f"rule: {fare.carrier} has no rule {fare.rule} in {asked.rules or 'no --rules'}")
 
 
-def all_places(asked, rows, named, report):
+def all_places(asked, rows, given, report):
     """A row for each place that flights or the request name."""
-    known = {place.code: place for place in named}
+    known = {place.code for place in given}
     needed = {place: None for row in rows for place in (row.origin, row.destination)}
     needed |= {place: None for part in asked.request for place in (part.origin, part.destination)}
     others = [code for code in needed if code not in known]
     if others:
-        report.note("places", 0, f"{' '.join(others)}: a connection takes at least {asked.connect} minutes (--connect), since no file says")
-    return [*named, *(Place(code, asked.connect) for code in others)]
+        named = " ".join(others[:SHOWN]) + (f" and {len(others) - SHOWN} others" if len(others) > SHOWN else "")
+        report.note("places", 0, f"{named}: a connection takes at least {asked.connect} minutes (--connect), since no file says")
+    return [*given, *(Place(code, asked.connect) for code in others)]
 
 
 def filings_of(rules, fares):

@@ -1,5 +1,11 @@
 """What became of each line of the source files: nothing is dropped in silence."""
+import re
 from dataclasses import dataclass
+
+
+def printable(text):
+    """The text with all but printable ASCII escaped, so that a damaged line can be shown."""
+    return re.sub(r"[^ -~\n]", lambda found: ascii(found[0])[1:-1], text)
 
 
 @dataclass
@@ -35,17 +41,17 @@ class Report:
     def passed(self, name, line, reason):
         """A record that is well formed and isn't wanted."""
         self.of(name).passed += 1
-        self.messages.append(f"{name}:{line}: passed over: {reason}")
+        self.messages.append(printable(f"{name}:{line}: passed over: {reason}"))
 
     def bad(self, name, line, reason):
         """A record that can't be taken."""
         self.of(name).bad += 1
-        self.messages.append(f"{name}:{line}: bad: {reason}")
+        self.messages.append(printable(f"{name}:{line}: bad: {reason}"))
 
     def note(self, name, line, text):
         """What a reader has to know of a record that is taken all the same, or of the whole file (line 0)."""
         where = f"{name}:{line}" if line else name
-        self.messages.append(f"{where}: note: {text}")
+        self.messages.append(printable(f"{where}: note: {text}"))
 
     @property
     def any_bad(self):

@@ -20,6 +20,7 @@ Type 3, a flight leg:
     73 to 75  aircraft type: surface vehicles (bus, train, boat ..) are passed over
     149       operating airline disclosure: L and Z mark a codeshare, whose seats are another flight's: passed over; S and X mark a
               wet lease, taken with a note
+    150 to 160  traffic restrictions: noted, since a case has none
     193, 194  days of departure and arrival after the day on which the flight leaves its first station: blank or 0 to 7, and A or
               J for the day before
 
@@ -303,6 +304,8 @@ class Reader:
             self.report.note(self.name, leg.line, f"{leg.name}: its operational suffix {leg.at(2)} is left out")
         if leg.at(149) in ("S", "X"):
             self.report.note(self.name, leg.line, f"{leg.name}: flown by another (operating airline disclosure {leg.at(149)})")
+        if leg.at(150, 160):
+            self.report.note(self.name, leg.line, f"{leg.name}: its traffic restriction {leg.at(150, 160)} is left out")
         if len(rows) > 1:
             self.report.note(self.name, leg.line, f"{leg.name}: cut into {len(rows)} periods")
 

@@ -58,6 +58,8 @@ class Findings(unittest.TestCase):
         self.finds(b"\xef\xbb\xbf" + SOUND.encode(), 1, "bom", "the file begins with a byte order mark")
         self.finds(SOUND[:-1], 14, "no-last-feed", "the last line has no line feed")
         self.finds(changed(("#end\n", "")), 14, "unreadable", "the case ends without #end")
+        found = self.found(changed(("#seats\nQX,101,LON,*,Y9\nQX,102,NYC,*,Y9\n", "")))
+        self.assertIn((12, "unreadable", "the case ends without #seats"), found)
         self.finds(changed(("#end", "#end\nmore")), 15, "unreadable", "a line after #end")
         self.finds(changed(("NYC,60", "NYC,60\nlon,60")), 4, "unreadable", "column 1: 'lon' is not a place")
         self.finds(changed(('}}]}\n#request', '}},{"drop_fare":{"carrier":"QX","from":"LON","to":"NYC","basis":"X"}}]}\n#request')), 11,
@@ -188,6 +190,11 @@ class Commands(unittest.TestCase):
         self.assertEqual((1, "my.case:14: no-last-feed: the last line has no line feed: was the file cut?\n"), (ran.status, ran.text))
         ran = self.lint(SOUND[:-1], "--allow", "no-last-feed")
         self.assertEqual((0, ""), (ran.status, ran.text))
+
+    def test_lines_that_are_no_text(self):
+        ran = self.lint(changed(("NYC,60", "NYC,60\n\x1b[2J\xe9,1")))
+        self.assertIn("my.case:4: unreadable: a quote, a CR or a byte that is not ASCII", ran.text)
+        self.assertTrue(ran.text.isascii() and ran.text.replace("\n", "").isprintable())
 
     def test_words(self):
         listed = Ran(work, ["--list"])

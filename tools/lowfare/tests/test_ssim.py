@@ -130,6 +130,7 @@ class Noted(unittest.TestCase):
     def test_what_a_case_does_not_show(self):
         self.noted(timetable(leg(c149="S")), "x.ssim:3: note: BX 11 LHR JFK: flown by another (operating airline disclosure S)")
         self.noted(timetable(leg(c149="X")), "flown by another (operating airline disclosure X)")
+        self.noted(timetable(leg(c150="A")), "x.ssim:3: note: BX 11 LHR JFK: its traffic restriction A is left out")
         self.noted(timetable(leg(c2="D")), "its operational suffix D is left out")
         self.noted(timetable(leg(c22="04MAR32", c29="1234567")), "cut into 2 periods")
 

@@ -83,7 +83,7 @@ class Fares(Tables):
             (",1", ",10000", "rule: 10000 is not a whole number from 0 to 9999"),
             (",1", "", "7 columns, not 8"),
             ("QAP", '"QAP', "a quote that is not closed"),
-            ("BX", "B\xc9", "carrier: 'BÉ' is not a carrier"),
+            ("BX", "B\xc9", "carrier: 'B\\xc9' is not a carrier"),
         ):
             self.bad(read_fares, FARES + good.replace(old, new, 1) + "\n", reason)
 
