@@ -55,7 +55,10 @@ def stations_of(text):
 
 def days_of(text):
     found = match(0, r"([0-9-]{10})\.\.([0-9-]{10})", text, "days FIRST..LAST")
-    return date_of(0, found[1]), date_of(0, found[2])
+    first, last = date_of(0, found[1]), date_of(0, found[2])
+    if last < first:
+        raise BadField(0, f"{text!r} ends before it begins")
+    return first, last
 
 
 def option(read):
@@ -154,21 +157,22 @@ class Timetable:
                 return
         self.dated.update(dict.fromkeys(keys, (name, row.line)))
         self.kept.add((name, row.line))
-        self.rows.append(row)
+        self.rows.append((name, row))
 
-    def tell(self):
-        """Reports the records that aren't taken: a bad one always, another one where no period of it was taken."""
+    def done(self):
+        """The rows of all records that are taken. The others are reported: one with a bad period, and one without any period."""
         for (name, line), (reason, bad) in self.missed.items():
             if bad or (name, line) not in self.kept:
                 untaken(self.report, name, line, reason, bad)
+        bad = {key for key, (_, bad) in self.missed.items() if bad}
+        return [row for name, row in self.rows if (name, row.line) not in bad]
 
 
 def read_timetable(asked, report):
     gathered = Timetable(asked, report)
     for name, row in flight_rows(asked, report):
         gathered.take(name, row)
-    gathered.tell()
-    return gathered.rows
+    return gathered.done()
 
 
 def fares_on_rules(asked, fares, rules, report):

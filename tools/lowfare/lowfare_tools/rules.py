@@ -20,7 +20,7 @@ import re
 
 from lowfare_tools.case import BadField, Rule, carrier_of, date_of, match, minute_of, number_of, weekdays_of
 from lowfare_tools.case_text import time_text
-from lowfare_tools.tables import read_table
+from lowfare_tools.tables import Form, read_table
 
 UNITS = ("one_way", "round_trip", "open_jaw", "circle")
 MOST_CHARGE = 1_000_000
@@ -190,4 +190,4 @@ def read_rules(name, data, report, source):
         made = {category: read(row, source) for category, read in READERS.items()}
         return Rule(carrier, number, {category: value for category, value in made.items() if value is not None}, line)
 
-    return read_table(name, data, report, ("carrier", "rule"), COLUMNS, take, lambda rule: (rule.carrier, rule.number))
+    return read_table(name, data, report, Form(("carrier", "rule"), COLUMNS, take, lambda rule: (rule.carrier, rule.number)))

@@ -5,6 +5,8 @@ row has more of these; quotes may stand round a field, and a record is one line.
 row isn't right is bad as a whole.
 """
 import csv
+from collections.abc import Callable
+from dataclasses import dataclass
 from decimal import Decimal
 
 from lowfare_tools.case import (
@@ -91,12 +93,23 @@ class Row(dict):
         return ""
 
 
-def read_table(name, data, report, needed, optional, take, key=None):
-    """What `take` makes of each row and its line. A row whose key stands already is bad."""
+@dataclass(frozen=True)
+class Form:
+    """How a file's rows are read: columns that it needs, others that it may have, what makes a thing of a row and its line, and
+    the key of such a thing, which may stand once."""
+
+    needed: tuple
+    optional: tuple
+    take: Callable
+    key: Callable | None = None
+
+
+def read_table(name, data, report, form):
+    """The things of all rows that aren't bad."""
     lines = lines_of(data)
     line, first = next(lines, (1, ""))
     try:
-        names, delimiter = names_of(first, needed, optional)
+        names, delimiter = names_of(first, form.needed, form.optional)
     except BadField as bad:
         report.read(name)
         report.bad(name, line, bad.reason)
@@ -108,9 +121,9 @@ def read_table(name, data, report, needed, optional, take, key=None):
             fields = fields_of(text, delimiter)
             if len(fields) != len(names):
                 raise BadField(0, f"{len(fields)} columns, not {len(names)}")
-            made = take(Row(zip(names, fields)), line)
-            if key and seen.setdefault(key(made), line) != line:
-                raise BadField(0, f"the same stands in line {seen[key(made)]}")
+            made = form.take(Row(zip(names, fields)), line)
+            if form.key and seen.setdefault(form.key(made), line) != line:
+                raise BadField(0, f"the same stands in line {seen[form.key(made)]}")
         except BadField as bad:
             report.bad(name, line, f"{bad.column}: {bad.reason}" if bad.column else bad.reason)
             continue
@@ -142,7 +155,7 @@ def read_flights(name, data, report, source):
         return made
 
     needed = ("carrier", "number", "from", "to", "departs", "departs_utc", "arrives", "arrives_utc", "first", "last", "weekdays")
-    return read_table(name, data, report, needed, ("day_shift",), take)
+    return read_table(name, data, report, Form(needed, ("day_shift",), take))
 
 
 def judge_flight(row):
@@ -151,6 +164,8 @@ def judge_flight(row):
         raise BadField("to", "it arrives where it departs")
     if row.last < row.first:
         raise BadField("last", f"the period ends on {row.last}, before it begins on {row.first}")
+    if next(row.days(), None) is None:
+        raise BadField("weekdays", "no day of its period is one of them")
     leaves = instant(row.first, row.departs, row.departs_offset)
     if instant(row.first, row.arrives, row.arrives_offset) + row.shift * ONE_DAY <= leaves:
         raise BadField("arrives", "it arrives no later than it departs, by its times, offsets and day_shift")
@@ -169,7 +184,7 @@ def read_seats(name, data, report, source):
             line,
         )
 
-    return read_table(name, data, report, ("carrier", "number", "from", "seats"), ("date",), take, lambda row: row.key)
+    return read_table(name, data, report, Form(("carrier", "number", "from", "seats"), ("date",), take, lambda row: row.key))
 
 
 def read_fares(name, data, report, source):
@@ -195,7 +210,7 @@ def read_fares(name, data, report, source):
         return made
 
     needed = ("carrier", "from", "to", "basis", "class", "kind", "amount")
-    return read_table(name, data, report, needed, ("rule",), take, lambda fare: fare.key)
+    return read_table(name, data, report, Form(needed, ("rule",), take, lambda fare: fare.key))
 
 
 def read_places(name, data, report, source):
@@ -204,4 +219,4 @@ def read_places(name, data, report, source):
     def take(row, line):
         return Place(place_of("place", row["place"]), number_of("connect", row["connect"], 0, ONE_DAY), line)
 
-    return read_table(name, data, report, ("place", "connect"), (), take, lambda place: place.code)
+    return read_table(name, data, report, Form(("place", "connect"), (), take, lambda place: place.code))

@@ -148,6 +148,7 @@ class Flights(Tables):
             (",1,2031", ",0,2031", "arrives: it arrives no later than it departs"),
             ("LHR", "JFK", "to: it arrives where it departs"),
             ("2031-03-28", "2031-03-08", "last: the period ends on 2031-03-08, before it begins"),
+            ("2031-03-28,17", "2031-03-09,1", "weekdays: no day of its period is one of them"),
             (",17", ",71", "weekdays: '71' is not weekdays"),
             (",17", ",", "weekdays: '' is not weekdays"),
         ):
@@ -311,6 +312,14 @@ case: 2 places, 1 flight rows, 3 dated flights, 1 seat rows, 1 fares, 0 rules, 1
         self.assertIn("b_ssim:3: bad: BX 11 LHR JFK: on 2031-03-05 it stands in a_ssim:3 already", ran.said)
         self.assertIn("b_ssim: 4 read, 3 taken, 0 passed over, 1 bad", ran.said)
 
+    def test_a_record_with_one_bad_period_is_left_out_whole(self):
+        """BX 11 flies on 17 March by the second file, and every second week from 3 March on by the first one."""
+        fortnight = timetable(leg(c22="30MAR31", c29="1      ", c36="2"))
+        files = {**SMALL, "a_ssim": timetable(leg(c15="17MAR31", c22="17MAR31", c29="1      ")), "b_ssim": fortnight}
+        ran = self.run_over(files, *REQUEST, "--skip-bad")
+        self.assertEqual([date(2031, 3, 17)], [row.first for row in read_case(ran.text.encode()).flights])
+        self.assertIn("b_ssim:3: bad: BX 11 LHR JFK: on 2031-03-17 it stands in a_ssim:3 already", ran.said)
+
     def test_stations_of_one_place(self):
         files = {**SMALL, "a_ssim": timetable(leg(), leg(c6="  12", c55="LGW", c62="1200", c66="+0000"))}
         words = ["--request", "LON-NYC 2031-03-03", "--sale", "2031-02-10", "--stations", "LHR=LON,LGW=LON,JFK=NYC"]
@@ -348,6 +357,7 @@ case: 2 places, 1 flight rows, 3 dated flights, 1 seat rows, 1 fares, 0 rules, 1
             (["--party", "10"], "10 is not a whole number from 1 to 9"),
             (["--factor", "0"], "0 is not a whole number from 1 to 1000000"),
             (["--stations", "LHR-LON"], "'LHR-LON' is not a station and its place"),
+            (["--within", "2031-03-03..2031-03-02"], "'2031-03-03..2031-03-02' ends before it begins"),
             (["--within", "2031-03-03"], "'2031-03-03' is not days FIRST..LAST"),
         ):
             ran = self.run_over(SMALL, *REQUEST, *words)
