@@ -203,6 +203,11 @@ class Commands(unittest.TestCase):
         self.assertEqual(2, self.lint(SOUND, "--allow", "nothing").status)
         self.assertEqual(2, self.lint(SOUND, "--zone", "LON").status)
 
+    def test_every_example_is_read(self):
+        for path in sorted(EXAMPLES.glob("*.case")):
+            if path.stat().st_size < 20_000:
+                self.assertTrue(all(one.name in NAMES for one in findings(path.read_bytes(), {})), path.stem)
+
     def test_a_damaged_case_is_named_by_its_lines(self):
         seeded = random.Random(17)
         for _ in range(150):
