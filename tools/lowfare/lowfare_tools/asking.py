@@ -13,7 +13,7 @@ class Asker:
     def __init__(self, program, name, data, given, version=None):
         for kind in ("later", "script"):
             if kind in given.headers:
-                raise Trouble(f"{name} is the case of a serving run, and a search case is wanted; see docs/FORMATS.md#the-form-of-a-case")
+                raise Trouble(f"{name} is the case of a serving run, not of a search; see docs/FORMATS.md#the-form-of-a-case")
         self.program = program
         self.name = name
         self.given = given
@@ -46,7 +46,8 @@ class Asker:
 
     def refused(self, found):
         beyond = found.line - len(self.lines) - 1
-        where = f"{self.name} is refused at line {found.line}" if beyond < 1 else f"line {beyond} of what is asked about is refused"
+        own = f"{self.name} is refused at line {found.line}"
+        where = own if beyond < 1 else f"line {beyond} of what is asked about is refused"
         return Trouble(f"{where}: {found.reason}; see {REFUSALS}")
 
     def check(self, certificate, best=None):

@@ -19,8 +19,9 @@ def words_of(words):
     about = "Checks the certificate of an answer over your case by the proved program. What is said besides is not proved."
     parser = argparse.ArgumentParser(prog=NAME, description=about)
     parser.add_argument("case", metavar="CASE", help="your case: the book and the request that you trust")
-    parser.add_argument("answer", metavar="ANSWER", help="what search printed elsewhere, or its certificate; - for standard input")
-    parser.add_argument("--best", type=command.number(1, 1000), metavar="N", help="check for so many tickets, in place of those of the case's request")
+    parser.add_argument("answer", metavar="ANSWER", help="what search printed, or its certificate; - for standard input")
+    tickets = "check for so many tickets, in place of those of the case's request"
+    parser.add_argument("--best", type=command.number(1, 1000), metavar="N", help=tickets)
     parser.add_argument("--at", type=command.VERSION, metavar="N", help="check by the version that the first N filings leave")
     return parser.parse_args(words)
 
@@ -102,7 +103,8 @@ def report(asker, found, book, best):
     if checked.rule == 3:
         lines += verdict_lines(asker, checked.place, tickets[checked.place - 1], book, timetable)
     printed, same = printed_lines(found, tickets)
-    lines += [*printed, "", "Its answers, read with your case:" if checked.rule == 0 else "What it claims, of which nothing follows:"]
+    heading = "Its answers, read with your case:" if checked.rule == 0 else "What it claims, of which nothing follows:"
+    lines += [*printed, "", heading]
     shown = plain.tickets_text(blocks.blocks_of(tickets, given, book), given.request, version, command.with_colour())
     return [*lines, shown.rstrip("\n")], checked.rule == 0 and same
 

@@ -57,7 +57,13 @@ def differences(certificate, given, at=(), best=None):
 def request_text(request, best=None):
     """A request in a line."""
     ways = ", ".join(f"{part.origin} to {part.destination} from {part.first}" for part in request.slices)
-    return f"{counted(best or request.best, 'ticket')} for {counted(request.party, 'traveller')}, sold on {request.sale}, {ways}"
+    tickets, travellers = counted(best or request.best, "ticket"), counted(request.party, "traveller")
+    return f"{tickets} for {travellers}, sold on {request.sale}, {ways}"
+
+
+def place_text(component):
+    """Where a component stands in the ticket: its unit, the kind of that, its direction."""
+    return f"unit {component.unit}, {KIND_WORDS[component.kind]}, {'reverse' if component.reverse else 'forward'}"
 
 
 def component_differs(number, printed, certified):
@@ -66,8 +72,7 @@ def component_differs(number, printed, certified):
     if printed.fare_key != certified.fare_key:
         return f"{where} on {' '.join(printed.fare_key)}, not on {' '.join(certified.fare_key)}"
     if (printed.unit, printed.kind, printed.reverse) != (certified.unit, certified.kind, certified.reverse):
-        kinds = [f"unit {part.unit}, {KIND_WORDS[part.kind]}, {'reverse' if part.reverse else 'forward'}" for part in (printed, certified)]
-        return f"{where} of {kinds[0]}, not of {kinds[1]}"
+        return f"{where} of {place_text(printed)}, not of {place_text(certified)}"
     if printed.flights != certified.flights:
         flights = [", ".join(f"{name_of(flight)} of {flight.day}" for flight in part.flights) for part in (printed, certified)]
         return f"{where} on {flights[0]}, not on {flights[1]}"

@@ -65,7 +65,8 @@ def edges_of(certificate, given, book):
 def dot_text(certificate, given, book):
     """The graph as a text for Graphviz."""
     if len(certificate.rows) > MOST_ROWS:
-        raise Trouble(f"the certificate has {len(certificate.rows)} rows, and a graph of more than {MOST_ROWS} isn't drawn; see {PAGE}")
+        count = len(certificate.rows)
+        raise Trouble(f"the certificate has {count} rows, and a graph of more than {MOST_ROWS} isn't drawn; see {PAGE}")
     edges = edges_of(certificate, given, book)
     names = {row.residual: f"row{at}" for at, row in enumerate(certificate.rows, 1)} | {"end": "end"}
     lines = ["digraph certificate {", "  rankdir=LR", f"  label={quoted(NOTE)}", "  node [shape=box, style=rounded]"]

@@ -4,7 +4,6 @@ import pathlib
 
 from lowfare_tools.case_text import time_text
 from lowfare_tools.wording import (
-    arrival_text,
     counted,
     day_text,
     fare_text,

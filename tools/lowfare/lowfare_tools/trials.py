@@ -1,5 +1,5 @@
-"""What a fare is tried on: ways of its market, each as one unit with a request that just these ways meet; and, for a way that is a
-slice of the case's request, the whole ticket with the rest of an answer beside it.
+"""What a fare is tried on: ways of its market, each as one unit with a request that just these ways meet; and, for a way that is
+part of the case's request, the whole ticket with the rest of an answer beside it.
 """
 from dataclasses import dataclass, replace
 
@@ -39,8 +39,8 @@ def run_of(market, slices):
 
 def slices_for(fare, request):
     """The slices that the fare's way out is asked for, and those for its way back or none: the first of the request that lead
-    between the fare's places, and the first later ones the other way. Where there are none, its own market on the days of the first
-    and of the last slice."""
+    between the fare's places, and the first later ones the other way. Where there are none, its own market on the days of the
+    first and of the last slice."""
     market = (fare.origin, fare.destination)
     run = run_of(market, request.slices)
     if run:
@@ -105,8 +105,8 @@ def parts_beside(ticket, request, run, timetable):
 
 
 def beside(fare, trial, request, tickets, timetable):
-    """The whole ticket of a trial on one way: with all that an answer has for the other slices. It comes with the answer's number;
-    None where there are no other slices, or each answer has units that reach into the way's."""
+    """The whole ticket of a trial on one way: with all that an answer has for the other slices. It comes with the answer's
+    number; None where there are no other slices, or each answer has units that reach into the way's."""
     part = trial.request.slices
     places = (at for at in range(len(request.slices)) if request.slices[at : at + len(part)] == part)
     at = next(places, None)

@@ -10,7 +10,8 @@ PIPE_WIDTH = 100
 
 
 def words_of(words):
-    parser = argparse.ArgumentParser(prog=NAME, description="Shows tickets or a calendar that lowfare printed. Nothing here is proved.")
+    about = "Shows tickets or a calendar that lowfare printed. Nothing here is proved."
+    parser = argparse.ArgumentParser(prog=NAME, description=about)
     parser.add_argument("case", metavar="CASE", help="the case that was asked")
     how = parser.add_mutually_exclusive_group()
     how.add_argument("--html", action="store_true", help="one page without anything from elsewhere")

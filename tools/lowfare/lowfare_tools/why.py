@@ -15,7 +15,7 @@ KINDS = {"O": "alone or in a unit", "R": "half of it for each component of a uni
 
 
 def words_of(words):
-    about = "Says what forbids a fare on the flights of its market. The breaches are the proved program's; which flights are tried isn't proved."
+    about = "Says what forbids a fare on the flights of its market. The breaches are the proved program's, all else isn't proved."
     parser = argparse.ArgumentParser(prog=NAME, description=about)
     parser.add_argument("case", metavar="CASE", help="a search case")
     parser.add_argument("basis", metavar="BASIS", help="the basis of the fare, such as QRT")
@@ -23,7 +23,8 @@ def words_of(words):
     parser.add_argument("--from", dest="origin", metavar="PLACE", help="the fares filed from this place alone")
     parser.add_argument("--to", dest="destination", metavar="PLACE", help="the fares filed to this place alone")
     parser.add_argument("--at", type=command.VERSION, metavar="N", help="ask about the version that the first N filings leave")
-    parser.add_argument("--most", type=command.number(1, 100_000), metavar="N", default=MOST, help=f"try at most so many pairs of a fare, {MOST} where it isn't given")
+    pairs = f"try at most so many ways and pairs of a fare, {MOST} where it isn't given"
+    parser.add_argument("--most", type=command.number(1, 100_000), metavar="N", default=MOST, help=pairs)
     return parser.parse_args(words)
 
 
@@ -78,7 +79,7 @@ class Judge:
         return f"lawful, {verdict.price} a traveller{dearer}", True
 
     def trial_text(self, fare, trial):
-        """What is said of a trial, and, where it is lawful by itself on one of several slices, of it beside the rest of an answer."""
+        """What is said of a trial, and, where it is lawful by itself on part of the request, of it beside the rest of an answer."""
         told, lawful = self.verdict_text(trials.ticket_of(fare, trial), trial.request)
         beside = lawful and trials.beside(fare, trial, self.request, self.tickets, self.timetable)
         if not beside:

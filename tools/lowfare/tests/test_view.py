@@ -1,4 +1,6 @@
 """Tickets for people: plain texts against stored ones that were worked out by hand, pages, folds, charges, and what goes wrong."""
+import random
+import subprocess
 import unittest
 
 from lowfare_tools import blocks, plain, view
@@ -6,10 +8,15 @@ from lowfare_tools.answer import read
 from lowfare_tools.book import Book
 from lowfare_tools.case import read_case
 from lowfare_tools.wording import length_text, numbers_text
-from tests.helpers import EXAMPLES
+from tests.helpers import EXAMPLES, TOP, damaged, folder
 from tests.shown import HERE, Page, case_path, run, stored
 
 ROUND_TRIP = (EXAMPLES / "round-trip.out").read_text()
+BIN = TOP / "tools/lowfare/bin"
+TICKET = """ price 20000
+component 1 unit 1 one_way forward QX LON NYC Y1 20000
+flight QX 101 2031-03-03 LON NYC
+"""
 STOPOVER = """version 1
 tickets 1
 ticket 1 price 33000
@@ -170,11 +177,48 @@ class Trouble(unittest.TestCase):
             with self.subTest(words):
                 self.assertEqual(2, run(view, *words).status)
 
+    def test_damaged_texts_end_in_one_line(self):
+        draw = random.Random(20310310)
+        case, answers = (EXAMPLES / "round-trip.case").read_bytes(), ROUND_TRIP.encode()
+        for at in range(240):
+            with folder(some_case=damaged(draw, case) if at % 3 else case) as paths:
+                how = ((), ("--html",), ("--dot",))[at % 7 % 3]
+                shown = run(view, *how, paths["some_case"], given=damaged(draw, answers) if at % 2 else answers)
+            self.assertIn(shown.status, (0, 1))
+            self.assertEqual(shown.status, shown.said.count("\n"))
+
     def test_a_rule_of_no_form(self):
         data = (EXAMPLES / "stopover-with-charge.case").read_bytes().replace(b'{"max":1,"charge":3000}', b"[3000]")
         given = read_case(data)
         with self.assertRaisesRegex(view.command.Trouble, "line 12: rule 1 of QX isn't of its form; see docs/FORMATS.md#refusals"):
             blocks.blocks_of(read(STOPOVER).tickets, given, Book(given))
+
+
+class Commands(unittest.TestCase):
+    """The scripts themselves, as they are called."""
+
+    def test_each_says_what_it_does(self):
+        for name in ("view", "audit", "why"):
+            with self.subTest(name):
+                ran = subprocess.run([BIN / f"lowfare-{name}", "--help"], capture_output=True, text=True, check=False)
+                self.assertEqual((0, ""), (ran.returncode, ran.stderr))
+                self.assertTrue(ran.stdout.startswith(f"usage: lowfare-{name} "))
+
+    def test_a_reader_who_leaves_ends_it_in_silence(self):
+        many = "version 1\ntickets 1000\n" + "".join(f"ticket {at}" + TICKET for at in range(1, 1001))
+        words = [BIN / "lowfare-view", "--html", case_path("one-way")]
+        with subprocess.Popen(words, stdin=subprocess.PIPE, stdout=subprocess.PIPE, stderr=subprocess.PIPE) as view_run:
+            view_run.stdin.write(many.encode())
+            view_run.stdin.close()
+            self.assertEqual(b"<!DOCTYPE html>\n", view_run.stdout.readline())
+            view_run.stdout.close()
+            self.assertEqual(b"", view_run.stderr.read())
+        self.assertEqual(0, view_run.returncode)
+
+    def test_in_a_pipe_there_is_no_colour(self):
+        words = [BIN / "lowfare-view", case_path("round-trip")]
+        ran = subprocess.run(words, input=ROUND_TRIP.encode(), stdout=subprocess.PIPE, check=True)
+        self.assertNotIn(b"\x1b", ran.stdout)
 
 
 if __name__ == "__main__":
