@@ -37,37 +37,41 @@ def run_of(market, slices):
     return None
 
 
-def slices_for(fare, request):
-    """The slices that the fare's way out is asked for, and those for its way back or none: the first of the request that lead
-    between the fare's places, and the first later ones the other way. Where there are none, its own market on the days of the
-    first and of the last slice."""
-    market = (fare.origin, fare.destination)
-    run = run_of(market, request.slices)
-    if run:
-        later = request.slices[run[1] :]
-        back = run_of(market[::-1], later)
-        return request.slices[run[0] : run[1]], later[back[0] : back[1]] if back else ()
-    first, last = request.slices[0], request.slices[-1]
-    back = (Slice(*market[::-1], last.first, last.days),) if len(request.slices) > 1 else ()
-    return (Slice(*market, first.first, first.days),), back
+def asked_for(market, slices, begin=0):
+    """What a way of a market is asked for behind the first slices, with the count of slices up to its end: the slices that lead
+    between its places; and, where these aren't one slice, the market by itself on the days of each slice."""
+    run = run_of(market, slices[begin:])
+    found = [(slices[begin + run[0] : begin + run[1]], begin + run[1])] if run else []
+    if not run or run[1] - run[0] > 1:
+        own = {(part.first, part.days): at + 1 for at, part in reversed([*enumerate(slices)][begin:])}
+        found += [((Slice(*market, *days),), end) for days, end in sorted(own.items())]
+    return found
 
 
 def trials_of(fare, rule, request, ways):
-    """The trials of a fare: alone on each way out where its kind allows it or there is no way back, and, but for kind S, out and
-    back. No fare pays for a way that begins with another carrier's flight, or has one where its rule wants its own alone."""
-    out, back = slices_for(fare, request)
+    """The trials of a fare: alone on each way out where its kind allows it or the request has one slice, and, but for kind S, out
+    and back. No fare pays for a way that begins with another carrier's flight, or has one where its rule wants its own alone."""
+    market = (fare.origin, fare.destination)
     whole_way = rule.categories.get("cat9", {}).get("online", False)
-    outs, more = ways.through(out, fare.carrier, whole_way)
-    trials = []
-    if fare.kind != "R" or not back:
-        alone = replace(request, slices=out)
-        trials += [Trial((way,), alone) for way in outs]
-    if fare.kind != "S" and back:
-        backs, more_back = ways.through(back, fare.carrier, whole_way)
-        both = replace(request, slices=out + back)
-        trials += [Trial(pair, both) for pair in ways.pairs(outs, backs)]
-        more = more or more_back
-    return Trials(tuple(trials), more)
+    alone, pairs, more = [], [], False
+    for out, end in asked_for(market, request.slices):
+        outs, cut = ways.through(out, fare.carrier, whole_way)
+        more = more or cut
+        if fare.kind != "R" or len(request.slices) == 1:
+            alone += [Trial((way,), replace(request, slices=out)) for way in outs]
+        for back, _ in asked_for(market[::-1], request.slices, end) if fare.kind != "S" and outs else ():
+            backs, cut = ways.through(back, fare.carrier, whole_way)
+            both = replace(request, slices=out + back)
+            pairs += [Trial(pair, both) for pair in ways.pairs(outs, backs)]
+            more = more or cut
+    return Trials((*in_order(alone), *in_order(pairs)), more)
+
+
+def in_order(trials):
+    """The trials by their count of flights, then by departures, each set of ways once."""
+    by_ways = {trial.ways: trial for trial in reversed(trials)}
+    departures = {ways: [leg.leaves for way in ways for leg in way] for ways in by_ways}
+    return [by_ways[ways] for ways in sorted(by_ways, key=lambda ways: (len(departures[ways]), departures[ways]))]
 
 
 def component_of(fare, way, unit, kind, reverse=False):

@@ -8,6 +8,12 @@ MOST_IN_COMPONENT = 4
 MOST_WAYS = 200
 
 
+def is_component(path):
+    """Whether flights in a row may be one component: at most four, and at no place twice."""
+    called = {path[0].origin, *(flight.destination for flight in path)}
+    return len(path) <= MOST_IN_COMPONENT and len(called) == len(path) + 1
+
+
 class Ways:
     """Ways over a timetable."""
 
@@ -42,12 +48,12 @@ class Ways:
 
     def through(self, parts, carrier, whole_way):
         """The ways through slices one after another, as one component of this carrier's: at most `MOST_WAYS`, and whether there
-        are more."""
+        are more. A component calls at no place twice."""
         every, found = carrier if whole_way else None, [()]
         for part in parts:
             ways = self.of(part, every if found[0] else carrier, every)
             joined = (path + way for path in found for way in ways if self.follows(path, way))
-            found = sorted((path for path in joined if len(path) <= MOST_IN_COMPONENT), key=len)[: MOST_WAYS + 1]
+            found = sorted(filter(is_component, joined), key=len)[: MOST_WAYS + 1]
             if not found:
                 break
         return found[:MOST_WAYS], len(found) > MOST_WAYS
@@ -57,11 +63,5 @@ class Ways:
         return not path or way[0].leaves >= path[-1].lands + self.connect.get(way[0].origin, 0)
 
     def pairs(self, outs, backs):
-        """A way out with each way back that leaves late enough after it, the fewest flights first, then by departure."""
-        pairs = []
-        for out in outs:
-            for back in backs:
-                if self.follows(out, back):
-                    pairs.append((out, back))
-        pairs.sort(key=lambda pair: (len(pair[0]) + len(pair[1]), pair[0][0].leaves, pair[1][0].leaves))
-        return pairs
+        """A way out with each way back that leaves late enough after it."""
+        return [(out, back) for out in outs for back in backs if self.follows(out, back)]

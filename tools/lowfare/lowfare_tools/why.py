@@ -118,11 +118,9 @@ def head_text(fare, found):
     return f"{named}: {among_text(fare, found)}."
 
 
-def no_flights_text(fare, request):
-    out, _ = trials.slices_for(fare, request)
-    days = f"on {out[0].first}" if out[0].days == 1 else f"from {out[0].first} to {out[0].last}"
-    lacking = f"no way from {fare.origin} to {fare.destination} {days} begins with a flight of {fare.carrier}, as its fares want"
-    return f"There is nothing to try: {lacking}, or none with a way back."
+def no_flights_text(fare):
+    way = f"no way from {fare.origin} to {fare.destination} on the days asked begins with a flight of {fare.carrier}"
+    return f"There is nothing to try: {way}, as its fares want, or none with a way back."
 
 
 def fare_lines(judge, fare, most):
@@ -131,7 +129,7 @@ def fare_lines(judge, fare, most):
     ways = Ways(judge.asker.given, judge.timetable.flights)
     wanted = trials.trials_of(fare, judge.book.rule_of(fare), judge.request, ways)
     if not wanted.all:
-        yield no_flights_text(fare, judge.request)
+        yield no_flights_text(fare)
         return
     telling = Telling(fare, wanted.all)
     tried = wanted.all[:most]

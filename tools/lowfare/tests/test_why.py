@@ -1,11 +1,12 @@
 """What forbids a fare: each cause by the proved program over a small case, and the bound on what is tried."""
 import unittest
+from datetime import date
 
 from lowfare_tools import why
 from lowfare_tools.book import Book
 from lowfare_tools.case import Fare, Request, Slice, read_case
 from lowfare_tools.journey import Timetable
-from lowfare_tools.trials import run_of, slices_for
+from lowfare_tools.trials import asked_for, run_of
 from lowfare_tools.ways import Ways
 from tests.helpers import EXAMPLES, folder
 from tests.shown import HERE, case_path, run
@@ -77,7 +78,7 @@ class Causes(unittest.TestCase):
     def test_nothing_to_try(self):
         made = told("verdict-first-flight-of-another-carrier", "Y1")
         self.assertEqual(0, made.status)
-        self.assertIn("There is nothing to try: no way from LON to NYC on 2031-03-03 begins with a flight of BX, as its fares want", made.text)
+        self.assertIn("There is nothing to try: no way from LON to NYC on the days asked begins with a flight of BX, as its fares want", made.text)
 
     def test_a_search_that_is_too_large(self):
         wanted = Fare("QX", "LON", "NYC", "A", "Y", "O", 1, 0)
@@ -122,9 +123,9 @@ class Bounds(unittest.TestCase):
 
 
 class Slices(unittest.TestCase):
-    def request(self, *ends):
-        day = read_case((EXAMPLES / "one-way.case").read_bytes()).request
-        return Request(day.sale, 1, tuple(Slice(*end, day.slices[0].first, 1) for end in ends))
+    def request(self, *ends, days=(3, 3, 3)):
+        slices = tuple(Slice(*end, date(2031, 3, day), 1) for end, day in zip(ends, days))
+        return Request(date(2031, 2, 1), 1, slices)
 
     def test_the_slices_of_a_market(self):
         slices = self.request(("LON", "NYC"), ("NYC", "CHI"), ("CHI", "LON")).slices
@@ -133,10 +134,19 @@ class Slices(unittest.TestCase):
             with self.subTest(market):
                 self.assertEqual(run_wanted, run_of(market, slices))
 
-    def test_a_market_of_no_slice_is_asked_on_the_days_of_the_first_and_the_last(self):
-        request = self.request(("LON", "NYC"), ("NYC", "LON"))
-        out, back = slices_for(Fare("EX", "DUB", "NYC", "A", "Y", "O", 1, 0), request)
-        self.assertEqual([("DUB", "NYC"), ("NYC", "DUB")], [(part.origin, part.destination) for part in (*out, *back)])
+    def test_what_a_market_is_asked_for(self):
+        slices = self.request(("LON", "DUB"), ("DUB", "NYC"), ("NYC", "LON"), days=(3, 5, 12)).slices
+
+        def told(market, begin=0):
+            found = asked_for(market, slices, begin)
+            return [(" ".join(f"{part.origin}-{part.destination}:{part.first.day}" for part in parts), end) for parts, end in found]
+
+        self.assertEqual([("LON-DUB:3", 1)], told(("LON", "DUB")))
+        # Through Dublin with a stop there, or by itself on each of the days.
+        own = [("LON-NYC:3", 1), ("LON-NYC:5", 2), ("LON-NYC:12", 3)]
+        self.assertEqual([("LON-DUB:3 DUB-NYC:5", 2), *own], told(("LON", "NYC")))
+        self.assertEqual([("DUB-NYC:5 NYC-LON:12", 3), ("DUB-LON:5", 2), ("DUB-LON:12", 3)], told(("DUB", "LON"), 1))
+        self.assertEqual([], told(("DUB", "LON"), 3))
 
 
 class Trouble(unittest.TestCase):
