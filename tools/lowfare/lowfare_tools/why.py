@@ -74,12 +74,14 @@ class Judge:
         if verdict.price is None:
             judged = causes.judged_of(ticket, self.book, self.timetable, request)
             return "; ".join(causes.causes(verdict.breaches, judged)), False
-        whole = request.slices == self.request.slices and self.tickets and verdict.price > self.tickets[-1].price
-        dearer = f", more than the last answer, {self.tickets[-1].price}" if whole else ""
+        last = self.tickets[-1].price if self.tickets else None
+        is_dearer = request.slices == self.request.slices and last is not None and verdict.price > last
+        dearer = f", more than the last answer, {last}" if is_dearer else ""
         return f"lawful, {verdict.price} a traveller{dearer}", True
 
     def trial_text(self, fare, trial):
-        """What is said of a trial, and, where it is lawful by itself on part of the request, of it beside the rest of an answer."""
+        """What is said of a trial; and, where it is lawful by itself on part of the request, what is said of it beside the rest of an
+        answer."""
         told, lawful = self.verdict_text(trials.ticket_of(fare, trial), trial.request)
         beside = lawful and trials.beside(fare, trial, self.request, self.tickets, self.timetable)
         if not beside:
