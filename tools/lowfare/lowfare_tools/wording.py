@@ -59,7 +59,7 @@ def parts_text(paid):
         return f"by the case's fares {total}: this answer is of another case, or it was changed"
     if len(parts) == 1:
         return "" if parts[0].what == "fare" else parts[0].what
-    return " + ".join(f"{part.amount} {part.what}" for part in parts)
+    return "; ".join(f"{part.what}: {part.amount}" for part in parts)
 
 
 def slice_text(flights):

@@ -50,7 +50,7 @@ class PlainText(unittest.TestCase):
 
     def test_a_stopover_and_its_charge(self):
         shown = run(view, case_path("stopover-with-charge"), given=STOPOVER)
-        self.assertIn("class Y, rule 1: 33000 (30000 fare + 3000 stopover at NYC)\n", shown.text)
+        self.assertIn("class Y, rule 1: 33000 (fare: 30000; stopover at NYC: 3000)\n", shown.text)
         # From 18:00 UTC on the third to 18:01 UTC on the fourth.
         self.assertIn("        stopover at NYC, 1 d 1 min\n", shown.text)
 
