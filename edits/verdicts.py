@@ -85,6 +85,11 @@ def due(top, names, anew):
             yield crate, left[at : at + BATCH]
 
 
+def without_folders(text):
+    """The text with the names alone of files of this machine."""
+    return re.sub(r"(?<![\w.])/(?:[\w.-]+/)+", "", text)
+
+
 def read(text):
     """What `rt must-fail` says: by crate and edit, the verdict and where it was refused."""
     lines, found = text.split("\n"), {}
@@ -116,7 +121,7 @@ def record(top, source, crate, text):
         tried = edits_of(source, crate)
         for (of, edit), (verdict, where) in said.items():
             if of == crate and edit in tried:
-                known[crate, edit] = sums.of(crate, tried[edit]), verdict, where
+                known[crate, edit] = sums.of(crate, tried[edit]), verdict, without_folders(where)
         there = {(name, edit) for name in crates_with_edits(top) for edit in edits_of(top, name)}
         lines = [" ".join((*name, *known[name])).rstrip() for name in sorted(known) if name in there]
         new = file.with_suffix(f".{os.getpid()}")
