@@ -80,7 +80,7 @@ fn in_order<B: ResidualBounds>(
     found: List<Chosen>,
 ) -> Result<List<Chosen>, Mem>
     requires { Adds (IsMoveWithin search.now.book.now search.now.request.now search.now.residual.now (B.bound search.now.bounds.now) search.now.limit) [] found }
-    ensures moves { IfOk result (AreMovesWithin search.now.book.now search.now.request.now search.now.residual.now (B.bound search.now.bounds.now) search.now.limit) }
+    ensures { IfOk result (AreMovesWithin search.now.book.now search.now.request.now search.now.residual.now (B.bound search.now.bounds.now) search.now.limit) }
 {
     book_limits(search.book);
     let mut found = found.into_vec();
