@@ -53,8 +53,9 @@ pub fn least_within<B: ResidualBounds>(
             bounds: search.bounds,
             limit: bisection.tried,
         };
-        let Tried { least, is_many } =
-            least_of_few(alloc, &limited, leads, tails, markets, wanted)?;
+        let Tried { least, is_many } = least_of_few(
+            alloc, &limited, leads, tails, markets, wanted,
+        )?;
         if let Some(least) = least {
             return Ok(least);
         }
