@@ -21,5 +21,5 @@ mod ways;
 pub use bounds::ResidualBounds;
 pub use laws::first_within_are_first;
 pub use leads::{Lead, leads_of};
-pub use listing::moves_within;
+pub use listing::{few_within, moves_within};
 pub use search::MoveSearch;

@@ -3,6 +3,7 @@
 #![tactic(auto)]
 
 mod adding;
+mod bisection;
 mod bounds;
 mod case;
 mod entry_order;

@@ -32,13 +32,12 @@ pub fn least_by<B: ResidualBounds>(
     ensures least { IfOk result (AreLeastMoves case.now.book.now case.now.request.now (HasBound (B.bound bounds.now)) residual.now wanted) }
 {
     let leads = leads_by(alloc, case, tables, residual, bounds)?;
-    let limit = limit_of(alloc, leads.as_slice(), wanted)?;
     let search = MoveSearch {
         book: case.book,
         request: case.request,
         residual,
         bounds,
-        limit,
+        limit: None,
     };
     least_over(alloc, &search, leads.as_slice(), tables, wanted)
 }
@@ -98,18 +97,4 @@ fn least_over<B: ResidualBounds>(
         &mut network.markets,
         wanted,
     )
-}
-
-/// A total within which so many moves are to be expected: each lead is that of a move. None where there are
-/// fewer leads.
-fn limit_of(alloc: Global, leads: &[Lead], wanted: usize) -> Result<Option<u128>, Mem> {
-    let mut totals = Vec::new(alloc);
-    for lead in leads {
-        totals.push(lead.total)?;
-    }
-    if wanted == 0 || totals.len() < wanted {
-        return Ok(None);
-    }
-    totals.sort_unstable();
-    Ok(Some(totals[wanted - 1]))
 }

@@ -4,16 +4,16 @@ use Rattle.fare_law.specs.Codes.{move_code}
 use Rattle.ticket_order.specs.Coding.{Coded}
 use Rattle.residual_keys.proofs.SortedWords.{same_elements, same_length, written}
 use Rattle.residual_keys.proofs.PathByPath.{all_coded}
-use Rattle.cheap_moves.proofs.listing.moves_within.Goals as goal
+use Rattle.cheap_moves.proofs.listing.in_order.Goals as goal
 
 pub put_in_order-requires-clause-coded : goal.put_in_order-requires-clause-coded
 put_in_order-requires-clause-coded g c =
-    let added = c.in_ok-found.ensures.moves in
+    let added = c.requires in
     subst (Each (λ x. Coded x.mv)) (sym (c.as_mut_slice.ensures.value ∙ c.into_vec-found.ensures ∙ added.joined)) (all_coded c.args.search.now.book.now c.args.search.now.request.now c.args.search.now.residual.now c.book_limits.ensures.fares.keys added.more (λ x i. ((added.are x).0 i).0))
 
-pub returns-clause-moves : goal.returns-clause-moves
-returns-clause-moves g c =
-    let added = c.in_ok-found.ensures.moves in
+pub returns : goal.returns
+returns g c =
+    let added = c.requires in
     let old = c.as_mut_slice.result.now in
     let new = c.put_in_order.new.found in
     let old_is : old ≡ added.more = c.as_mut_slice.ensures.value ∙ c.into_vec-found.ensures ∙ added.joined in
