@@ -14,7 +14,7 @@ ghost use Rattle.answer_text.specs.Said.{SaysAll};
 
 use crate::lines::{ComponentLine, push_component, push_flight, push_ticket, push_tickets};
 use fare_book::Book;
-use fare_law::{Component, Flight, List, Mem, Priced};
+use fare_law::{Component, Flight, List, MOST_COMPONENTS, Mem, Priced};
 use std::alloc::Global;
 use ticket_whole::{component_price, flights_of, is_reverse, unit_kind};
 
@@ -55,7 +55,7 @@ fn push_priced(text: &mut Vec<u8>, number: usize, priced: &Priced, book: &Book) 
     Ok(())
 }
 
-// Adds the text of one of at most 18 components.
+// Adds the text of one of at most `MOST_COMPONENTS` components.
 fn push_part(
     text: &mut Vec<u8>,
     number: usize,
@@ -63,7 +63,7 @@ fn push_part(
     components: &[Component],
     book: &Book,
 ) -> Result<(), Mem>
-    requires { length components.now ≤ 18 }
+    requires { length components.now ≤ MOST_COMPONENTS }
     ensures { OnOk result ((request : Request) (part : Part) (kind : Kind) → IsPart book.now request component.now part → part_of book.now request.sale component.now ≡ Some part
         → IsUnit kind (unit_of component.now.unit (parts_of book.now request.sale components.now)) → Adds (ComponentText (parts_of book.now request.sale components.now) number part) text.old.items text.new.items) }
 {
@@ -75,14 +75,14 @@ fn push_part(
     push_flights(text, flights_of(component, book).as_slice())
 }
 
-// What the line of one of at most 18 components says.
+// What the line of one of at most `MOST_COMPONENTS` components says.
 fn line_of(
     number: usize,
     component: &Component,
     components: &[Component],
     book: &Book,
 ) -> Option<ComponentLine>
-    requires { length components.now ≤ 18 }
+    requires { length components.now ≤ MOST_COMPONENTS }
     ensures { (request : Request) (part : Part) (kind : Kind) → IsPart book.now request component.now part → part_of book.now request.sale component.now ≡ Some part
         → IsUnit kind (unit_of component.now.unit (parts_of book.now request.sale components.now)) → SaysAll (parts_of book.now request.sale components.now) number part result }
 {

@@ -1,5 +1,6 @@
 -- What a choice and ranks of parts measure, read from the drawn parts.
 use Rattle.std.proofs.Common.{◌≡◌, ℕ, ◌<◌, ◌≤◌, List, length, sym, refl, subst, inl, inr, arith, ◌+◌, ◌^◌, length-append, Some, None}
+use Rattle.fare_law.specs.declared.limits.TheConstants.{CODE_NUMBERS}
 use Rattle.best_k.specs.declared.lattice.Choice.TheVariants.{Leaf, Pair}
 use Rattle.best_k.specs.declared.lattice.Derivation.{Derivation}
 use Rattle.best_k.specs.declared.table.Progress.{Progress}
@@ -34,7 +35,7 @@ pair_measure l node at one other i j part more c x y =
 -- the sums are small
 pub pair_small : (l : Shape) → LatticeLaws l → (node at one other i j : ℕ) (part more : Way) → node < l.nodes
     → at < l.choices node → l.choice node at ≡ Pair one (Some other) → HasRank l one part i
-    → HasRank l other more j → (part.price + more.price < 2 ^ 63) × (part.length + more.length ≤ 162)
+    → HasRank l other more j → (part.price + more.price < 2 ^ 63) × (part.length + more.length ≤ CODE_NUMBERS)
 pair_small l laws node at one other i j part more n h c x y =
     let d = join x.derivation y.derivation in
     let s = laws.small node at d.price d.word n (parts_derive l node at i j d h (Pair one (Some other)) c (x.derivation, y.derivation, x.at_rank, y.at_rank, refl)) in

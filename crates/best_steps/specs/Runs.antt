@@ -2,6 +2,7 @@
 use Rattle.std.proofs.Common.{◌≡◌, ℕ, ◌<◌, ◌≤◌, ◌+◌, ◌^◌, List, [], ◌∷◌, ◌++◌, length, Option, Some, None, slice_get}
 use Rattle.fare_law.specs.Lists.{IsPrefix, KLeast}
 use Rattle.fare_law.specs.Best.{Before}
+use Rattle.fare_law.specs.declared.limits.TheConstants.{CODE_NUMBERS}
 use Rattle.best_steps.specs.declared.steps.Step.{Step}
 use Rattle.best_k.specs.declared.lattice.Derivation.{Derivation}
 use Rattle.best_k.specs.Derivations.{Under}
@@ -48,8 +49,8 @@ pub record StepLaws (Has : ℕ → Step → Type 0) (nodes : ℕ) (level : ℕ �
   pub met : (n m : ℕ) (s : Step) → Has n s → s.next ≡ Some m → (t : Step) × Has m t × (s.total ≡ s.price + t.total)
   -- runs cost less than 2^63
   pub small : (n : ℕ) (steps : List Step) → Leads Has (Some n) steps None → price_of steps < 2 ^ 63
-  -- and their words have at most 162 numbers
-  pub short : (n : ℕ) (steps : List Step) → Leads Has (Some n) steps None → length (word_of steps) ≤ 162
+  -- and their words have no more numbers than a code
+  pub short : (n : ℕ) (steps : List Step) → Leads Has (Some n) steps None → length (word_of steps) ≤ CODE_NUMBERS
 
 -- This is the step at a place among a node's steps in order, or there are no more than place steps: so the
 -- node's least steps have it, as many as are asked for.

@@ -108,7 +108,7 @@ fn draw<S: Steps>(alloc: Global, steps: &mut S, search: &mut Search) -> Result<b
 ///
 /// The laws: a step leads to the end or to a node of smaller level; its total is its price and the least
 /// total of the steps that may follow; no word of a node's step begins with the word of another; runs cost
-/// less than 2^63, and their words have at most 162 numbers. No node is asked for more than `k + 1` steps.
+/// less than 2^63, and their words have at most `CODE_NUMBERS` numbers. No node is asked for more than `k + 1` steps.
 pub fn best_steps<S: Steps>(
     alloc: Global,
     steps: &mut S,

@@ -1,7 +1,7 @@
 //! Words, cut and joined.
 ghost use Rattle.std.specs.Prelude.{◌≡◌, ◌≤◌, ◌++◌, length, take, IfOk, OnOk};
 
-use fare_law::{Code, List, Mem};
+use fare_law::{CODE_NUMBERS, Code, List, Mem};
 use std::alloc::Global;
 
 /// The first numbers of a word.
@@ -33,9 +33,9 @@ pub fn joined(alloc: Global, front: &List<u64>, more: &List<u64>) -> Result<List
     Ok(word)
 }
 
-/// A word of at most 162 numbers, as an answer has it.
+/// A word of at most `CODE_NUMBERS` numbers, as an answer has it.
 pub fn code(word: &List<u64>) -> Code
-    requires { length word.now ≤ 162 }
+    requires { length word.now ≤ CODE_NUMBERS }
     ensures { result ≡ word.now }
 {
     let mut code = Code::new();

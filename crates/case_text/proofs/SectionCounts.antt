@@ -6,6 +6,7 @@ use Rattle.std.proofs.lemmas.Bool.Decides.{Decides-ltb, nat_tests}
 use Rattle.std.proofs.lemmas.List.{length-append}
 use Rattle.std.specs.Prelude.{IfOk}
 use Rattle.std.specs.List.{flat_map}
+use Rattle.seat_classes.specs.declared.limits.TheConstants.{MOST_SEAT_ROWS}
 use Rattle.fare_law.specs.declared.rows.TextLine.{TextLine}
 use Rattle.case_text.specs.declared.contents.Case.{Case}
 use Rattle.case_text.specs.declared.contents.Entry.{Entry}
@@ -23,6 +24,7 @@ use Rattle.case_text.specs.Headers.{due, is_name, is_named, name_of}
 use Rattle.case_text.specs.Limits.{HasCounts, HasRows, IsCase, MayAsk}
 use Rattle.case_text.specs.Gives.{Told}
 use Rattle.case_text.specs.Rows.{place_row, flight_row, seat_row}
+use Rattle.case_text.specs.declared.limits.TheConstants.{MOST_FILINGS, MOST_FLIGHT_ROWS, MOST_PLACES, MOST_REQUESTS, MOST_SCRIPT_LINES}
 use Rattle.case_text.proofs.HeaderOrder.{rank, same_rank, same_named, under_rank, rank_some, due_later, due_asks}
 use Rattle.law_lemmas.proofs.Options.{ok_same}
 
@@ -352,23 +354,23 @@ module _ (kind : CaseKind) (next : ℕ) (ls : List TextLine) (found : List Entry
   lines_few section most last holds = at_most (lines_in section) kind section most last (λ h line. omega arith) (few_lines section) (no_lines section) holds next ls found e
 
   one_request : has_one_request kind ≡ true → length (flat_map (lines_in Request) found) ≡ 1
-  one_request single = omega (arith, one_at_least kind single next ls found e, lines_few Request 1 (omega arith) (λ n r. below 1 n (sym (ap (λ b. has_room (cond b (Some 1) (Some 100)) n) single) ∙ r)))
+  one_request single = omega (arith, one_at_least kind single next ls found e, lines_few Request 1 (omega arith) (λ n r. below 1 n (sym (ap (λ b. has_room (cond b (Some 1) (Some MOST_REQUESTS)) n) single) ∙ r)))
 
 many_requests : (kind : CaseKind) (next : ℕ) (ls : List TextLine) (found : List Entry) → entries kind next at_start ls ≡ Ok found → MayAsk kind (length (flat_map (lines_in Request) found))
 many_requests Search next ls found e = one_request Search next ls found e refl
 many_requests Check next ls found e = one_request Check next ls found e refl
-many_requests Serve next ls found e = lines_few Serve next ls found e Request 100 (omega arith) (below 100)
+many_requests Serve next ls found e = lines_few Serve next ls found e Request MOST_REQUESTS (omega arith) (below MOST_REQUESTS)
 many_requests Verdict next ls found e = one_request Verdict next ls found e refl
 
 counts_found : (kind : CaseKind) (next : ℕ) (ls : List TextLine) (found : List Entry) → entries kind next at_start ls ≡ Ok found → HasCounts kind (case_with found)
 counts_found kind next ls found e = record {
-  places = at_most places_in kind Places 1000 (omega arith) (λ h line. omega arith) few_places no_places (below 1000) next ls found e;
-  flights = at_most flights_in kind Flights 5000 (omega arith) (λ h line. omega arith) few_flights no_flights (below 5000) next ls found e;
-  seats = at_most seats_in kind Seats 200000 (omega arith) (λ h line. omega arith) few_seats no_seats (below 200000) next ls found e;
-  filings = lines_few kind next ls found e Filings 1000 (omega arith) (below 1000);
-  later = lines_few kind next ls found e Later 1000 (omega arith) (below 1000);
+  places = at_most places_in kind Places MOST_PLACES (omega arith) (λ h line. omega arith) few_places no_places (below MOST_PLACES) next ls found e;
+  flights = at_most flights_in kind Flights MOST_FLIGHT_ROWS (omega arith) (λ h line. omega arith) few_flights no_flights (below MOST_FLIGHT_ROWS) next ls found e;
+  seats = at_most seats_in kind Seats MOST_SEAT_ROWS (omega arith) (λ h line. omega arith) few_seats no_seats (below MOST_SEAT_ROWS) next ls found e;
+  filings = lines_few kind next ls found e Filings MOST_FILINGS (omega arith) (below MOST_FILINGS);
+  later = lines_few kind next ls found e Later MOST_FILINGS (omega arith) (below MOST_FILINGS);
   requests = many_requests kind next ls found e;
-  script = lines_few kind next ls found e Script 1000 (omega arith) (below 1000);
+  script = lines_few kind next ls found e Script MOST_SCRIPT_LINES (omega arith) (below MOST_SCRIPT_LINES);
 }
 
 case_counts : (kind : CaseKind) (next : ℕ) (ls : List TextLine) (case : Case) → case_read kind next ls ≡ Ok case → HasCounts kind case

@@ -2,6 +2,7 @@
 -- before it and the count of lines since; of several faults the one that is tested first decides.
 use Rattle.std.specs.Prelude.{ℕ, ◌+◌, ◌==◌, ◌&&◌, Bool, true, false, not, nat_lt, List, [], ◌∷◌, length, Option, Some, None, Result, Ok, Err, if◌then◌else◌}
 use Rattle.std.specs.Str.Lines.{lines}
+use Rattle.seat_classes.specs.declared.limits.TheConstants.{MOST_SEAT_ROWS}
 use Rattle.fare_law.specs.declared.rows.TextLine.{TextLine}
 use Rattle.case_text.specs.declared.contents.Case.{Case}
 use Rattle.case_text.specs.declared.contents.Entry.{Entry}
@@ -17,6 +18,7 @@ use Rattle.case_text.specs.Contents.{case_with}
 use Rattle.case_text.specs.Headers.{due, is_name, is_named}
 use Rattle.case_text.specs.Lines.{text_lines}
 use Rattle.case_text.specs.Rows.{place_row, flight_row, seat_row}
+use Rattle.case_text.specs.declared.limits.TheConstants.{MOST_FILINGS, MOST_FLIGHT_ROWS, MOST_PLACES, MOST_REQUESTS, MOST_SCRIPT_LINES}
 
 -- where the first line stands: under no header
 abbrev pub at_start : Standing
@@ -48,13 +50,13 @@ has_one_request kind = true
 
 -- the lines that a section may have, if it has a limit
 abbrev pub limit : CaseKind → Header → Option ℕ
-limit kind Places = Some 1000
-limit kind Flights = Some 5000
-limit kind Seats = Some 200000
-limit kind Filings = Some 1000
-limit kind Later = Some 1000
-limit kind Request = if has_one_request kind then Some 1 else Some 100
-limit kind Script = Some 1000
+limit kind Places = Some MOST_PLACES
+limit kind Flights = Some MOST_FLIGHT_ROWS
+limit kind Seats = Some MOST_SEAT_ROWS
+limit kind Filings = Some MOST_FILINGS
+limit kind Later = Some MOST_FILINGS
+limit kind Request = if has_one_request kind then Some 1 else Some MOST_REQUESTS
+limit kind Script = Some MOST_SCRIPT_LINES
 limit kind Certificate = None
 limit kind Ticket = None
 limit kind End = None

@@ -1,5 +1,6 @@
 -- What a case that is read keeps to: rows within their limits, and sections within theirs.
 use Rattle.std.specs.Prelude.{◌≡◌, ◌≤◌, ℕ, length, ⊤}
+use Rattle.seat_classes.specs.declared.limits.TheConstants.{MOST_SEAT_ROWS}
 use Rattle.fare_law.specs.Limits.{IsFlightRow, IsPlaceRow, IsSeatRow}
 use Rattle.fare_law.specs.Lists.{Each}
 use Rattle.case_text.specs.declared.contents.Case.{Case}
@@ -7,6 +8,7 @@ use Rattle.case_text.specs.declared.contents.Entry.{Entry}
 use Rattle.case_text.specs.declared.contents.Entry.TheVariants.{Place, Flight, Seat}
 use Rattle.case_text.specs.declared.kinds.CaseKind.{CaseKind}
 use Rattle.case_text.specs.declared.kinds.CaseKind.TheVariants.{Serve}
+use Rattle.case_text.specs.declared.limits.TheConstants.{MOST_FILINGS, MOST_FLIGHT_ROWS, MOST_PLACES, MOST_REQUESTS, MOST_SCRIPT_LINES}
 
 -- the entry is no row, or one within its limits
 abbrev pub KeepsLimits : Entry → Type 0
@@ -17,7 +19,7 @@ KeepsLimits entry = ⊤
 
 -- a case of this kind may have so many requests
 abbrev pub MayAsk : CaseKind → ℕ → Type 0
-MayAsk Serve count = count ≤ 100
+MayAsk Serve count = count ≤ MOST_REQUESTS
 MayAsk kind count = count ≡ 1
 
 -- each row of the tables is within its limits
@@ -28,13 +30,13 @@ pub record HasRows (case : Case) : Type 0 where
 
 -- each section has as many lines as it may have
 pub record HasCounts (kind : CaseKind) (case : Case) : Type 0 where
-  pub places : length case.places ≤ 1000
-  pub flights : length case.flights ≤ 5000
-  pub seats : length case.seats ≤ 200000
-  pub filings : length case.filings ≤ 1000
-  pub later : length case.later ≤ 1000
+  pub places : length case.places ≤ MOST_PLACES
+  pub flights : length case.flights ≤ MOST_FLIGHT_ROWS
+  pub seats : length case.seats ≤ MOST_SEAT_ROWS
+  pub filings : length case.filings ≤ MOST_FILINGS
+  pub later : length case.later ≤ MOST_FILINGS
   pub requests : MayAsk kind (length case.requests)
-  pub script : length case.script ≤ 1000
+  pub script : length case.script ≤ MOST_SCRIPT_LINES
 
 -- a case of this kind within its limits
 pub record IsCase (kind : CaseKind) (case : Case) : Type 0 where

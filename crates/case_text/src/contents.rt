@@ -5,10 +5,8 @@ ghost use Rattle.case_text.specs.Contents.{added, line_added, no_contents, after
 use crate::CaseLine;
 use crate::headers::Header;
 use fare_law::{FlightRow, List, Mem, PlaceRow, SeatRow, TextLine};
+use seat_classes::MOST_SEAT_ROWS;
 use std::alloc::Global;
-
-/// So many seat rows a case may have.
-const MOST_SEATS: usize = 200_000;
 
 /// The rows and lines of a case by their sections. A section that the kind of case doesn't have is
 /// empty. Filings, requests and certificates are read where they stand in the text.
@@ -42,7 +40,7 @@ impl<'a> Case<'a> {
     pub(crate) fn new(alloc: Global, lines: usize) -> Result<Case<'a>, Mem>
         ensures { IfOk result (λ case. case ≡ no_contents) }
     {
-        let seats = Vec::with_capacity(alloc, lines.min(MOST_SEATS))?;
+        let seats = Vec::with_capacity(alloc, lines.min(MOST_SEAT_ROWS))?;
         Ok(Case {
             places: List::new(alloc),
             flights: List::new(alloc),

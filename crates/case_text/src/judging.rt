@@ -13,8 +13,12 @@ use crate::contents::Entry;
 use crate::headers::{Header, due, is_name};
 use crate::rows::{flight_fields, flight_row, place_fields, place_row, seat_fields, seat_row};
 use crate::standing::Standing;
-use crate::{CaseFault, CaseKind, CaseLine, Line, RowFault};
+use crate::{
+    CaseFault, CaseKind, CaseLine, Line, MOST_FILINGS, MOST_FLIGHT_ROWS, MOST_PLACES,
+    MOST_REQUESTS, MOST_SCRIPT_LINES, RowFault,
+};
 use csv::ByteRecord;
+use seat_classes::MOST_SEAT_ROWS;
 use std::alloc::Global;
 
 /// What the line is, or its fault. Its fields are given where they were read with other lines.
@@ -108,19 +112,19 @@ fn limit(kind: CaseKind, header: Header) -> Option<usize>
     ensures { result ≡ Entries.limit kind header }
 {
     match header {
-        Header::Places => Some(1000),
-        Header::Flights => Some(5000),
-        Header::Seats => Some(200_000),
-        Header::Filings => Some(1000),
-        Header::Later => Some(1000),
+        Header::Places => Some(MOST_PLACES),
+        Header::Flights => Some(MOST_FLIGHT_ROWS),
+        Header::Seats => Some(MOST_SEAT_ROWS),
+        Header::Filings => Some(MOST_FILINGS),
+        Header::Later => Some(MOST_FILINGS),
         Header::Request => {
             if has_one_request(kind) {
                 Some(1)
             } else {
-                Some(100)
+                Some(MOST_REQUESTS)
             }
         }
-        Header::Script => Some(1000),
+        Header::Script => Some(MOST_SCRIPT_LINES),
         _ => None,
     }
 }

@@ -1,13 +1,13 @@
 //! The parts of a certificate.
 use crate::CertRows;
-use fare_law::{ArrayVec, List, Move, Request};
+use fare_law::{ArrayVec, List, MOST_COMPONENTS, Move, Request};
 use residual_keys::Residual;
 
 /// An answer: what its ticket costs, and the moves that make it.
 #[derive(PartialEq, Eq, Debug, Drop)]
 pub struct CertAnswer {
     pub price: u64,
-    pub moves: ArrayVec<Move, 18>,
+    pub moves: ArrayVec<Move, MOST_COMPONENTS>,
 }
 
 /// A residual, and a bound below which no run from it costs.

@@ -3,6 +3,7 @@ use Rattle.std.proofs.Common.{◌≡◌, ◌↔◌, ℕ, List, ◌∷◌, ◌++�
 use Rattle.std.specs.Fmt.{decimal}
 use Rattle.std.specs.Prelude.{codes}
 use Rattle.std.proofs.lemmas.Option.{same_Some}
+use Rattle.fare_law.specs.declared.limits.TheConstants.{MOST_COMPONENTS}
 use Rattle.certificate.specs.declared.parts.CertAnswer.{CertAnswer}
 use Rattle.certificate.specs.declared.parts.CertRow.{CertRow}
 use Rattle.certificate_text.specs.LineReading.{after_label, word_at, bound_in, moves_in, answer_in}
@@ -24,7 +25,7 @@ answer_again k a h =
       label_again (codes "answer") (spaced (decimal a.price ∷ rest)),
       word_again (decimal a.price) (spaced rest) (digits_free k a.price h.price) (spaced_ends rest),
       k.number.again 18446744073709551615 a.price (omega (arith, h.price)) h.price,
-      moves_again k 18 a.moves h.few h.moves,
+      moves_again k MOST_COMPONENTS a.moves h.few h.moves,
     ) refl
 
 answer_read : Numbers → (line : List ℕ) (a : CertAnswer) → answer_in line ≡ Some a → SpellsAnswer line a
@@ -33,9 +34,9 @@ answer_read k line a e =
     from_step (after_label (codes "answer") line) _ a e (λ rest was_rest e.
     from_step (word_at rest) _ a e (λ word was_word e.
     from_step (number_in 18446744073709551615 word.0) _ a e (λ price is_price e.
-    from_step (moves_in 18 word.1) _ a e (λ moves was_moves e.
+    from_step (moves_in MOST_COMPONENTS word.1) _ a e (λ moves was_moves e.
     let n = k.number.read 18446744073709551615 price word.0 is_price in
-    let m = moves_read k 18 word.1 moves was_moves in
+    let m = moves_read k MOST_COMPONENTS word.1 moves was_moves in
     let it : CertAnswer = record { price = price; moves = moves } in
     subst (SpellsAnswer line) (same_Some it a e) (record {
       is = record { price = omega (arith, n.0); few = m.few; moves = m.moves };

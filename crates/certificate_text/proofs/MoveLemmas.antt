@@ -12,6 +12,7 @@ use Rattle.fare_law.specs.declared.names.Basis.{Basis}
 use Rattle.fare_law.specs.declared.names.Carrier.{Carrier}
 use Rattle.fare_law.specs.Lists.{Each}
 use Rattle.fare_law.specs.Codes.{role_code}
+use Rattle.fare_law.specs.declared.limits.TheConstants.{MOST_FLIGHTS_OF_A_COMPONENT}
 use Rattle.name_text.specs.Names.{basis_of, carrier_of}
 use Rattle.word_text.specs.Words.{number_in}
 use Rattle.law_lemmas.proofs.Options.{from_step}
@@ -59,19 +60,19 @@ flights_read k (suc n) text p e =
           ∙ ap (λ t. 32 ∷ t) (sym (append_assoc (decimal flight) (spaced (map decimal more.0)) more.1));
     }))))
 
-pub count_again : Numbers → (n : ℕ) → 1 ≤ n → n ≤ 4 → count_in (decimal n) ≡ Some n
-count_again k n low high = rw (k.number.again 4 n high (omega (arith, high))) (some n low)
+pub count_again : Numbers → (n : ℕ) → 1 ≤ n → n ≤ MOST_FLIGHTS_OF_A_COMPONENT → count_in (decimal n) ≡ Some n
+count_again k n low high = rw (k.number.again MOST_FLIGHTS_OF_A_COMPONENT n high (omega (arith, high))) (some n low)
   where
     some : (n : ℕ) → 1 ≤ n → (if n == 0 then None else Some n) ≡ Some n
     some zero h = absurd (omega arith)
     some (suc n) h = rw (ne_eqb (suc n) 0 (λ e. omega (arith, e))) refl
 
-pub count_read : Numbers → (w : List ℕ) (n : ℕ) → count_in w ≡ Some n → (1 ≤ n) × (n ≤ 4) × (w ≡ decimal n)
+pub count_read : Numbers → (w : List ℕ) (n : ℕ) → count_in w ≡ Some n → (1 ≤ n) × (n ≤ MOST_FLIGHTS_OF_A_COMPONENT) × (w ≡ decimal n)
 count_read k w n e =
-    from_step (number_in 4 w) _ n e (λ m was e.
+    from_step (number_in MOST_FLIGHTS_OF_A_COMPONENT w) _ n e (λ m was e.
     let s = some m n e in
-    let r = k.number.read 4 m w was in
-    subst (λ x. (1 ≤ x) × (x ≤ 4) × (w ≡ decimal x)) s.1 (s.0, r.0, r.1))
+    let r = k.number.read MOST_FLIGHTS_OF_A_COMPONENT m w was in
+    subst (λ x. (1 ≤ x) × (x ≤ MOST_FLIGHTS_OF_A_COMPONENT) × (w ≡ decimal x)) s.1 (s.0, r.0, r.1))
   where
     some : (m n : ℕ) → (if m == 0 then None else Some m) ≡ Some n → (1 ≤ m) × (m ≡ n)
     some zero n e = absurd (cc)

@@ -3,6 +3,7 @@ use Rattle.std.proofs.Common.{ap₂, length-append, inl, inr, ◌≡◌, ◌≢�
 use Rattle.std.proofs.lemmas.List.{take_all, take-append-drop}
 use Rattle.std.proofs.lemmas.Option.{same_Some}
 use Rattle.fare_law.specs.declared.moves.Move.{Move}
+use Rattle.fare_law.specs.declared.limits.TheConstants.{MOST_COMPONENTS}
 use Rattle.certificate_text.specs.LineReading.{after_label, before_space, word_at, flights_in, move_in, moves_in}
 use Rattle.word_text.specs.Words.{IsFreeOf, number_in}
 use Rattle.law_lemmas.proofs.Tests.{same_byte}
@@ -218,39 +219,39 @@ moves_full (b ∷ text) some = refl
 filled : {X : Type 0} (text : List X) → (length text ≡ 0 → ⊥) → text ≢ []
 filled text some e = some (ap length e)
 
-pub moves_more : (front : List Move) (m : Move) (text more start : List ℕ) (i : ℕ) → i < 18 → (length text ≡ 0 → ⊥) → move_in text ≡ Some (m, more)
-    → moves_after front (moves_in (18 - i) text) ≡ moves_in 18 start → moves_after (front ++ m ∷ []) (moves_in (18 - (i + 1)) more) ≡ moves_in 18 start
+pub moves_more : (front : List Move) (m : Move) (text more start : List ℕ) (i : ℕ) → i < MOST_COMPONENTS → (length text ≡ 0 → ⊥) → move_in text ≡ Some (m, more)
+    → moves_after front (moves_in (MOST_COMPONENTS - i) text) ≡ moves_in MOST_COMPONENTS start → moves_after (front ++ m ∷ []) (moves_in (MOST_COMPONENTS - (i + 1)) more) ≡ moves_in MOST_COMPONENTS start
 moves_more front m text more start i l some e so =
-    moves_push front m (moves_in (18 - (i + 1)) more)
-    ∙ ap (moves_after front) (sym (moves_step (18 - (i + 1)) text more m (filled text some) e) ∙ ap (λ n. moves_in n text) (sym (one_less 18 i l))) ∙ so
+    moves_push front m (moves_in (MOST_COMPONENTS - (i + 1)) more)
+    ∙ ap (moves_after front) (sym (moves_step (MOST_COMPONENTS - (i + 1)) text more m (filled text some) e) ∙ ap (λ n. moves_in n text) (sym (one_less MOST_COMPONENTS i l))) ∙ so
 
-pub moves_bad : (front : List Move) (text start : List ℕ) (i : ℕ) → i < 18 → (length text ≡ 0 → ⊥) → move_in text ≡ None
-    → moves_after front (moves_in (18 - i) text) ≡ moves_in 18 start → None ≡ moves_in 18 start
+pub moves_bad : (front : List Move) (text start : List ℕ) (i : ℕ) → i < MOST_COMPONENTS → (length text ≡ 0 → ⊥) → move_in text ≡ None
+    → moves_after front (moves_in (MOST_COMPONENTS - i) text) ≡ moves_in MOST_COMPONENTS start → None ≡ moves_in MOST_COMPONENTS start
 moves_bad front text start i l some e so =
-    sym (sym so ∙ ap (moves_after front) (ap (λ n. moves_in n text) (one_less 18 i l) ∙ moves_stop (18 - (i + 1)) text (filled text some) e))
+    sym (sym so ∙ ap (moves_after front) (ap (λ n. moves_in n text) (one_less MOST_COMPONENTS i l) ∙ moves_stop (MOST_COMPONENTS - (i + 1)) text (filled text some) e))
 
 empty : (text : List ℕ) → length text ≡ 0 → text ≡ []
 empty [] e = refl
 empty (b ∷ text) e = absurd (omega (arith, e))
 
 pub moves_done : (front : List Move) (text start : List ℕ) (n : ℕ) → length text ≡ 0
-    → moves_after front (moves_in n text) ≡ moves_in 18 start → Some front ≡ moves_in 18 start
+    → moves_after front (moves_in n text) ≡ moves_in MOST_COMPONENTS start → Some front ≡ moves_in MOST_COMPONENTS start
 moves_done front text start n e so =
     sym (sym so ∙ ap (λ t. moves_after front (moves_in n t)) (empty text e) ∙ ap (moves_after front) (moves_end n) ∙ ap Some (append-nil front))
 
-pub moves_past : (front : List Move) (text start : List ℕ) (i : ℕ) → 18 ≤ i → (length text ≡ 0 → ⊥)
-    → moves_after front (moves_in (18 - i) text) ≡ moves_in 18 start → None ≡ moves_in 18 start
+pub moves_past : (front : List Move) (text start : List ℕ) (i : ℕ) → MOST_COMPONENTS ≤ i → (length text ≡ 0 → ⊥)
+    → moves_after front (moves_in (MOST_COMPONENTS - i) text) ≡ moves_in MOST_COMPONENTS start → None ≡ moves_in MOST_COMPONENTS start
 moves_past front text start i l some so =
-    let none : 18 - i ≡ 0 = omega arith in
+    let none : MOST_COMPONENTS - i ≡ 0 = omega arith in
     sym (sym so ∙ ap (λ n. moves_after front (moves_in n text)) none ∙ ap (moves_after front) (moves_full text (filled text some)))
 
-pub moves_kept : (front new : List Move) (m : Move) (text more start : List ℕ) → new ≡ front ++ m ∷ [] → length front < 18 → (length text ≡ 0 → ⊥)
-    → move_in text ≡ Some (m, more) → moves_after front (moves_in (18 - length front) text) ≡ moves_in 18 start
-    → (length new ≤ 18) × (moves_after new (moves_in (18 - length new) more) ≡ moves_in 18 start)
+pub moves_kept : (front new : List Move) (m : Move) (text more start : List ℕ) → new ≡ front ++ m ∷ [] → length front < MOST_COMPONENTS → (length text ≡ 0 → ⊥)
+    → move_in text ≡ Some (m, more) → moves_after front (moves_in (MOST_COMPONENTS - length front) text) ≡ moves_in MOST_COMPONENTS start
+    → (length new ≤ MOST_COMPONENTS) × (moves_after new (moves_in (MOST_COMPONENTS - length new) more) ≡ moves_in MOST_COMPONENTS start)
 moves_kept front new m text more start is few some e so =
     let many : length new ≡ length front + 1 = ap length is ∙ length-append front (m ∷ []) in (
       omega (arith, many),
-      ap₂ (λ xs n. moves_after xs (moves_in (18 - n) more)) is many ∙ moves_more front m text more start (length front) few some e so,
+      ap₂ (λ xs n. moves_after xs (moves_in (MOST_COMPONENTS - n) more)) is many ∙ moves_more front m text more start (length front) few some e so,
     )
 
 pub ruleset move_rules = (moves_none, moves_more, moves_bad, moves_done, moves_past)

@@ -4,6 +4,7 @@ use Rattle.certificate.specs.declared.parts.CertAnswer.{CertAnswer}
 use Rattle.fare_law.specs.declared.moves.Move.{Move}
 use Rattle.fare_law.specs.declared.moves.Role.{Role}
 use Rattle.fare_law.specs.declared.moves.Role.TheVariants.{Alone, Opens, GoesOn, Closes}
+use Rattle.fare_law.specs.declared.limits.TheConstants.{MOST_COMPONENTS, MOST_FLIGHTS_OF_A_COMPONENT}
 use Rattle.name_text.specs.Names.{basis_of, carrier_of}
 use Rattle.word_text.specs.Words.{number_in}
 
@@ -51,10 +52,10 @@ flights_in (suc n) text = do
   more ← flights_in n word.1
   Some (flight ∷ more.0, more.1)
 
--- the count of a move's flights, from 1 to 4
+-- the count of a move's flights, from 1 to `MOST_FLIGHTS_OF_A_COMPONENT`
 abbrev pub count_in : List ℕ → Option ℕ
 count_in word = do
-  n ← number_in 4 word
+  n ← number_in MOST_FLIGHTS_OF_A_COMPONENT word
   if n == 0 then None else Some n
 
 -- a move, and the rest
@@ -87,5 +88,5 @@ answer_in line = do
   rest ← after_label (codes "answer") line
   word ← word_at rest
   price ← number_in 18446744073709551615 word.0
-  moves ← moves_in 18 word.1
+  moves ← moves_in MOST_COMPONENTS word.1
   Some (record { price = price; moves = moves })

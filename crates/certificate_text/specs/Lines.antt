@@ -6,6 +6,7 @@ use Rattle.fare_law.specs.declared.moves.Move.{Move}
 use Rattle.fare_law.specs.Lists.{Each}
 use Rattle.fare_law.specs.Codes.{role_code}
 use Rattle.fare_law.specs.Names.{IsBasis, IsCarrier}
+use Rattle.fare_law.specs.declared.limits.TheConstants.{MOST_COMPONENTS, MOST_FLIGHTS_OF_A_COMPONENT}
 use Rattle.residual_keys.specs.ResidualText.{IsWritten, Spells, residual_text}
 
 -- words, each after a space
@@ -34,18 +35,18 @@ bound_word (Some bound) = decimal bound
 abbrev pub row_line : CertRow → List ℕ
 row_line r = codes "row " ++ (residual_text r.residual ++ 32 ∷ bound_word r.bound)
 
--- 1 to 4 flights, names of their forms, and numbers that fit their fields
+-- 1 to `MOST_FLIGHTS_OF_A_COMPONENT` flights, names of their forms, and numbers that fit their fields
 pub record IsMove (m : Move) : Type 0 where
-  pub count : (1 ≤ length m.flights) × (length m.flights ≤ 4)
+  pub count : (1 ≤ length m.flights) × (length m.flights ≤ MOST_FLIGHTS_OF_A_COMPONENT)
   pub flights : Each (λ f. f < 2 ^ 32) m.flights
   pub carrier : IsCarrier m.carrier
   pub basis : IsBasis m.basis
   pub slot : m.slot < 2 ^ 8
 
--- at most 18 moves
+-- at most `MOST_COMPONENTS` moves
 pub record IsAnswer (a : CertAnswer) : Type 0 where
   pub price : a.price < 2 ^ 64
-  pub few : length a.moves ≤ 18
+  pub few : length a.moves ≤ MOST_COMPONENTS
   pub moves : Each IsMove a.moves
 
 -- a residual that has a text of its own, and a bound that fits its field

@@ -3,7 +3,7 @@ ghost use Rattle.std.specs.Prelude.{◌≡◌, ◌≤◌, ◌++◌, ◌∷◌, [
 ghost use Rattle.certificate_text.specs.LineReading as Reading;
 ghost use Rattle.word_text.specs.Words.{IsFreeOf};
 
-use fare_law::{ArrayVec, Move, Role};
+use fare_law::{ArrayVec, MOST_COMPONENTS, MOST_FLIGHTS_OF_A_COMPONENT, Move, Role};
 use name_text::{basis_of, carrier_of};
 use word_text::number_of;
 
@@ -87,8 +87,11 @@ fn role_of(word: &[u8]) -> Option<Role>
 
 // So many flights, and the rest.
 #[tactic(auto, using(crate::proofs::WordLemmas::flight_rules))]
-fn flights_of(text: &[u8], count: usize) -> Option<(ArrayVec<u32, 4>, &[u8])>
-    requires { count ≤ 4 }
+fn flights_of(
+    text: &[u8],
+    count: usize,
+) -> Option<(ArrayVec<u32, MOST_FLIGHTS_OF_A_COMPONENT>, &[u8])>
+    requires { count ≤ MOST_FLIGHTS_OF_A_COMPONENT }
     ensures { MatchOption result (Reading.flights_in count text.now ≡ None)
         (λ x. Reading.flights_in count text.now ≡ Some (x.0, x.1.now)) }
 {
@@ -102,12 +105,12 @@ fn flights_of(text: &[u8], count: usize) -> Option<(ArrayVec<u32, 4>, &[u8])>
     Some((flights, rest))
 }
 
-// The count of a move's flights, from 1 to 4.
+// The count of a move's flights, from 1 to `MOST_FLIGHTS_OF_A_COMPONENT`.
 fn count_of(word: &[u8]) -> Option<usize>
     ensures value { result ≡ Reading.count_in word.now }
-    ensures few { IfSome result (λ n. n ≤ 4) }
+    ensures few { IfSome result (λ n. n ≤ MOST_FLIGHTS_OF_A_COMPONENT) }
 {
-    let count = number_of(word, 4)?;
+    let count = number_of(word, MOST_FLIGHTS_OF_A_COMPONENT as u64)?;
     if count == 0 {
         None
     } else {
@@ -137,14 +140,14 @@ fn move_of(text: &[u8]) -> Option<(Move, &[u8])>
     Some((mv, text))
 }
 
-/// The moves that the rest of a line spells: at most 18.
+/// The moves that the rest of a line spells: at most `MOST_COMPONENTS`.
 #[tactic(auto, using(crate::proofs::WordLemmas::move_rules))]
-pub fn moves_of(text: &[u8]) -> Option<ArrayVec<Move, 18>>
-    ensures { result ≡ Reading.moves_in 18 text.now }
+pub fn moves_of(text: &[u8]) -> Option<ArrayVec<Move, MOST_COMPONENTS>>
+    ensures { result ≡ Reading.moves_in MOST_COMPONENTS text.now }
 {
     let mut moves = ArrayVec::new();
     let mut rest = text;
-    while moves.as_slice().len() < 18 {
+    while moves.as_slice().len() < MOST_COMPONENTS {
         if rest.is_empty() {
             return Some(moves);
         }

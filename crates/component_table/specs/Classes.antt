@@ -22,6 +22,7 @@ use Rattle.fare_law.specs.Book.{Book, live_rule}
 use Rattle.fare_law.specs.Lists.{Each, IsIn, OnFirst, OnLast}
 use Rattle.fare_law.specs.Parts.{Numbers, stopovers}
 use Rattle.fare_law.specs.Sheets.{IsLiveRow}
+use Rattle.fare_law.specs.declared.limits.TheConstants.{MOST_FLIGHTS_OF_A_COMPONENT}
 use Rattle.flight_paths.specs.declared.positions.Path.{Path}
 use Rattle.flight_paths.specs.declared.positions.Position.{Position}
 use Rattle.flight_paths.specs.Positions.{IsPath}
@@ -88,7 +89,7 @@ WaySettled b ms e s reverse table = (f : Filed) → filed_of e reverse ≡ Some 
 
 -- The flights of a path's numbers are four at most; they are of its class, and its classes of seats are open in all of them.
 pub record IsNumbered (b : Book) (q : Request) (l : Landed) : Type 0 where
-  pub few : length (numbers_of l) ≤ 4
+  pub few : length (numbers_of l) ≤ MOST_FLIGHTS_OF_A_COMPONENT
   pub classes : (fs : List Flight) → Numbers b (numbers_of l) fs → HasLegs b q fs l.classes
   pub class : (fs : List Flight) → Numbers b (numbers_of l) fs → IsOfClass l.class l.class.after fs
 

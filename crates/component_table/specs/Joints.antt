@@ -14,6 +14,7 @@ use Rattle.fare_law.specs.declared.flights.Flight.{Flight}
 use Rattle.fare_law.specs.declared.requests.Request.{Request}
 use Rattle.fare_law.specs.Book.{Book}
 use Rattle.fare_law.specs.Parts.{Numbers}
+use Rattle.fare_law.specs.declared.limits.TheConstants.{MOST_FLIGHTS_OF_A_COMPONENT}
 use Rattle.flight_paths.specs.declared.positions.Path.{Path}
 
 -- It is of this head, which is at hand, and of this tail, which has this number.
@@ -34,7 +35,7 @@ pub record Joins (r : Rows) (ks : Kinds) (first : Path) (number : ℕ) (last : P
 
 -- The head and the tail are four flights at most; as one path they are of the class, and the classes of seats are those that are open in all of them.
 pub record IsJoint (b : Book) (q : Request) (j : Joint) : Type 0 where
-  pub few : length j.head.now.flights + length j.tail.now.flights ≤ 4
+  pub few : length j.head.now.flights + length j.tail.now.flights ≤ MOST_FLIGHTS_OF_A_COMPONENT
   pub after : j.tail.now.after ≡ j.class.after
   pub classes : (fs : List Flight) → Numbers b (j.head.now.flights ++ j.tail.now.flights) fs → HasLegs b q fs j.classes
   pub class : (fs : List Flight) → Numbers b (j.head.now.flights ++ j.tail.now.flights) fs → IsOfClass j.class j.class.after fs

@@ -22,6 +22,7 @@ use Rattle.fare_law.specs.Book.{Book, live_rule}
 use Rattle.fare_law.specs.Limits.{IsFlight}
 use Rattle.fare_law.specs.Lists.{Each, IsIn, OnFirst, OnLast}
 use Rattle.fare_law.specs.Parts.{Numbers}
+use Rattle.fare_law.specs.declared.limits.TheConstants.{MOST_FLIGHTS_OF_A_COMPONENT}
 use Rattle.flight_paths.specs.declared.positions.Path.{Path}
 use Rattle.flight_paths.specs.declared.positions.Position.{Position}
 use Rattle.flight_paths.specs.Positions.{IsPath}
@@ -94,7 +95,7 @@ flown_on l fs = record { flights = fs; class = l.class; classes = l.classes }
 
 -- One to four flights, with the classes that are open in all of them.
 pub record IsFlown (b : Book) (q : Request) (flown : Flown) : Type 0 where
-  pub count : IsInRange 1 4 (length flown.flights)
+  pub count : IsInRange 1 MOST_FLIGHTS_OF_A_COMPONENT (length flown.flights)
   pub legs : HasLegs b q flown.flights flown.classes
 
 -- Such flights, and a market of the book.

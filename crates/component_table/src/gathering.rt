@@ -7,7 +7,7 @@ ghost use Rattle.flight_paths.specs.Plans.{HasPlan};
 
 use crate::ways::Landed;
 use fare_book::Book;
-use fare_law::{ArrayVec, Flight};
+use fare_law::{ArrayVec, Flight, MOST_FLIGHTS_OF_A_COMPONENT};
 use schedule_book::Schedule;
 
 /// The places and the flights of a book.
@@ -56,8 +56,12 @@ pub fn last_flight<'a>(book: &'a Book, numbers: &[u32]) -> Option<&'a Flight>
 
 /// Gathers the flights of a path, if there is none yet. Whether each of its numbers is that of a flight: where one isn't,
 /// none is gathered.
-pub fn gather(book: &Book, path: &Landed, flights: &mut ArrayVec<Flight, 4>) -> bool
-    requires few { length (numbers_of path.now) ≤ 4 }
+pub fn gather(
+    book: &Book,
+    path: &Landed,
+    flights: &mut ArrayVec<Flight, MOST_FLIGHTS_OF_A_COMPONENT>,
+) -> bool
+    requires few { length (numbers_of path.now) ≤ MOST_FLIGHTS_OF_A_COMPONENT }
     requires flights { AreGathered book.now (numbers_of path.now) flights.old }
     ensures flights { AreGathered book.now (numbers_of path.now) flights.new }
     ensures some { IsTrue result → HasGathered book.now (numbers_of path.now) flights.new }
@@ -78,8 +82,12 @@ pub fn gather(book: &Book, path: &Landed, flights: &mut ArrayVec<Flight, 4>) -> 
 }
 
 /// Adds the flights of these numbers. Whether each number is that of a flight: where one isn't, the rest is left out.
-fn add_flights(book: &Book, numbers: &[u32], flights: &mut ArrayVec<Flight, 4>) -> bool
-    requires { length flights.old + length numbers.now ≤ 4 }
+fn add_flights(
+    book: &Book,
+    numbers: &[u32],
+    flights: &mut ArrayVec<Flight, MOST_FLIGHTS_OF_A_COMPONENT>,
+) -> bool
+    requires { length flights.old + length numbers.now ≤ MOST_FLIGHTS_OF_A_COMPONENT }
     ensures some { IsTrue result → AddsFlights book.now numbers.now flights.old flights.new }
     ensures none { result ≡ false → (fs : Items DatedFlight) → Numbers book.now numbers.now fs → ⊥ }
     ensures limits { AreLimited book.now }

@@ -8,8 +8,8 @@ use crate::classes::PathClass;
 use crate::recent::Recent;
 use crate::same::same_after;
 use crate::spots::Spots;
-use fare_groups::GroupKey;
-use fare_law::{FareKind, Mem, Rule, Shared};
+use fare_groups::{GroupKey, same_kind};
+use fare_law::{Mem, Rule, Shared};
 use outlines::{Entry, Outline};
 use std::alloc::Global;
 
@@ -359,14 +359,4 @@ pub fn same_outline(one: &Outline, other: &Outline) -> bool
         && one.number == other.number
         && same_kind(one.kind, other.kind)
         && one.reverse == other.reverse
-}
-
-fn same_kind(one: FareKind, other: FareKind) -> bool
-    ensures { IsTrue result ↔ (one ≡ other) }
-{
-    match one {
-        FareKind::O => matches!(other, FareKind::O),
-        FareKind::R => matches!(other, FareKind::R),
-        FareKind::S => matches!(other, FareKind::S),
-    }
 }

@@ -21,7 +21,7 @@ use crate::kinds::{Kinds, TailClass};
 use crate::masks::Masks;
 use crate::same::same_numbers;
 use crate::ways::{Joint, Origin};
-use fare_law::{ArrayVec, Carrier, Flight, Mem};
+use fare_law::{ArrayVec, Carrier, Flight, MOST_FLIGHTS_OF_A_COMPONENT, Mem};
 use flight_paths::Path;
 use indexmap::IndexMap;
 use std::alloc::Global;
@@ -47,7 +47,7 @@ pub struct HeadKind {
 /// A head that was met last, by its flights.
 #[derive(Drop)]
 pub struct MetHead {
-    pub flights: ArrayVec<u32, 4>,
+    pub flights: ArrayVec<u32, MOST_FLIGHTS_OF_A_COMPONENT>,
     pub kind: HeadKind,
 }
 

@@ -19,7 +19,7 @@ use crate::growing::{Growing, Spot};
 use crate::markets::Market;
 use crate::ways::{Origin, Placed, Serving, Slotted, Wanted};
 use fare_groups::{GroupKey, extra, first_row};
-use fare_law::{ArrayVec, Flight, MarketSheet, Mem};
+use fare_law::{ArrayVec, Flight, MOST_FLIGHTS_OF_A_COMPONENT, MarketSheet, Mem};
 use outlines::Outline;
 use rule_route::limits_are_met;
 use rule_unit::rules_stay_in_range;
@@ -27,7 +27,7 @@ use rule_unit::rules_stay_in_range;
 /// Puts in a path with the fares that are filed from its beginning to its end, or in reverse.
 pub fn add_way(
     table: &mut Growing,
-    flights: &mut ArrayVec<Flight, 4>,
+    flights: &mut ArrayVec<Flight, MOST_FLIGHTS_OF_A_COMPONENT>,
     origin: &Origin,
     markets: &[Market],
     placed: &Placed,
@@ -79,7 +79,7 @@ fn filed_of(end: &End, reverse: bool) -> Option<Filed>
 /// Puts in the groups of a market.
 fn add_market(
     table: &mut Growing,
-    flights: &mut ArrayVec<Flight, 4>,
+    flights: &mut ArrayVec<Flight, MOST_FLIGHTS_OF_A_COMPONENT>,
     origin: &Origin,
     placed: &Placed,
     serving: &Serving,
@@ -122,7 +122,7 @@ fn add_market(
 #[inline]
 fn add_group(
     table: &mut Growing,
-    flights: &mut ArrayVec<Flight, 4>,
+    flights: &mut ArrayVec<Flight, MOST_FLIGHTS_OF_A_COMPONENT>,
     origin: &Origin,
     placed: &Placed,
     serving: &Serving,
@@ -165,7 +165,7 @@ fn add_group(
 #[inline(never)]
 fn ask_rule(
     table: &mut Growing,
-    flights: &mut ArrayVec<Flight, 4>,
+    flights: &mut ArrayVec<Flight, MOST_FLIGHTS_OF_A_COMPONENT>,
     origin: &Origin,
     placed: &Placed,
     serving: &Serving,

@@ -5,8 +5,9 @@ use Rattle.fare_law.specs.Book.{Book}
 use Rattle.fare_book.specs.Taking.{HasCause, StopsAt}
 use Rattle.fare_book.specs.declared.faults.BookFault.{BookFault}
 use Rattle.fare_book.specs.declared.faults.BookFault.TheVariants.{Refused, Mem}
+use Rattle.fare_book.specs.declared.limits.TheConstants.{MOST_ENTRIES}
 use Rattle.fare_book.proofs.TakingLemmas.{filing_fault}
 
-pub cause_told : (b : Book) (filing : Filing) (fault : BookFault) → length b.entries < 1000000 → StopsAt b filing.actions fault → HasCause b filing fault
+pub cause_told : (b : Book) (filing : Filing) (fault : BookFault) → length b.entries < MOST_ENTRIES → StopsAt b filing.actions fault → HasCause b filing fault
 cause_told b filing (Refused r) few stops = filing_fault b filing r few stops
 cause_told b filing Mem few stops = tt

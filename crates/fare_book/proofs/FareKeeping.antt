@@ -13,6 +13,7 @@ use Rattle.fare_book.specs.Tables.{AreKeyed, Changes, Fares, LiveRules, NamesRul
 use Rattle.fare_book.specs.declared.fare_table.FareTable.{FareTable}
 use Rattle.fare_book.specs.declared.keys.Market.{Market}
 use Rattle.fare_book.specs.declared.keys.RuleKey.{RuleKey}
+use Rattle.fare_book.specs.declared.limits.TheConstants.{MOST_FARES}
 use Rattle.fare_book.proofs.Counting.{many_same}
 use Rattle.fare_book.proofs.FareSteps.{use_less, use_more}
 use Rattle.fare_book.proofs.SameKeys.{same_fares_tell}
@@ -53,14 +54,14 @@ module _ (f g : Fares) (k : FareKey) where
   ]
 
 -- the count of a rule fits
-uses_fit : (f h : Fares) (count : ℕ) (r : RuleKey) (n : ℕ) → count ≤ 20000 → Exactly count (λ key. IsSome (f key)) → ((q : FareKey) → NamesRule h r q → IsSome (f q)) → Exactly n (NamesRule h r) → n + 1 < 4294967296
+uses_fit : (f h : Fares) (count : ℕ) (r : RuleKey) (n : ℕ) → count ≤ MOST_FARES → Exactly count (λ key. IsSome (f key)) → ((q : FareKey) → NamesRule h r q → IsSome (f q)) → Exactly n (NamesRule h r) → n + 1 < 4294967296
 uses_fit f h count r n few counted live c = omega (arith, few, counted.most n (many_same (NamesRule h r) (λ key. IsSome (f key)) live n c.many))
 
 module _ {Z : Type 0} (f g : Fares) (rule : LiveRules) (changed : List RuleKey) (sheets : List (Market × Arc Sheet Z)) (old new : List (Market × FareTable)) (count : ℕ) (uses : List (RuleKey × ℕ)) (kept : FaresKept f rule changed sheets old count uses) where
   named_live : (r : RuleKey) (q : FareKey) → NamesRule f r q → IsSome (f q)
   named_live r q n = some_there (f q) n.0 n.1
 
-  pub fares_new : (x : Fare) (used : List (RuleKey × ℕ)) → Changes sheets old new x.key (Some x) None → ((q : FareKey) → g q ≡ cond (same_key q x.key) (Some x) (f q)) → count < 20000
+  pub fares_new : (x : Fare) (used : List (RuleKey × ℕ)) → Changes sheets old new x.key (Some x) None → ((q : FareKey) → g q ≡ cond (same_key q x.key) (Some x) (f q)) → count < MOST_FARES
       → ((r : RuleKey) → uses_at uses (rule_of x) + 1 < 4294967296 → uses_at used r ≡ cond (same_rule r (rule_of x)) (uses_at uses (rule_of x) + 1) (uses_at uses r))
       → FaresKept g rule changed sheets new (count + 1) used
   fares_new x used changes step room counts =

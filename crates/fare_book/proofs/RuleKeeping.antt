@@ -23,6 +23,7 @@ use Rattle.fare_book.specs.Tables.{Fares, IsOldRow, LiveRules, NamesRule, TableO
 use Rattle.fare_book.specs.declared.fare_table.FareTable.{FareTable}
 use Rattle.fare_book.specs.declared.keys.Market.{Market}
 use Rattle.fare_book.specs.declared.keys.RuleKey.{RuleKey}
+use Rattle.fare_book.specs.declared.limits.TheConstants.{MOST_RULES}
 use Rattle.fare_book.proofs.Counting.{count_same}
 use Rattle.fare_book.proofs.Finding.{rule_found}
 use Rattle.fare_book.proofs.Following.{rule_free}
@@ -119,7 +120,7 @@ module _ (f g : LiveRules) (k : Carrier) (m : ℕ) (w : Option Rule) (proper : m
   here_pair o e = ap (λ t. cond t None (f k m)) (not_zero m proper) ∙ e
 
   module _ (old new : List (RuleKey × Rule)) (puts : (q : RuleKey) → rule_at new q ≡ cond (same_rule q (record { carrier = k; number = m })) w (rule_at old q)) (count : ℕ) (kept : RulesKept f old count) where
-    pub rules_new : (r : Rule) → w ≡ Some r → f k m ≡ None → count < 2000 → RulesKept g new (count + 1)
+    pub rules_new : (r : Rule) → w ≡ Some r → f k m ≡ None → count < MOST_RULES → RulesKept g new (count + 1)
     rules_new r e none room = record {
       rules_are = rules_held old new puts kept.rules_are;
       counted = pairs_back (count + 1) (count_new same_pair pairs_tell (nonzero f) (nonzero g) (k, m) w pair_step r count e (here_pair None none) (pairs_kept count kept.counted));

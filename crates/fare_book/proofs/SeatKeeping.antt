@@ -1,5 +1,5 @@
 -- What a draft keeps of the seats, as those of a key are put or dropped.
-use Rattle.std.proofs.Common.{◌≡◌, ℕ, cond, List, Option, Some, None, Result, Ok, Err, IsSome, refl, sym, ap, subst, ◌∙◌, inl, inr}
+use Rattle.std.proofs.Common.{◌≡◌, ◌-◌, ℕ, cond, List, Option, Some, None, Result, Ok, Err, IsSome, refl, sym, ap, subst, ◌∙◌, inl, inr}
 use Rattle.fare_law.specs.declared.filings.SeatKey.{SeatKey}
 use Rattle.fare_law.specs.Book.{same_seat_key}
 use Rattle.fare_law.specs.Lists.{HasMany}
@@ -11,6 +11,7 @@ use Rattle.fare_book.proofs.Updates.{at_key, either, few_new, few_old, most_less
 use Rattle.seat_classes.specs.declared.faults.SeatPut.{SeatPut}
 use Rattle.seat_classes.specs.declared.faults.SeatPut.TheVariants.{Full}
 use Rattle.seat_classes.specs.Held.{Changes, HasNoRoom, HasRow, seats_at}
+use Rattle.seat_classes.specs.declared.limits.TheConstants.{MOST_SEAT_ROWS}
 use Rattle.law_lemmas.proofs.Names.{same_seats_tell}
 
 pub none_some : {A G : Type 0} (o : Option A) → o ≡ None → IsSome o → G
@@ -30,12 +31,12 @@ module _ (f g : LiveSeats) (held new : List (SeatKey × List ℕ)) (k : SeatKey)
   pub seats_put : (v : List ℕ) → Changes held new k (Some v) → ((q : SeatKey) → g q ≡ cond (same_seat_key q k) (Some v) (f q)) → (HasNoRoom held k → ⊥) → SeatsKept g new
   seats_put v changes step room = record { seats_are = are (Some v) changes step; few = by (f k) refl }
     where
-      by : (o : Option (List ℕ)) → f k ≡ o → AtMost 200000 (λ q. IsSome (g q))
-      by None e = few_new same_seat_key same_seats_tell f g k (Some v) step 199999 (most_less (λ q. IsSome (f q)) 199999 kept.few (λ many. room (kept.seats_are k ∙ e, rows_live 200000 many)))
-      by (Some o) e = few_old same_seat_key same_seats_tell f g k (Some v) step o 200000 e kept.few
+      by : (o : Option (List ℕ)) → f k ≡ o → AtMost MOST_SEAT_ROWS (λ q. IsSome (g q))
+      by None e = few_new same_seat_key same_seats_tell f g k (Some v) step (MOST_SEAT_ROWS - 1) (most_less (λ q. IsSome (f q)) (MOST_SEAT_ROWS - 1) kept.few (λ many. room (kept.seats_are k ∙ e, rows_live MOST_SEAT_ROWS many)))
+      by (Some o) e = few_old same_seat_key same_seats_tell f g k (Some v) step o MOST_SEAT_ROWS e kept.few
 
   pub seats_dropped : Changes held new k None → ((q : SeatKey) → g q ≡ cond (same_seat_key q k) None (f q)) → SeatsKept g new
-  seats_dropped changes step = record { seats_are = are None changes step; few = most_same (λ q. IsSome (f q)) (λ q. IsSome (g q)) was 200000 kept.few }
+  seats_dropped changes step = record { seats_are = are None changes step; few = most_same (λ q. IsSome (f q)) (λ q. IsSome (g q)) was MOST_SEAT_ROWS kept.few }
     where
       was : (q : SeatKey) → IsSome (g q) → IsSome (f q)
       was q s = elim (either same_seat_key same_seats_tell f g k None step q) [

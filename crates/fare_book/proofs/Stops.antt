@@ -18,6 +18,7 @@ use Rattle.fare_book.specs.Drafts.{Acts, Drafts, Faultless, OnlyLimit, Places}
 use Rattle.fare_book.specs.declared.draft.Draft.{Draft}
 use Rattle.fare_book.specs.declared.draft.Stop.{Stop}
 use Rattle.fare_book.specs.declared.draft.Stop.TheVariants.{Fault, Mem}
+use Rattle.fare_book.specs.declared.limits.TheConstants.{MOST_FARES}
 
 pub none_live : {A G : Type 0} (o : Option A) → o ≡ None → IsSome o → G
 none_live None e s = absurd (cc)
@@ -162,10 +163,10 @@ rule_lives b fare h = by (live_rule b fare.key.carrier fare.rule) refl
     by None e = absurd (differ (h NoRule e))
     by (Some r) e = refl
 
-pub limit_fault : (b : Book) (fare : Fare) → OnlyLimit b fare → (count : ℕ) → 20000 ≤ count → count ≤ 20000 → Exactly count (λ key. IsSome (live_fare b key)) → live_fare b fare.key ≡ None → FaultOf b (PutFare fare) Limit
+pub limit_fault : (b : Book) (fare : Fare) → OnlyLimit b fare → (count : ℕ) → MOST_FARES ≤ count → count ≤ MOST_FARES → Exactly count (λ key. IsSome (live_fare b key)) → live_fare b fare.key ≡ None → FaultOf b (PutFare fare) Limit
 limit_fault b fare h count low high c none = only b (PutFare fare) Limit h (none, subst (λ n. HasMany n (λ key. IsSome (live_fare b key))) (is count low high) c.many)
   where
-    is : (count : ℕ) → 20000 ≤ count → count ≤ 20000 → count ≡ 20000
+    is : (count : ℕ) → MOST_FARES ≤ count → count ≤ MOST_FARES → count ≡ MOST_FARES
     is count low high = omega (arith, low, high)
 
 pub placed_acts : (fare : Fare) (old new : Draft) (r : Result (Unit {0}) Stop) → ((b : Book) → Drafts b old → OnlyLimit b fare) → Places fare old new r → Acts (PutFare fare) old new r

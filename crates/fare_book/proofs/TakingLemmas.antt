@@ -13,6 +13,7 @@ use Rattle.fare_book.specs.declared.draft.Draft.{Draft}
 use Rattle.fare_book.specs.declared.draft.Stop.{Stop}
 use Rattle.fare_book.specs.declared.draft.Stop.TheVariants.{Fault, Mem as NoMemory}
 use Rattle.fare_book.specs.declared.faults.BookFault.TheVariants.{Refused}
+use Rattle.fare_book.specs.declared.limits.TheConstants.{MOST_ENTRIES}
 use Rattle.fare_book.proofs.Following.{filed_follows}
 use Rattle.law_lemmas.proofs.Lists.{front_length, front_read, split_is, split_last}
 use Rattle.law_lemmas.proofs.Numbers.{suc_is}
@@ -54,10 +55,10 @@ stops_at first old actions i a d why lt is fault so b start =
     (take i actions, a, drop (i + 1) actions, split_is actions i d a lt is, sym (suc_is i) ∙ ap suc (sym (front_length actions i lt)), fault (filed b (take i actions)) before.0, before.1)
 
 -- ---- a filing's faults
-pub filing_fault : (b : Book) (filing : Filing) (r : Told) → length b.entries < 1000000 → StopsAt b filing.actions (Refused r) → FaultOfFiling b filing r.action r.why
+pub filing_fault : (b : Book) (filing : Filing) (r : Told) → length b.entries < MOST_ENTRIES → StopsAt b filing.actions (Refused r) → FaultOfFiling b filing r.action r.why
 filing_fault b filing r few stops = inr (few, stops)
 
-pub no_fault : (b : Book) (filing : Filing) → length b.entries < 1000000 → NoneStops b filing.actions → (at : ℕ) (why : BookWhy) → FaultOfFiling b filing at why → ⊥
+pub no_fault : (b : Book) (filing : Filing) → length b.entries < MOST_ENTRIES → NoneStops b filing.actions → (at : ℕ) (why : BookWhy) → FaultOfFiling b filing at why → ⊥
 no_fault b filing few none at why (inl h) = omega (arith, few, h.2)
 no_fault b filing few none at why (inr h) = none h.1.0 h.1.1 h.1.2 h.1.3 why h.1.5.0
 

@@ -27,6 +27,7 @@ use Rattle.fare_book.specs.declared.draft.Draft.{Draft}
 use Rattle.fare_book.specs.declared.fare_table.FareTable.{FareTable}
 use Rattle.fare_book.specs.declared.keys.Market.{Market}
 use Rattle.fare_book.specs.declared.keys.RuleKey.{RuleKey}
+use Rattle.fare_book.specs.declared.limits.TheConstants.{MOST_ENTRIES}
 use Rattle.fare_book.proofs.Following.{filed_actions, rule_free, same_fares, same_rules, same_seats}
 use Rattle.fare_book.proofs.LastActions.{live_key}
 use Rattle.fare_book.proofs.LiveRows.{row_live}
@@ -118,7 +119,7 @@ draft_ready b d tables k holds = record {
 }
 
 -- a history with one filing more, which has no fault
-pub history_more : (b : Book) (filing : Filing) → History b → length b.entries < 1000000 → IsFiling filing → NoneStops b filing.actions → History (filed b filing.actions)
+pub history_more : (b : Book) (filing : Filing) → History b → length b.entries < MOST_ENTRIES → IsFiling filing → NoneStops b filing.actions → History (filed b filing.actions)
 history_more b filing h few limits none = record {
   filings = each_more IsFiling b.entries filing h.filings limits;
   legal = legal_more b.timetable b.entries filing h.legal (no_fault b filing few none);
@@ -144,7 +145,7 @@ draft_closes b d sheets held h k right is = record {
   seats_are = λ q. ap (λ hs. seats_at hs q) is ∙ k.seats_kept.seats_are q;
 }
 
-pub next_keeps : (b : Book) (filing : Filing) (d : Draft) (sheets : List (Market × Arc Sheet Global)) (held : List (SeatKey × List ℕ)) → History b → length b.entries < 1000000 → IsFiling filing → NoneStops b filing.actions
+pub next_keeps : (b : Book) (filing : Filing) (d : Draft) (sheets : List (Market × Arc Sheet Global)) (held : List (SeatKey × List ℕ)) → History b → length b.entries < MOST_ENTRIES → IsFiling filing → NoneStops b filing.actions
     → Drafts (filed b filing.actions) d → Sheets (filed b filing.actions) sheets → held ≡ drafted_seats d
     → Keeps (filed b filing.actions) sheets d.rules.entries d.uses.entries d.fare_count d.rule_count held
 next_keeps b filing d sheets held h few limits none k right is = draft_closes (filed b filing.actions) d sheets held (history_more b filing h few limits none) k right is

@@ -23,7 +23,9 @@ use Rattle.fare_book.specs.declared.draft.Stop.TheVariants.{Fault, Mem}
 use Rattle.fare_book.specs.declared.fare_table.FareTable.{FareTable}
 use Rattle.fare_book.specs.declared.keys.Market.{Market}
 use Rattle.fare_book.specs.declared.keys.RuleKey.{RuleKey}
+use Rattle.fare_book.specs.declared.limits.TheConstants.{MOST_FARES, MOST_RULES}
 use Rattle.seat_classes.specs.Held.{seats_at}
+use Rattle.seat_classes.specs.declared.limits.TheConstants.{MOST_SEAT_ROWS}
 
 -- the one book has one action more than the other
 pub record Follows (b : Book) (action : Action) (next : Book) : Type 0 where
@@ -46,7 +48,7 @@ Stand fare rule = (key : FareKey) (f : Fare) → fare key ≡ Some f → IsSome 
 pub record FaresKept {Z : Type 0} (fare : Fares) (rule : LiveRules) (changed : List RuleKey) (sheets : List (Market × Arc Sheet Z)) (tables : List (Market × FareTable)) (count : ℕ) (uses : List (RuleKey × ℕ)) : Type 0 where
   pub markets : (m : Market) → MarketHolds fare rule changed sheets tables m
   pub counted : Exactly count (λ key. IsSome (fare key))
-  pub few : count ≤ 20000
+  pub few : count ≤ MOST_FARES
   pub uses_are : (k : RuleKey) → Exactly (uses_at uses k) (NamesRule fare k)
   pub keyed : AreKeyed fare
 
@@ -54,13 +56,13 @@ pub record FaresKept {Z : Type 0} (fare : Fares) (rule : LiveRules) (changed : L
 pub record RulesKept (rule : LiveRules) (rules : List (RuleKey × Rule)) (count : ℕ) : Type 0 where
   pub rules_are : (k : RuleKey) → k.number ≢ 0 → rule_at rules k ≡ rule k.carrier k.number
   pub counted : Exactly count (λ (k : Carrier × ℕ). (k.1 ≢ 0) × IsSome (rule k.0 k.1))
-  pub few : count ≤ 2000
+  pub few : count ≤ MOST_RULES
   pub free : (c : Carrier) → rule c 0 ≡ Some free_rule
 
 -- the live seats, and that there are as many as there may be at most
 pub record SeatsKept (seats : LiveSeats) (held : List (SeatKey × List ℕ)) : Type 0 where
   pub seats_are : (key : SeatKey) → seats_at held key ≡ seats key
-  pub few : AtMost 200000 (λ key. IsSome (seats key))
+  pub few : AtMost MOST_SEAT_ROWS (λ key. IsSome (seats key))
 
 -- the draft keeps what is live
 pub record Keeping (fare : Fares) (rule : LiveRules) (seats : LiveSeats) (d : Draft) : Type 0 where

@@ -3,6 +3,7 @@ use Rattle.std.specs.Prelude.{◌≡◌, ◌≢◌, ◌≤◌, ◌-◌, ℕ, if�
 use Rattle.std.specs.Map.{lookup}
 use Rattle.std.specs.Arc.{arc_value}
 use Rattle.std.specs.declared.sync.Arc.{Arc}
+use Rattle.seat_classes.specs.declared.limits.TheConstants.{MOST_SEAT_ROWS}
 use Rattle.fare_law.specs.declared.fares.Fare.{Fare}
 use Rattle.fare_law.specs.declared.fares.FareKey.{FareKey}
 use Rattle.fare_law.specs.declared.names.Carrier.{Carrier}
@@ -21,6 +22,7 @@ use Rattle.fare_book.specs.Keys.{same_market, same_rule}
 use Rattle.fare_book.specs.Seating.{SeatsBook}
 use Rattle.fare_book.specs.declared.keys.Market.{Market}
 use Rattle.fare_book.specs.declared.keys.RuleKey.{RuleKey}
+use Rattle.fare_book.specs.declared.limits.TheConstants.{MOST_ENTRIES, MOST_FARES, MOST_RULES}
 
 -- a fare of this key is live
 abbrev pub IsLive : Book → FareKey → Type 0
@@ -75,15 +77,15 @@ uses_without uses old key = if same_rule key old then uses_at uses old - 1 else 
 pub record History (b : Book) : Type 0 where
   pub filings : Each IsFiling b.entries
   pub legal : Legal b.timetable b.entries
-  pub few : length b.entries ≤ 1000000
+  pub few : length b.entries ≤ MOST_ENTRIES
 
 -- how many fares, rules and seat rows are live, and how many fares name each rule
 pub record Counted (b : Book) (fare_count rule_count : ℕ) (use_counts : List (RuleKey × ℕ)) : Type 0 where
   pub fares : Exactly fare_count (IsLive b)
-  pub few_fares : fare_count ≤ 20000
+  pub few_fares : fare_count ≤ MOST_FARES
   pub rules : Exactly rule_count (IsLiveRule b)
-  pub few_rules : rule_count ≤ 2000
-  pub seats : AtMost 200000 (HasSeats b)
+  pub few_rules : rule_count ≤ MOST_RULES
+  pub seats : AtMost MOST_SEAT_ROWS (HasSeats b)
   pub uses : (k : RuleKey) → Exactly (uses_at use_counts k) (Names b k)
   pub stand : RulesStand b
 
@@ -101,6 +103,6 @@ pub record Limited (b : Book) : Type 0 where
   pub rules : (carrier : Carrier) (number : ℕ) (rule : Rule) → live_rule b carrier number ≡ Some rule → IsRule rule
   pub keys : HasKeys b
   pub stand : RulesStand b
-  pub few_fares : AtMost 20000 (IsLive b)
-  pub few_rules : AtMost 2000 (IsLiveRule b)
-  pub few_seats : AtMost 200000 (HasSeats b)
+  pub few_fares : AtMost MOST_FARES (IsLive b)
+  pub few_rules : AtMost MOST_RULES (IsLiveRule b)
+  pub few_seats : AtMost MOST_SEAT_ROWS (HasSeats b)

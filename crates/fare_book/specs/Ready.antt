@@ -12,16 +12,17 @@ use Rattle.fare_book.specs.Tables.{MarketHolds, TableOf}
 use Rattle.fare_book.specs.declared.fare_table.FareTable.{FareTable}
 use Rattle.fare_book.specs.declared.keys.Market.{Market}
 use Rattle.fare_book.specs.declared.keys.RuleKey.{RuleKey}
+use Rattle.fare_book.specs.declared.limits.TheConstants.{MOST_FARES}
 
 -- a market's sheet, or none where it has no fare
 abbrev pub IsRight : Book → Market → Option Sheet → Type 0
 IsRight b m sheet = MatchOption sheet (NoFare b m.from m.to) (SheetOf b m.from m.to)
 
--- the rules that the live fares name are these, and there are at most 20,000 fares
+-- the rules that the live fares name are these, and there are at most `MOST_FARES` fares
 pub record Ruled (b : Book) (rules : List (RuleKey × Rule)) : Type 0 where
   pub rules_are : Rules b rules
   pub stand : RulesStand b
-  pub few : AtMost 20000 (IsLive b)
+  pub few : AtMost MOST_FARES (IsLive b)
 
 -- the table has the live fares of the market
 pub record MakesSheet (b : Book) (m : Market) (table : List (FareKey × Fare)) (rules : List (RuleKey × Rule)) : Type 0 where

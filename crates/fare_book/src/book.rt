@@ -13,13 +13,13 @@ ghost use Rattle.seat_classes.specs.Held.{seats_in};
 mod next;
 mod open_book;
 
-use crate::Timetable;
 use crate::keys::{Market, RuleKey};
 use crate::rows::row_of;
+use crate::{MOST_ENTRIES, Timetable};
 use fare_law::{FareKey, Filing, List, MarketSheet, Place, Rule, SeatRow, Shared, SheetRow};
 pub use open_book::OpenBook;
 use schedule_book::Schedule;
-use seat_classes::{SeatFault, Seats, live_rows_seat_flights};
+use seat_classes::{MOST_SEAT_ROWS, SeatFault, Seats, live_rows_seat_flights};
 use std::alloc::Global;
 use std::collections::HashMap;
 use std::marker::Model;
@@ -53,15 +53,12 @@ impl Model for Book {
     ghost invariant = { λ b. Keeps (record { timetable = arc_value b.timetable; entries = map arc_value b.entries }) b.sheets.entries b.rules.entries b.uses.entries b.fare_count b.rule_count (arc_value b.seats) };
 }
 
-/// How many entries a book may have.
-const MOST_ENTRIES: usize = 1_000_000;
-
 impl Book {
-    /// The book of a schedule and at most 200,000 seat rows, with no filing. The first row that has the
+    /// The book of a schedule and at most `MOST_SEAT_ROWS` seat rows, with no filing. The first row that has the
     /// carrier, number, origin and date field of an earlier one is refused. A row for no flight has no
     /// effect.
     pub fn empty(alloc: Global, schedule: Schedule, rows: &[SeatRow]) -> Result<Book, SeatFault>
-        requires { length rows.now ≤ 200000 }
+        requires { length rows.now ≤ MOST_SEAT_ROWS }
         ensures value { IfOk result (λ b. b ≡ record { timetable = record { places = schedule.places; flights = schedule.flights; seats = rows.now }; entries = [] }) }
         ensures differ { OnOk result (AllDifferent (map row_key rows.now)) }
         ensures fault { IfErr result (HasCause rows.now) }
@@ -90,7 +87,7 @@ impl Book {
     /// The number of the version: how many filings it has.
     pub fn number(&self) -> u32
         ensures value { result ≡ length self.now.entries }
-        ensures few { result ≤ 1000000 }
+        ensures few { result ≤ MOST_ENTRIES }
     {
         self.entries.len() as u32
     }

@@ -8,6 +8,7 @@ ghost use Rattle.fare_book.specs.Drafts.{Acts, OnlyLimit, Places};
 ghost use Rattle.fare_book.specs.Keeping.{Rules};
 ghost use Rattle.fare_book.specs.Tables.{rule_of};
 
+use crate::MOST_FARES;
 use crate::draft::{Draft, Stop};
 use crate::keys::RuleKey;
 use crate::tables::{remove_fare, replace_fare};
@@ -15,9 +16,6 @@ use crate::uses::{count_use, forget_use, move_use};
 use fare_law::{BookWhy, Fare, FareKey, FareKind, Rule, Shared};
 use std::alloc::Global;
 use std::collections::HashMap;
-
-/// How many live fares there may be.
-const MOST: u32 = 20_000;
 
 /// Puts a fare in place of that of its key.
 pub fn put_fare(draft: &mut Draft, alloc: Global, fare: &Fare) -> Result<(), Stop>
@@ -38,7 +36,7 @@ fn place_fare(draft: &mut Draft, alloc: Global, fare: &Fare) -> Result<(), Stop>
             move_use(&mut draft.uses, rule_of(&old), rule_of(fare))?;
             Ok(())
         }
-        None if draft.fare_count >= MOST => Err(Stop::Fault(BookWhy::Limit)),
+        None if draft.fare_count >= MOST_FARES => Err(Stop::Fault(BookWhy::Limit)),
         None => {
             count_use(&mut draft.uses, rule_of(fare))?;
             draft.fare_count += 1;

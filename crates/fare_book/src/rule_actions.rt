@@ -8,15 +8,13 @@ ghost use Rattle.fare_book.specs.Keeping.{rule_at};
 ghost use Rattle.fare_book.specs.Keys.{same_rule};
 ghost use Rattle.fare_book.specs.declared.keys.RuleKey.{RuleKey as RuleName};
 
+use crate::MOST_RULES;
 use crate::draft::{Draft, Stop};
 use crate::fare_actions::has_rule;
 use crate::keys::RuleKey;
 use crate::uses::uses_of;
 use fare_law::{BookWhy, Carrier, Mem, Rule, Shared};
 use std::collections::{HashMap, HashSet};
-
-/// How many live rules there may be.
-const MOST: u32 = 2_000;
 
 /// Puts a rule in place of that of its carrier and number.
 pub fn put_rule(
@@ -33,7 +31,7 @@ pub fn put_rule(
         set_rule(&mut draft.rules, &mut draft.changed, key, rule)?;
         return Ok(());
     }
-    if draft.rule_count >= MOST {
+    if draft.rule_count >= MOST_RULES {
         return Err(Stop::Fault(BookWhy::Limit));
     }
     set_rule(&mut draft.rules, &mut draft.changed, key, rule)?;

@@ -1,5 +1,5 @@
 //! The actions of a filing, one after another.
-ghost use Rattle.std.specs.Prelude.{◌≡◌, ◌≤◌, [], length, IfErr, OnOk};
+ghost use Rattle.std.specs.Prelude.{◌≡◌, ◌<◌, ◌^◌, [], length, IfErr, OnOk};
 ghost use Rattle.fare_law.specs.Book.{Book as Version};
 ghost use Rattle.fare_law.specs.Faults.{filed};
 ghost use Rattle.fare_law.specs.FilingLimits.{IsAction};
@@ -17,7 +17,7 @@ use std::alloc::Global;
 
 /// Takes the actions in order, up to the first that has a fault.
 pub fn take_actions(draft: &mut Draft, alloc: Global, actions: &[Action]) -> Result<(), BookFault>
-    requires few { length actions.now ≤ 5000 }
+    requires few { length actions.now < 2 ^ 32 }
     requires each { Each IsAction actions.now }
     ensures taken { OnOk result ((b : Version) → Drafts (filed b []) draft.old → Drafts (filed b actions.now) draft.new × NoneStops b actions.now) }
     ensures refused { IfErr result (λ fault. (b : Version) → Drafts (filed b []) draft.old → StopsAt b actions.now fault) }

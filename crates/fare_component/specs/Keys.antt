@@ -9,6 +9,7 @@ use Rattle.fare_law.specs.Limits.{IsFare, IsFlight}
 use Rattle.fare_law.specs.Lists.{Each, OnFirst, OnLast}
 use Rattle.fare_law.specs.RuleLimits.{IsListOf, IsRule}
 use Rattle.fare_law.specs.Sheets.{IsSheet, Sheet}
+use Rattle.fare_law.specs.declared.limits.TheConstants.{MOST_FLIGHTS_OF_A_COMPONENT}
 
 abbrev pub IsLeg : Leg → Type 0
 IsLeg leg = IsFlight leg.flight
@@ -18,7 +19,7 @@ IsRow row = IsFare row.fare × IsRule row.rule
 
 -- a key within its limits: one to four legs, and the sheet of a market
 pub record IsKey (key : OfferKey) : Type 0 where
-  pub legs : IsListOf 4 IsLeg key.legs
+  pub legs : IsListOf MOST_FLIGHTS_OF_A_COMPONENT IsLeg key.legs
   pub sheet : IsSheet key.sheet.value.from key.sheet.value.to key.sheet.value.rows
   pub rows : Each IsRow key.sheet.value.rows
 

@@ -7,7 +7,7 @@ ghost use Rattle.fare_law.specs.Offers.{HasDirection, IsOffered, flights_of, row
 ghost use Rattle.fare_law.specs.Parts.{DayTimeHolds};
 ghost use Rattle.fare_law.specs.RuleLimits.{IsRule};
 
-use fare_law::{Class, Flight, Leg, SheetRow};
+use fare_law::{Class, Flight, Leg, MOST_FLIGHTS_OF_A_COMPONENT, SheetRow};
 use rule_days::day_time_ok;
 use rule_route::{
     charge, flights_ok, limits_are_met, share, stopovers_ok, surcharge, transfers_ok,
@@ -16,7 +16,7 @@ use rule_route::{
 /// Whether the fare of a row may be had on the legs, and its rule permits their flights. The fare is
 /// filed between the ends of these flights.
 pub fn is_offered(row: &SheetRow, legs: &[Leg], flights: &[Flight]) -> bool
-    requires count { IsInRange 1 4 (length flights.now) }
+    requires count { IsInRange 1 MOST_FLIGHTS_OF_A_COMPONENT (length flights.now) }
     requires flights { All IsFlight flights.now }
     requires same { flights.now ≡ flights_of legs.now }
     requires fare { IsFare row.now.fare }
@@ -60,7 +60,7 @@ fn departs_ok(row: &SheetRow, flights: &[Flight]) -> bool
 
 /// What a component of these flights costs with the row's fare.
 pub fn price(row: &SheetRow, flights: &[Flight]) -> u64
-    requires few { length flights.now ≤ 4 }
+    requires few { length flights.now ≤ MOST_FLIGHTS_OF_A_COMPONENT }
     requires flights { All IsFlight flights.now }
     requires fare { IsFare row.now.fare }
     requires rule { IsRule row.now.rule }

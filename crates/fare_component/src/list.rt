@@ -10,7 +10,9 @@ ghost use Rattle.fare_component.specs.Offers.{AreOffers};
 
 use crate::component::{is_offered, price};
 use crate::{Offer, OfferRows};
-use fare_law::{ArrayVec, Flight, Leg, List, MarketSheet, Mem, OfferKey, Place};
+use fare_law::{
+    ArrayVec, Flight, Leg, List, MOST_FLIGHTS_OF_A_COMPONENT, MarketSheet, Mem, OfferKey, Place,
+};
 use lane_mask::between;
 use std::alloc::Global;
 
@@ -42,8 +44,8 @@ pub fn offers(alloc: Global, key: &OfferKey) -> Result<OfferRows, Mem>
 }
 
 /// The flights of the legs, of which there are at most four.
-fn flights_of(legs: &[Leg]) -> ArrayVec<Flight, 4>
-    requires { length legs.now ≤ 4 }
+fn flights_of(legs: &[Leg]) -> ArrayVec<Flight, MOST_FLIGHTS_OF_A_COMPONENT>
+    requires { length legs.now ≤ MOST_FLIGHTS_OF_A_COMPONENT }
     ensures { result ≡ flights_of legs.now }
 {
     let mut flights = ArrayVec::new();

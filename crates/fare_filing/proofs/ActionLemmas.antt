@@ -7,6 +7,7 @@ use Rattle.fare_law.specs.declared.filings.Action.{Action}
 use Rattle.fare_filing.specs.declared.fault.FilingFault.{FilingFault}
 use Rattle.fare_filing.specs.declared.fault.FilingFault.TheVariants.{Syntax, Shape, Rule, Mem}
 use Rattle.fare_filing.specs.Reading.{Tells, action_spelled, actions_from, few_actions, then_rest}
+use Rattle.fare_filing.specs.declared.limits.TheConstants.{MOST_ACTIONS}
 use Rattle.law_lemmas.proofs.EachOne.{each_more}
 use Rattle.law_lemmas.proofs.Tests.{le_false, le_true}
 use Rattle.rule_text.proofs.ItemLemmas.{count_items}
@@ -67,10 +68,10 @@ told_is (Err (Rule action fault)) told e = e
 
 -- how many actions there are
 
-pub count_few : (vs : List Value) → length vs ≤ 5000 → few_actions (items_view vs) ≡ actions_from 1 (items_view vs)
-count_few vs few = rw (count_items vs, le_true (length vs) 5000 few) refl
+pub count_few : (vs : List Value) → length vs ≤ MOST_ACTIONS → few_actions (items_view vs) ≡ actions_from 1 (items_view vs)
+count_few vs few = rw (count_items vs, le_true (length vs) MOST_ACTIONS few) refl
 
-pub count_many : (vs : List Value) → 5000 < length vs → few_actions (items_view vs) ≡ Err (Shape 0)
-count_many vs many = rw (count_items vs, le_false (length vs) 5000 many) refl
+pub count_many : (vs : List Value) → MOST_ACTIONS < length vs → few_actions (items_view vs) ≡ Err (Shape 0)
+count_many vs many = rw (count_items vs, le_false (length vs) MOST_ACTIONS many) refl
 
 pub ruleset count_steps = (count_few, count_many)

@@ -32,6 +32,7 @@ use Rattle.fare_filing.specs.Actions.{drop_rule, drop_seats, put_seats}
 use Rattle.fare_filing.specs.declared.fault.FilingFault.TheVariants.{Shape}
 use Rattle.fare_filing.specs.Reading.{action_spelled, actions_from, filing_of, filing_spelled, put_rule}
 use Rattle.fare_filing.specs.Text.{WritesAction, WritesActions, WritesFiling, WritesRule, fare_data, key_data, kind_text, rule_name_data, seat_key_data, seats_data, seats_text}
+use Rattle.fare_filing.specs.declared.limits.TheConstants.{MOST_ACTIONS}
 use Rattle.fare_filing.proofs.SeatLemmas.{seats_again}
 use Rattle.law_lemmas.proofs.Tests.{le_true}
 
@@ -144,7 +145,7 @@ filing_again names aside filing d h w =
     subst (λ (x : Data). filing_spelled x ≡ Ok filing) (sym w.written)
     (rw (
       count_again filing.actions w.items w.actions,
-      le_true (length filing.actions) 5000 h.few,
+      le_true (length filing.actions) MOST_ACTIONS h.few,
       actions_again names aside filing.actions w.items 1 h.each w.actions,
     ) refl)
 

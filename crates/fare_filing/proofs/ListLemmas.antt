@@ -18,6 +18,7 @@ use Rattle.rule_text.specs.Members.{item_count}
 use Rattle.fare_filing.specs.Compact.{Begins, Begun, Ended, Spells, items_of, with_commas}
 use Rattle.fare_filing.specs.Reading.{actions_from, filing_of, filing_spelled}
 use Rattle.fare_filing.specs.Text.{sole}
+use Rattle.fare_filing.specs.declared.limits.TheConstants.{MOST_ACTIONS}
 use Rattle.fare_filing.proofs.AgainLemmas.{spelled_again}
 use Rattle.law_lemmas.proofs.EachOne.{each_more}
 use Rattle.law_lemmas.proofs.Tests.{le_true}
@@ -120,9 +121,9 @@ module _ (bytes rest : List ℕ) (actions : List Action) (h : Ended rest actions
   whole_read e =
       read_compact whole_json bytes (items_number h.values actions h.each, tt) (rw (items_back h.values actions h.each) refl) (let n = items_nest h.values actions h.each in omega arith) (whole_text e)
 
-  whole_spelled : length actions ≤ 5000 → filing_spelled whole_json ≡ Ok (record { actions = actions })
+  whole_spelled : length actions ≤ MOST_ACTIONS → filing_spelled whole_json ≡ Ok (record { actions = actions })
   unfolding filing_spelled
-  whole_spelled few = rw (items_many h.values actions h.each, le_true (length actions) 5000 few, items_spell 1 h.values actions h.each) refl
+  whole_spelled few = rw (items_many h.values actions h.each, le_true (length actions) MOST_ACTIONS few, items_spell 1 h.values actions h.each) refl
 
-pub filing_told : (bytes rest : List ℕ) (actions : List Action) → Ended rest actions → length actions ≤ 5000 → IsUtf8 bytes → bytes ≡ codes "{\"actions\":[" ++ rest → filing_of bytes ≡ Ok (record { actions = actions })
+pub filing_told : (bytes rest : List ℕ) (actions : List Action) → Ended rest actions → length actions ≤ MOST_ACTIONS → IsUtf8 bytes → bytes ≡ codes "{\"actions\":[" ++ rest → filing_of bytes ≡ Ok (record { actions = actions })
 filing_told bytes rest actions h few utf8 e = rw (spelled_again bytes (whole_json bytes rest actions h) utf8 (whole_read bytes rest actions h e)) (whole_spelled bytes rest actions h few)

@@ -13,6 +13,7 @@ use Rattle.rule_text.specs.declared.fault.RuleFault.{RuleFault}
 use Rattle.fare_filing.specs.declared.fault.FilingFault.{FilingFault}
 use Rattle.fare_filing.specs.declared.fault.FilingFault.TheVariants.{Syntax, Shape, Rule, Mem}
 use Rattle.fare_filing.specs.Actions.{if_there, plain_action, rule_number}
+use Rattle.fare_filing.specs.declared.limits.TheConstants.{MOST_ACTIONS}
 
 -- from one part to the next, up to the first fault
 infixl 10 ◌>>=◌
@@ -50,9 +51,9 @@ abbrev pub actions_from : ℕ → Items → Result (List Action) FilingFault
 actions_from action no_items = Ok []
 actions_from action (item d ds) = then_rest (action_spelled action d) (actions_from (suc action) ds)
 
--- at most 5,000 actions, which is judged before any of them
+-- at most `MOST_ACTIONS` actions, which is judged before any of them
 abbrev pub few_actions : Items → Result (List Action) FilingFault
-few_actions items = if nat_le (item_count items) 5000 then actions_from 1 items else Err (Shape 0)
+few_actions items = if nat_le (item_count items) MOST_ACTIONS then actions_from 1 items else Err (Shape 0)
 
 -- of a JSON value: an object of one member, the list of the actions
 unfoldable pub filing_spelled : Data → Result Filing FilingFault

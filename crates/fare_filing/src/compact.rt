@@ -8,6 +8,7 @@ ghost use Rattle.fare_law.specs.Lists.{Each};
 ghost use Rattle.fare_filing.specs.Compact.{Begins, Ended, SeatsAction, fare_action};
 ghost use Rattle.fare_filing.specs.Reading.{filing_of};
 
+use crate::MOST_ACTIONS;
 use crate::fields::{
     basis_after, carrier_after, class_after, kind_after, number_after, place_after, text_after,
 };
@@ -35,12 +36,12 @@ pub fn compact_filing(alloc: Global, bytes: &[u8]) -> Result<Option<Filing>, Mem
     Ok(Some(Filing { actions }))
 }
 
-// The actions of a list that has some, 5,000 at most, and ends with the filing's object.
+// The actions of a list that has some, `MOST_ACTIONS` at most, and ends with the filing's object.
 #[tactic(auto, using(crate::proofs::ListLemmas::list_steps))]
 fn compact_actions(alloc: Global, text: &[u8]) -> Result<Option<List<Action>>, Mem>
     ensures actions { IfOk result (λ found. IfSome found (Ended text.now)) }
     ensures limits { IfOk result (λ found. IfSome found (Each IsAction)) }
-    ensures few { IfOk result (λ found. IfSome found (λ actions. length actions ≤ 5000)) }
+    ensures few { IfOk result (λ found. IfSome found (λ actions. length actions ≤ MOST_ACTIONS)) }
 {
     let mut actions = room_for(alloc, likely_count(text))?;
     let mut rest = text;
@@ -61,7 +62,7 @@ fn compact_actions(alloc: Global, text: &[u8]) -> Result<Option<List<Action>>, M
 
 // About as many actions as a text has: the shortest that puts a fare or seats has 78 bytes, and a comma follows.
 fn likely_count(text: &[u8]) -> usize {
-    (text.len() / 79).min(5000)
+    (text.len() / 79).min(MOST_ACTIONS)
 }
 
 // Whether the list and the filing's object end here, and the text with them.

@@ -12,7 +12,7 @@ pub enum FilingFault {
     /// The bytes are no JSON text.
     Syntax,
     /// The action isn't of its form; action 0 is the filing's object, or its list of more than
-    /// 5,000 actions.
+    /// `MOST_ACTIONS` actions.
     Shape { action: u32 },
     /// The action puts a rule that has a fault.
     Rule { action: u32, fault: RuleFault },

@@ -6,10 +6,10 @@ ghost use Rattle.fare_law.specs.Lists.{Each};
 ghost use Rattle.fare_filing.specs.Reading as Reading;
 ghost use Rattle.fare_filing.specs.Reading.{Tells};
 
-use crate::FilingFault;
 use crate::actions::read_action;
 use crate::compact::compact_filing;
 use crate::room::room_for;
+use crate::{FilingFault, MOST_ACTIONS};
 use fare_law::{Action, Filing, List};
 use json_form::{has_members, items_at, read_value};
 use serde_json::Value;
@@ -18,7 +18,7 @@ use std::alloc::Global;
 /// The filing that the bytes spell as JSON, or the first fault.
 ///
 /// `Syntax` exactly where they are no JSON text. Else `Shape` of action 0 exactly where the value
-/// is no object of `actions` alone, a list of at most 5,000. Else `Shape` or `Rule` exactly at the
+/// is no object of `actions` alone, a list of at most `MOST_ACTIONS`. Else `Shape` or `Rule` exactly at the
 /// first action that has such a fault.
 pub fn read_filing(alloc: Global, bytes: &[u8]) -> Result<Filing, FilingFault>
     ensures told { Tells result (Reading.filing_of bytes.now) }
@@ -54,14 +54,14 @@ fn filing(alloc: Global, value: &Value) -> Result<Filing, FilingFault>
     Ok(Filing { actions })
 }
 
-// The actions of a list of at most 5,000.
+// The actions of a list of at most `MOST_ACTIONS`.
 #[tactic(auto, using(crate::proofs::ActionLemmas::count_steps))]
 fn few_actions(alloc: Global, items: &[Value]) -> Result<List<Action>, FilingFault>
     ensures told { Tells result (Reading.few_actions (items_view items.now)) }
     ensures limits { IfOk result (Each IsAction) }
-    ensures few { IfOk result (λ actions. length actions ≤ 5000) }
+    ensures few { IfOk result (λ actions. length actions ≤ MOST_ACTIONS) }
 {
-    if items.len() <= 5000 {
+    if items.len() <= MOST_ACTIONS {
         each_action(alloc, items)
     } else {
         Err(FilingFault::Shape { action: 0 })
@@ -71,7 +71,7 @@ fn few_actions(alloc: Global, items: &[Value]) -> Result<List<Action>, FilingFau
 // Each action, numbered from 1, up to the first fault.
 #[tactic(auto, using(crate::proofs::ActionLemmas::action_steps))]
 fn each_action(alloc: Global, items: &[Value]) -> Result<List<Action>, FilingFault>
-    requires { length items.now ≤ 5000 }
+    requires { length items.now ≤ MOST_ACTIONS }
     ensures told { Tells result (Reading.actions_from 1 (items_view items.now)) }
     ensures limits { IfOk result (Each IsAction) }
     ensures count { IfOk result (λ actions. length actions ≡ length items.now) }

@@ -4,6 +4,7 @@ use Rattle.fare_law.specs.declared.fares.FareKey.{FareKey}
 use Rattle.fare_law.specs.declared.rows.TextLine.{TextLine}
 use Rattle.fare_law.specs.declared.tickets.Component.{Component}
 use Rattle.fare_law.specs.Book.{Book}
+use Rattle.fare_law.specs.declared.limits.TheConstants.{MOST_COMPONENTS, MOST_FLIGHTS_OF_A_COMPONENT}
 use Rattle.fare_verdict.specs.declared.faults.TicketFault.TheVariants.{Line as BadLine}
 use Rattle.fare_verdict.specs.declared.forms.FlightName.{FlightName}
 use Rattle.fare_verdict.specs.declared.forms.TicketLine.{TicketLine}
@@ -29,7 +30,7 @@ less_true m n h = search (arith, h)
 less_false : (m n : ℕ) → n ≤ m → nat_lt m n ≡ false
 less_false m n h = search (arith, h)
 
-pub fewer : (n : ℕ) → n ≤ 4 → (n ≡ 4 → ⊥) → n < 4
+pub fewer : (n : ℕ) → n ≤ MOST_FLIGHTS_OF_A_COMPONENT → (n ≡ MOST_FLIGHTS_OF_A_COMPONENT → ⊥) → n < MOST_FLIGHTS_OF_A_COMPONENT
 fewer n l h = elim (eq-or-lt_of_le l) [ inl e ↦ absurd (h e) | inr k ↦ k ]
 
 module _ (b : Book) where
@@ -44,38 +45,38 @@ module _ (b : Book) where
   says_early line lines name e = says line lines [] (FlightLine name) e
 
   -- a flight of the last component
-  pub says_flight : (line : TextLine) (lines : List TextLine) (name : FlightName) (front : List Component) (unit : ℕ) (fare : FareKey) (ns : List ℕ) → line_in line.bytes ≡ Some (FlightLine name) → length ns < 4
+  pub says_flight : (line : TextLine) (lines : List TextLine) (name : FlightName) (front : List Component) (unit : ℕ) (fare : FareKey) (ns : List ℕ) → line_in line.bytes ≡ Some (FlightLine name) → length ns < MOST_FLIGHTS_OF_A_COMPONENT
       → ticket_with b (line ∷ lines) (front ++ record { flights = ns; fare = fare; unit = unit } ∷ []) ≡ ticket_with b lines (front ++ record { flights = ns ++ flight_named b.timetable.flights name ∷ []; fare = fare; unit = unit } ∷ [])
   says_flight line lines name front unit fare ns e l =
       let c : Component = record { flights = ns; fare = fare; unit = unit } in
       let n = flight_named b.timetable.flights name in
       says line lines (front ++ c ∷ []) (FlightLine name) e
       ∙ ap (λ o. then_rest o line.line (ticket_with b lines))
-      (last_flight front c n ∙ ap (λ (t : Bool). option_map (λ (d : Component). front ++ d ∷ []) (if t then Some (record { flights = ns ++ n ∷ []; fare = fare; unit = unit }) else None)) (less_true (length ns) 4 l))
+      (last_flight front c n ∙ ap (λ (t : Bool). option_map (λ (d : Component). front ++ d ∷ []) (if t then Some (record { flights = ns ++ n ∷ []; fare = fare; unit = unit }) else None)) (less_true (length ns) MOST_FLIGHTS_OF_A_COMPONENT l))
 
-  -- a fifth flight of it
-  pub says_fifth : (line : TextLine) (lines : List TextLine) (name : FlightName) (front : List Component) (unit : ℕ) (fare : FareKey) (ns : List ℕ) → line_in line.bytes ≡ Some (FlightLine name) → 4 ≤ length ns
+  -- a flight too many
+  pub says_flight_too_many : (line : TextLine) (lines : List TextLine) (name : FlightName) (front : List Component) (unit : ℕ) (fare : FareKey) (ns : List ℕ) → line_in line.bytes ≡ Some (FlightLine name) → MOST_FLIGHTS_OF_A_COMPONENT ≤ length ns
       → ticket_with b (line ∷ lines) (front ++ record { flights = ns; fare = fare; unit = unit } ∷ []) ≡ Err (BadLine line.line)
-  says_fifth line lines name front unit fare ns e l =
+  says_flight_too_many line lines name front unit fare ns e l =
       let c : Component = record { flights = ns; fare = fare; unit = unit } in
       let n = flight_named b.timetable.flights name in
       says line lines (front ++ c ∷ []) (FlightLine name) e
       ∙ ap (λ o. then_rest o line.line (ticket_with b lines))
-      (last_flight front c n ∙ ap (λ (t : Bool). option_map (λ (d : Component). front ++ d ∷ []) (if t then Some (record { flights = ns ++ n ∷ []; fare = fare; unit = unit }) else None)) (less_false (length ns) 4 l))
+      (last_flight front c n ∙ ap (λ (t : Bool). option_map (λ (d : Component). front ++ d ∷ []) (if t then Some (record { flights = ns ++ n ∷ []; fare = fare; unit = unit }) else None)) (less_false (length ns) MOST_FLIGHTS_OF_A_COMPONENT l))
 
   -- a component
-  pub says_component : (line : TextLine) (lines : List TextLine) (cs : List Component) (unit : ℕ) (fare : FareKey) → line_in line.bytes ≡ Some (ComponentLine unit fare) → length cs < 18
+  pub says_component : (line : TextLine) (lines : List TextLine) (cs : List Component) (unit : ℕ) (fare : FareKey) → line_in line.bytes ≡ Some (ComponentLine unit fare) → length cs < MOST_COMPONENTS
       → ticket_with b (line ∷ lines) cs ≡ ticket_with b lines (cs ++ record { flights = []; fare = fare; unit = unit } ∷ [])
   says_component line lines cs unit fare e l =
       says line lines cs (ComponentLine unit fare) e
-      ∙ ap (λ (t : Bool). then_rest (if t then Some (cs ++ record { flights = []; fare = fare; unit = unit } ∷ []) else None) line.line (ticket_with b lines)) (less_true (length cs) 18 l)
+      ∙ ap (λ (t : Bool). then_rest (if t then Some (cs ++ record { flights = []; fare = fare; unit = unit } ∷ []) else None) line.line (ticket_with b lines)) (less_true (length cs) MOST_COMPONENTS l)
 
-  -- a nineteenth
-  pub says_nineteenth : (line : TextLine) (lines : List TextLine) (cs : List Component) (unit : ℕ) (fare : FareKey) → line_in line.bytes ≡ Some (ComponentLine unit fare) → 18 ≤ length cs
+  -- a component too many
+  pub says_component_too_many : (line : TextLine) (lines : List TextLine) (cs : List Component) (unit : ℕ) (fare : FareKey) → line_in line.bytes ≡ Some (ComponentLine unit fare) → MOST_COMPONENTS ≤ length cs
       → ticket_with b (line ∷ lines) cs ≡ Err (BadLine line.line)
-  says_nineteenth line lines cs unit fare e l =
+  says_component_too_many line lines cs unit fare e l =
       says line lines cs (ComponentLine unit fare) e
-      ∙ ap (λ (t : Bool). then_rest (if t then Some (cs ++ record { flights = []; fare = fare; unit = unit } ∷ []) else None) line.line (ticket_with b lines)) (less_false (length cs) 18 l)
+      ∙ ap (λ (t : Bool). then_rest (if t then Some (cs ++ record { flights = []; fare = fare; unit = unit } ∷ []) else None) line.line (ticket_with b lines)) (less_false (length cs) MOST_COMPONENTS l)
 
   here : (lines : List TextLine) (i : ℕ) (d : TextLine) (cs : List Component) → i < length lines → ticket_with b (drop i lines) cs ≡ ticket_with b (get_or lines i d ∷ drop (i + 1) lines) cs
   here lines i d cs l =
@@ -83,7 +84,7 @@ module _ (b : Book) where
       ap (λ (ls : List TextLine). ticket_with b ls cs) rest
 
   -- one more flight was read, of which this is the number
-  pub one_flight : (lines : List TextLine) (i : ℕ) (d : TextLine) (name : FlightName) (front : List Component) (unit : ℕ) (fare : FareKey) (ns ms : List ℕ) → i < length lines → line_in (get_or lines i d).bytes ≡ Some (FlightLine name) → length ns < 4
+  pub one_flight : (lines : List TextLine) (i : ℕ) (d : TextLine) (name : FlightName) (front : List Component) (unit : ℕ) (fare : FareKey) (ns ms : List ℕ) → i < length lines → line_in (get_or lines i d).bytes ≡ Some (FlightLine name) → length ns < MOST_FLIGHTS_OF_A_COMPONENT
       → ms ≡ ns ++ flight_named b.timetable.flights name ∷ []
       → ticket_with b lines (front ++ record { flights = []; fare = fare; unit = unit } ∷ []) ≡ ticket_with b (drop i lines) (front ++ record { flights = ns; fare = fare; unit = unit } ∷ [])
       → ticket_with b lines (front ++ record { flights = []; fare = fare; unit = unit } ∷ []) ≡ ticket_with b (drop (i + 1) lines) (front ++ record { flights = ms; fare = fare; unit = unit } ∷ [])
@@ -92,10 +93,10 @@ module _ (b : Book) where
       ∙ says_flight (get_or lines i d) (drop (i + 1) lines) name front unit fare ns e few
       ∙ ap (λ (xs : List ℕ). ticket_with b (drop (i + 1) lines) (front ++ record { flights = xs; fare = fare; unit = unit } ∷ [])) (sym is)
 
-  -- the line of a fifth
-  pub fifth_flight : (lines : List TextLine) (i : ℕ) (d : TextLine) (name : FlightName) (front : List Component) (unit : ℕ) (fare : FareKey) (ns : List ℕ) → i < length lines → line_in (get_or lines i d).bytes ≡ Some (FlightLine name) → 4 ≤ length ns
+  -- the line of a flight too many
+  pub flight_too_many : (lines : List TextLine) (i : ℕ) (d : TextLine) (name : FlightName) (front : List Component) (unit : ℕ) (fare : FareKey) (ns : List ℕ) → i < length lines → line_in (get_or lines i d).bytes ≡ Some (FlightLine name) → MOST_FLIGHTS_OF_A_COMPONENT ≤ length ns
       → ticket_with b lines (front ++ record { flights = []; fare = fare; unit = unit } ∷ []) ≡ ticket_with b (drop i lines) (front ++ record { flights = ns; fare = fare; unit = unit } ∷ [])
       → ticket_with b lines (front ++ record { flights = []; fare = fare; unit = unit } ∷ []) ≡ Err (BadLine (get_or lines i d).line)
-  fifth_flight lines i d name front unit fare ns l e many h =
+  flight_too_many lines i d name front unit fare ns l e many h =
       h ∙ here lines i d (front ++ record { flights = ns; fare = fare; unit = unit } ∷ []) l
-      ∙ says_fifth (get_or lines i d) (drop (i + 1) lines) name front unit fare ns e many
+      ∙ says_flight_too_many (get_or lines i d) (drop (i + 1) lines) name front unit fare ns e many

@@ -8,6 +8,7 @@ use Rattle.fare_law.specs.declared.rows.TextLine.{TextLine}
 use Rattle.fare_law.specs.declared.tickets.Component.{Component}
 use Rattle.fare_law.specs.declared.tickets.Ticket.{Ticket}
 use Rattle.fare_law.specs.Book.{Book, same_carrier, same_place}
+use Rattle.fare_law.specs.declared.limits.TheConstants.{MOST_COMPONENTS, MOST_FLIGHTS_OF_A_COMPONENT}
 use Rattle.fare_verdict.specs.declared.faults.TicketFault.{TicketFault}
 use Rattle.fare_verdict.specs.declared.faults.TicketFault.TheVariants.{Line as BadLine}
 use Rattle.fare_verdict.specs.declared.forms.FlightName.{FlightName}
@@ -23,13 +24,13 @@ names name f = int_eq f.day name.day && (f.number == name.number) && same_carrie
 abbrev pub flight_named : List Flight → FlightName → ℕ
 flight_named flights name = unwrap_or (position_from (names name) 0 flights) 4294967295
 
--- the components with one more, which has no flight yet: at most 18
+-- the components with one more, which has no flight yet: at most `MOST_COMPONENTS`
 abbrev pub with_component : List Component → ℕ → FareKey → Option (List Component)
-with_component cs unit fare = if nat_lt (length cs) 18 then Some (cs ++ record { flights = []; fare = fare; unit = unit } ∷ []) else None
+with_component cs unit fare = if nat_lt (length cs) MOST_COMPONENTS then Some (cs ++ record { flights = []; fare = fare; unit = unit } ∷ []) else None
 
--- the component with one more flight: at most 4
+-- the component with one more flight: at most `MOST_FLIGHTS_OF_A_COMPONENT`
 abbrev pub with_flight : Component → ℕ → Option Component
-with_flight c number = if nat_lt (length c.flights) 4 then Some (record { flights = c.flights ++ number ∷ []; fare = c.fare; unit = c.unit }) else None
+with_flight c number = if nat_lt (length c.flights) MOST_FLIGHTS_OF_A_COMPONENT then Some (record { flights = c.flights ++ number ∷ []; fare = c.fare; unit = c.unit }) else None
 
 -- the components with one more flight of the last
 abbrev pub with_last_flight : List Component → ℕ → Option (List Component)

@@ -9,7 +9,7 @@ ghost use Rattle.fare_verdict.specs.Findings.{Fails, FailsInUnit};
 ghost use Rattle.fare_verdict.specs.Told.{AreCategories};
 
 use fare_book::Book;
-use fare_law::{ArrayVec, Component, Request, Ticket};
+use fare_law::{ArrayVec, Component, MOST_COMPONENTS, Request, Ticket};
 use ticket_demands::{
     CategoryDemand, ComponentDemand, Demand, UnitDemand, category_meets, component_meets,
     part_meets,
@@ -26,7 +26,7 @@ pub fn failing(
     request: &Request,
 ) -> ArrayVec<u8, 2>
     requires request { IsRequest request.now }
-    requires few { length before.now < 18 }
+    requires few { length before.now < MOST_COMPONENTS }
     ensures { AreCategories (λ k. Fails book.now request.now ticket.now demand k before.now component.now) result }
 {
     match demand {
@@ -58,7 +58,7 @@ fn component_category(demand: ComponentDemand) -> u8
 /// Whether the component behind so many is the first whose label doesn't stand.
 fn is_first_wrong(count: usize, ticket: &Ticket, book: &Book, request: &Request) -> bool
     requires request { IsRequest request.now }
-    requires few { count < 18 }
+    requires few { count < MOST_COMPONENTS }
     ensures { IsTrue result ↔ FirstBroken book.now request.now ticket.now Labels (suc count) }
 {
     match broken_at(Demand::Labels, ticket, book, request) {

@@ -9,14 +9,16 @@ use crate::TicketFault;
 use crate::forms::{FlightName, TicketLine};
 use crate::lines::line_of;
 use fare_book::Book;
-use fare_law::{ArrayVec, Component, Flight, TextLine, Ticket};
+use fare_law::{ArrayVec, Component, Flight, MOST_FLIGHTS_OF_A_COMPONENT, TextLine, Ticket};
+use schedule_book::MOST_DATED_FLIGHTS;
 
 /// The number of a flight that isn't known.
 const UNKNOWN: u32 = 4_294_967_295;
 
 /// The ticket that the lines spell, or the first line that isn't right: of none of the two forms, a
-/// flight before any component, a fifth flight of one, or a nineteenth component. A flight that the
-/// timetable doesn't have has the number 4294967295, which is unknown.
+/// flight before any component, one beside `MOST_FLIGHTS_OF_A_COMPONENT` of its component, or a
+/// component beside `MOST_COMPONENTS`. A flight that the timetable doesn't have has the number
+/// 4294967295, which is unknown.
 pub fn read_ticket(lines: &[TextLine], book: &Book) -> Result<Ticket, TicketFault>
     ensures { result ≡ ticket_of_lines book.now lines.now }
 {
@@ -41,8 +43,11 @@ pub fn read_ticket(lines: &[TextLine], book: &Book) -> Result<Ticket, TicketFaul
     Ok(Ticket { components })
 }
 
-/// The numbers of the flights in front: at most four, or the line of the fifth.
-fn read_flights(lines: &[TextLine], book: &Book) -> Result<ArrayVec<u32, 4>, TicketFault>
+/// The numbers of the flights in front, or the line of the first that is too many.
+fn read_flights(
+    lines: &[TextLine],
+    book: &Book,
+) -> Result<ArrayVec<u32, MOST_FLIGHTS_OF_A_COMPONENT>, TicketFault>
     ensures ticket { (front : List ComponentData) (unit : ℕ) (fare : FareName) → GoesOn book.now front unit fare lines.now result }
     ensures stops { IfOk result (λ numbers. StopsBefore (drop (length numbers) lines.now)) }
     ensures few { IfOk result (λ numbers. length numbers ≤ length lines.now) }
@@ -67,9 +72,9 @@ fn number_of_flight(book: &Book, name: FlightName) -> u32
     place_of_name(book.timetable().schedule().flights(), name)
 }
 
-/// The number of the flight of this name among at most 200,000, or one that is unknown.
+/// The number of the flight of this name among at most `MOST_DATED_FLIGHTS`, or one that is unknown.
 fn place_of_name(flights: &[Flight], name: FlightName) -> u32
-    requires { length flights.now ≤ 200000 }
+    requires { length flights.now ≤ MOST_DATED_FLIGHTS }
     ensures { result ≡ flight_named flights.now name }
 {
     for number in 0..flights.len() {

@@ -5,6 +5,7 @@ use Rattle.fare_law.specs.declared.requests.Slice.{Slice}
 use Rattle.fare_law.specs.Book.{Book}
 use Rattle.fare_law.specs.Journey.{Joins, calls}
 use Rattle.fare_law.specs.Lists.{AllDifferent, Each, EachPair, IsIn, OnFirst, OnLast}
+use Rattle.fare_law.specs.declared.limits.TheConstants.{MOST_FLIGHTS_OF_A_COMPONENT}
 use Rattle.flight_paths.specs.declared.positions.Position.{Position}
 use Rattle.flight_paths.specs.Heads.{Crosses, HeadsAndTails, IsHead, Stays}
 use Rattle.flight_paths.specs.Positions.{Flies, IsPath, KeepsOff, called_at, position_before}
@@ -34,7 +35,7 @@ module _ (b : Book) (sl : List Slice) (at : Position) (ns : List ℕ) (fs : List
           let joined = subst (EachPair Joins) c.flights lead.joined in
           let different = subst AllDifferent (calls_both at.place c.head_flights c.tail_flights) (subst (λ xs. AllDifferent (calls at.place xs)) c.flights lead.apart) in
           let apart = different_apart (calls at.place c.head_flights) (arrivals_of c.tail_flights) different in
-          let few = subst (λ xs. length xs ≤ 4) c.flights lead.few in
+          let few = subst (λ xs. length xs ≤ MOST_FLIGHTS_OF_A_COMPONENT) c.flights lead.few in
           let free = set_free b sl i t c.there c.arrival c.tail c.tail_flights next c.some_tail c.after in
           let begins = joins_there s.to c.head_flights c.tail_flights (some_flights b sl (Some (position_before b i t (Some c.arrival))) c.tail c.tail_flights next c.some_tail c.after) c.arrives joined in
           let origin : t.from ≡ s.to = starts t c.arrival c.tail c.tail_flights c.after begins in
@@ -82,7 +83,7 @@ module _ (b : Book) (sl : List Slice) (at : Position) (ns : List ℕ) (fs : List
           one_at_least [] a = absurd a
           one_at_least (x ∷ xs) a = omega arith
 
-          short : (x y : ℕ) → 1 ≤ x → x + y ≤ 4 → y ≤ 3
+          short : (x y : ℕ) → 1 ≤ x → x + y ≤ MOST_FLIGHTS_OF_A_COMPONENT → y ≤ 3
           short x y p q = omega (arith, p, q)
 
       by : (s : Slice) → slice_get sl at.slice ≡ Some s → Stays s fs ⊎ Cut b sl at s ns fs next → IsHead b sl at ns fs next ⊎ Crosses b sl at ns fs next

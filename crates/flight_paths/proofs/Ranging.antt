@@ -5,6 +5,7 @@ use Rattle.std.proofs.lemmas.Bool.{cases_lt}
 use Rattle.fare_law.specs.declared.requests.Slice.{Slice}
 use Rattle.fare_law.specs.Book.{Book}
 use Rattle.fare_law.specs.Lists.{EachPair, IsIn, OnFirst, Less}
+use Rattle.fare_law.specs.declared.limits.TheConstants.{MOST_FLIGHTS_OF_A_COMPONENT}
 use Rattle.flight_paths.specs.declared.positions.Path.{Path}
 use Rattle.flight_paths.specs.declared.positions.Position.{Position}
 use Rattle.flight_paths.specs.Heads.{AreRest, AreRestOf, AreSomeTails, Crossing, Enters, Follows, IsJoined, stands_before}
@@ -163,7 +164,7 @@ module _ (h : Path) (middle : Position) (ts : List Path) (c from to : ℕ)
     (p : IsPartitionPoint (λ t. stands_before c middle.lo t ≡ true) (λ t. stands_before c middle.lo t ≡ false) ts from)
     (q : IsPartitionPoint (λ t. stands_before c middle.hi t ≡ true) (λ t. stands_before c middle.hi t ≡ false) ts to) where
   -- what stands between is of the range, and has so many flights
-  pub entering : from ≤ to → length h.flights + c ≤ 4 → (t : Path) → 1 ≤ length t.flights → IsIn t (take (to - from) (drop from ts)) → Enters middle h t
+  pub entering : from ≤ to → length h.flights + c ≤ MOST_FLIGHTS_OF_A_COMPONENT → (t : Path) → 1 ≤ length t.flights → IsIn t (take (to - from) (drop from ts)) → Enters middle h t
   entering le room t some i =
       let w = in_part ts from (to - from) t i in
       let k = w.0 in
@@ -181,10 +182,10 @@ module _ (h : Path) (middle : Position) (ts : List Path) (c from to : ℕ)
       by n (inr a) (inr x) = record { in_range = first_in t.flights some x a.1; few = omega (arith, room, a.0) }
 
 module _ (b : Book) (sl : List Slice) (at : Position) (h : Path) (ts : List Path) where
-  pub too_many : (c : ℕ) → 4 < length h.flights + c → AreRestOf b sl at h ts c []
+  pub too_many : (c : ℕ) → MOST_FLIGHTS_OF_A_COMPONENT < length h.flights + c → AreRestOf b sl at h ts c []
   too_many c gt = record { once = tt; are = λ x. (λ i. absurd i, λ w. long w.0 w.2 w.3.follows.few) }
     where
-      long : (t : Path) → length t.flights ≡ c → length h.flights + length t.flights ≤ 4 → ⊥
+      long : (t : Path) → length t.flights ≡ c → length h.flights + length t.flights ≤ MOST_FLIGHTS_OF_A_COMPONENT → ⊥
       long t e few = omega (arith, gt, e, few)
 
   -- tails of one flight, then of two

@@ -8,6 +8,7 @@ use Rattle.fare_law.specs.Journey.{calls}
 use Rattle.fare_law.specs.Lists.{Each, OnFirst}
 use Rattle.fare_law.proofs.SameNames.{places_tell}
 use Rattle.fare_law.specs.contracts.names.PlacePartialEq.TheImpl as place
+use Rattle.fare_law.specs.declared.limits.TheConstants.{MOST_FLIGHTS_OF_A_COMPONENT}
 use Rattle.flight_paths.specs.declared.positions.Path.{Path}
 use Rattle.flight_paths.specs.declared.positions.Position.{Position}
 use Rattle.flight_paths.specs.Heads.{Crossing, Enters, Follows, IsTail}
@@ -68,7 +69,7 @@ module _ (b : Book) (sl : List Slice) (at : Position) (h t : Path) where
       Range = OnFirst (λ n. (m.lo ≤ n) × (n < m.hi)) t.flights
 
       Few : Type 0
-      Few = length h.flights + length t.flights ≤ 4
+      Few = length h.flights + length t.flights ≤ MOST_FLIGHTS_OF_A_COMPONENT
 
       Apart : Type 0
       Apart = Each (λ p. Each (λ q. p ≢ q) (arrivals_of fs)) (calls at.place c.flights)
@@ -77,7 +78,7 @@ module _ (b : Book) (sl : List Slice) (at : Position) (h t : Path) where
       range = on_first (λ n. (m.lo ≤ n) × (n < m.hi)) t.flights (λ n. both (m.lo ≤ n) (n < m.hi) (at_most m.lo n) (below n m.hi))
 
       few : Told Few
-      few = at_most (length h.flights + length t.flights) 4
+      few = at_most (length h.flights + length t.flights) MOST_FLIGHTS_OF_A_COMPONENT
 
       range_of : Follows b sl at h t → Range
       range_of f = subst (λ (x : Position). OnFirst (λ n. (x.lo ≤ n) × (n < x.hi)) t.flights) (some_same f.middle m (sym f.crossing.after ∙ c.after)) f.in_range

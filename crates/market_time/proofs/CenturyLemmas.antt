@@ -1,4 +1,4 @@
--- The dates from 2000-01-01 to 2099-12-31 are the days from 10957 to 47481: what the range of `day_of` and the year of `day_text` need.
+-- The dates from 2000-01-01 to 2099-12-31 are the days from `FIRST_DAY` to `LAST_DAY`: what the range of `day_of` and the year of `day_text` need.
 use Rattle.std.proofs.Common.{◌≡◌, ℕ, Bool, true, false, refl, ◌<◌, ◌≤◌, arith, Option, Some, None, if◌then◌else◌, IfSome, IfOk, Result, ok_or, ℤ, pos, ◌≤ℤ◌}
 use Rattle.std.proofs.lemmas.Bool.Decides.{nat_tests}
 use Rattle.std.proofs.lemmas.Int.{by_lt_z}

@@ -1,12 +1,13 @@
 -- Dates as text, and the days that they name. A day is the number of days since 1970-01-01.
 use Rattle.std.specs.Prelude.{◌≡◌, ℕ, ℤ, pos, Bool, ◌+◌, ◌*◌, ◌/◌, ◌%◌, ◌&&◌, ◌==◌, nat_le, if◌then◌else◌, List, ◌∷◌, ◌++◌, length, slice_index, Option, Some, None}
 use Rattle.std.specs.Int.{IsInRange}
+use Rattle.fare_law.specs.declared.limits.TheConstants.{FIRST_DAY, LAST_DAY}
 use Rattle.jiff_core.specs.Calendar.{days_from_civil, days_in_month, IsBetween}
 use Rattle.market_time.specs.Digits.{has_two_digits, two_digits, digits_of}
 
 -- the days from 2000-01-01 to 2099-12-31
 abbrev pub IsInCentury : ℤ → Type 0
-IsInCentury day = IsBetween (pos 10957) (pos 47481) day
+IsInCentury day = IsBetween FIRST_DAY LAST_DAY day
 
 -- the calendar has this date, and it lies from 2000-01-01 to 2099-12-31
 abbrev pub is_date : ℕ → ℕ → ℕ → Bool

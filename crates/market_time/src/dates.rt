@@ -28,7 +28,7 @@ pub fn day_of(text: &[u8]) -> Result<i32, TimeFault>
     day_number(year, two_digits(text, 5), two_digits(text, 8)).ok_or(TimeFault::BadDate)
 }
 
-/// The text `YYYY-MM-DD` of a day from 10957, which is 2000-01-01, to 47481, which is 2099-12-31.
+/// The text `YYYY-MM-DD` of a day from 2000-01-01 to 2099-12-31, in days since 1970-01-01.
 pub fn day_text(day: i32) -> [u8; 10]
     requires { IsInCentury day }
     ensures day { day_spelled result ≡ Some day }

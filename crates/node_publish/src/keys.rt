@@ -4,7 +4,7 @@ ghost use Rattle.fare_component.specs.Keys.{asked};
 ghost use Rattle.fare_law.specs.declared.sheets.SheetRow.{SheetRow};
 ghost use Rattle.node_publish.specs.Homes.{home_of, leg_number};
 
-use fare_law::{Leg, MarketSheet, OfferKey};
+use fare_law::{Leg, MOST_FLIGHTS_OF_A_COMPONENT, MarketSheet, OfferKey};
 
 /// Whether two keys ask for the same: equal legs, and sheets of one market with equal rows.
 pub fn asks_same(one: &OfferKey, other: &OfferKey) -> bool
@@ -74,7 +74,7 @@ pub fn home_of(key: &OfferKey) -> usize
 }
 
 fn many_times(times: usize, number: usize) -> usize
-    requires few { times ≤ 4 }
+    requires few { times ≤ MOST_FLIGHTS_OF_A_COMPONENT }
     requires low { number < 2 ^ 45 }
     ensures value { result ≡ times * number }
     ensures low { result < 2 ^ 47 }

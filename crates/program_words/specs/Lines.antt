@@ -2,6 +2,7 @@
 use Rattle.std.specs.Prelude.{◌≡◌, ℕ, ◌==◌, ◌&&◌, Bool, false, not, List, [], ◌∷◌, length, Option, Some, None, is_none, option_and_then, Result, Ok, Err, codes, if◌then◌else◌}
 use Rattle.std.specs.List.{list_all}
 use Rattle.std.specs.Str.{bytes_eq}
+use Rattle.fare_law.specs.declared.limits.TheConstants.{MOST_TICKETS}
 use Rattle.clap.specs.Words.{Text, fault_of}
 use Rattle.program_words.specs.Parser.{parser}
 use Rattle.program_words.specs.Texts.{GivenTexts, texts_in}
@@ -10,6 +11,7 @@ use Rattle.program_words.specs.declared.commands.Command.{Command}
 use Rattle.program_words.specs.declared.commands.Command.TheVariants.{Search, Check, Make, Serve, Calendar, Verdict}
 use Rattle.program_words.specs.declared.faults.WordsFault.{WordsFault}
 use Rattle.program_words.specs.declared.faults.WordsFault.TheVariants.{Usage, Mem}
+use Rattle.program_words.specs.declared.limits.TheConstants.{DEFAULT_BUDGET, LAST_VERSION, MOST_BUDGET}
 
 infixl 10 ◌>>=◌
 abbrev pub ◌>>=◌ : {A B : Type 0} → Option A → (A → Option B) → Option B
@@ -17,13 +19,13 @@ None >>= f = None
 (Some x) >>= f = f x
 
 abbrev pub best_of : Option Text → Option (Option ℕ)
-best_of = optional 1 1000
+best_of = optional 1 MOST_TICKETS
 
 abbrev pub budget_of : Option Text → Option ℕ
-budget_of = defaulted 1 1000000 100000
+budget_of = defaulted 1 MOST_BUDGET DEFAULT_BUDGET
 
 abbrev pub at_of : Option Text → Option (Option ℕ)
-at_of = optional 0 1000000
+at_of = optional 0 LAST_VERSION
 
 -- none of these options was given
 abbrev pub are_absent : List (Option Text) → Bool

@@ -8,18 +8,18 @@
 pub enum Command {
     /// The cheapest tickets of a case, with their certificate.
     Search {
-        /// 1 to 1,000.
+        /// 1 to `MOST_TICKETS`.
         best: Option<u16>,
-        /// 1 to 1,000,000.
+        /// 1 to `MOST_BUDGET`.
         budget: u32,
-        /// 0 to 1,000,000.
+        /// 0 to `LAST_VERSION`.
         at: Option<u32>,
     },
     /// The verdict on a certificate.
     Check {
-        /// 1 to 1,000.
+        /// 1 to `MOST_TICKETS`.
         best: Option<u16>,
-        /// 0 to 1,000,000.
+        /// 0 to `LAST_VERSION`.
         at: Option<u32>,
     },
     /// A made case, or its summary.
@@ -31,9 +31,9 @@ pub enum Command {
     },
     /// The replies to a script, while filings come in.
     Serve {
-        /// 1 to 1,000.
+        /// 1 to `MOST_TICKETS`.
         best: Option<u16>,
-        /// 1 to 1,000,000.
+        /// 1 to `MOST_BUDGET`.
         budget: u32,
     },
     /// The least price for each outward and homeward day.
@@ -42,14 +42,14 @@ pub enum Command {
         outs: u8,
         /// How many homeward days, 1 to 31.
         backs: u8,
-        /// 1 to 1,000,000.
+        /// 1 to `MOST_BUDGET`.
         budget: u32,
-        /// 0 to 1,000,000.
+        /// 0 to `LAST_VERSION`.
         at: Option<u32>,
     },
     /// The breaches of one ticket.
     Verdict {
-        /// 0 to 1,000,000.
+        /// 0 to `LAST_VERSION`.
         at: Option<u32>,
     },
 }

@@ -9,6 +9,8 @@ use crate::faults::WordsFault;
 use crate::given::Given;
 use crate::numbers::{defaulted, optional, required};
 use crate::parsing::given_texts;
+use crate::{DEFAULT_BUDGET, LAST_VERSION, MOST_BUDGET};
+use fare_law::MOST_TICKETS;
 use std::alloc::Global;
 
 /// The command line that the words are: a command and its options, each at most once, before or after it.
@@ -137,20 +139,20 @@ fn best(text: Option<&str>) -> Option<Option<u16>>
 {
     match text {
         None => Some(None),
-        Some(text) => Some(Some(required(Some(text), 1, 1000)? as u16)),
+        Some(text) => Some(Some(required(Some(text), 1, MOST_TICKETS.into())? as u16)),
     }
 }
 
 fn budget(text: Option<&str>) -> Option<u32>
     ensures { result ≡ Lines.budget_of (text_of text.entry) }
 {
-    defaulted(text, 1, 1_000_000, 100_000)
+    defaulted(text, 1, MOST_BUDGET, DEFAULT_BUDGET)
 }
 
 fn at(text: Option<&str>) -> Option<Option<u32>>
     ensures { result ≡ Lines.at_of (text_of text.entry) }
 {
-    optional(text, 0, 1_000_000)
+    optional(text, 0, LAST_VERSION)
 }
 
 /// Whether none of these options was given.

@@ -11,6 +11,7 @@ use Rattle.fare_law.specs.declared.requests.Why.{Why}
 use Rattle.fare_law.specs.declared.requests.Why.TheVariants.{Slices, Party, Best, Window, SamePlace}
 use Rattle.fare_law.specs.Lists.{Each}
 use Rattle.fare_law.specs.Requests.{departs, has_window, in_century, judged_alone, required, within}
+use Rattle.fare_law.specs.declared.limits.TheConstants.{MOST_PASSENGERS, MOST_SLICES, MOST_TICKETS, MOST_WINDOW_DAYS}
 use Rattle.market_time.specs.Dates.{IsInCentury}
 use Rattle.request_text.specs.declared.asked.Asked.{Asked}
 use Rattle.request_text.specs.declared.asked.AskedSlice.{AskedSlice}
@@ -42,8 +43,8 @@ between_is low high (negsuc n) h = sym (ap (λ b. held (b && nat_le 0 high) 0) (
 
 windowed_is : (s : AskedSlice) → IsAskedSlice s → windowed s ≡ held (has_window (slice_asked s)) (slice_asked s)
 windowed_is s h =
-    ap (option_map (λ days. record { from = s.from; to = s.to; first = s.first; days = days })) (between_is 1 7 s.days (omega arith))
-    ∙ by (within 1 7 (counted s.days)) ∙ sym (ap (λ b. held (b && within 1 7 (counted s.days)) (slice_asked s)) (dated s.first h.first))
+    ap (option_map (λ days. record { from = s.from; to = s.to; first = s.first; days = days })) (between_is 1 MOST_WINDOW_DAYS s.days (omega arith))
+    ∙ by (within 1 MOST_WINDOW_DAYS (counted s.days)) ∙ sym (ap (λ b. held (b && within 1 MOST_WINDOW_DAYS (counted s.days)) (slice_asked s)) (dated s.first h.first))
   where
     by : (b : Bool) → option_map (λ days. record { from = s.from; to = s.to; first = s.first; days = days }) (held b (counted s.days)) ≡ held b (slice_asked s)
     by true = refl
@@ -101,14 +102,14 @@ steps_are : (a : Asked) → IsAsked a → in_turn a ≡ or_refused (request_aske
 unfolding in_turn
 steps_are a h =
     let q = request_asked a in
-    let c = within 1 6 (length a.slices) in
-    let p = held (within 1 9 q.party) q.party in
-    let b = held (within 1 1000 q.best) q.best in
-    ap (λ o. turned c o (between 1 1000 a.terms.best) (each_windowed a.slices) q.sale) (between_is 1 9 a.terms.party (omega arith))
-    ∙ ap (λ o. turned c p o (each_windowed a.slices) q.sale) (between_is 1 1000 a.terms.best (omega arith))
+    let c = within 1 MOST_SLICES (length a.slices) in
+    let p = held (within 1 MOST_PASSENGERS q.party) q.party in
+    let b = held (within 1 MOST_TICKETS q.best) q.best in
+    ap (λ o. turned c o (between 1 MOST_TICKETS a.terms.best) (each_windowed a.slices) q.sale) (between_is 1 MOST_PASSENGERS a.terms.party (omega arith))
+    ∙ ap (λ o. turned c p o (each_windowed a.slices) q.sale) (between_is 1 MOST_TICKETS a.terms.best (omega arith))
     ∙ ap (λ o. turned c p b o q.sale) (each_is a.slices h.slices)
-    ∙ turned_is c (within 1 9 q.party) (within 1 1000 q.best) (list_all has_window q.slices) q (dated q.sale h.sale)
-    ∙ ap (λ n. or_refused q (required (within 1 6 n) Slices (required (within 1 9 q.party) Party (required (within 1 1000 q.best) Best (required (in_century q.sale && list_all has_window q.slices) Window (placed q))))))
+    ∙ turned_is c (within 1 MOST_PASSENGERS q.party) (within 1 MOST_TICKETS q.best) (list_all has_window q.slices) q (dated q.sale h.sale)
+    ∙ ap (λ n. or_refused q (required (within 1 MOST_SLICES n) Slices (required (within 1 MOST_PASSENGERS q.party) Party (required (within 1 MOST_TICKETS q.best) Best (required (in_century q.sale && list_all has_window q.slices) Window (placed q))))))
     (sym (length-map a.slices slice_asked))
 
 pub turn_is : (a : Asked) → IsAsked a → in_turn a ≡ allowed a

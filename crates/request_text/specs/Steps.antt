@@ -6,6 +6,7 @@ use Rattle.fare_law.specs.declared.requests.Request.{Request}
 use Rattle.fare_law.specs.declared.requests.Slice.{Slice}
 use Rattle.fare_law.specs.declared.requests.Why.{Why}
 use Rattle.fare_law.specs.declared.requests.Why.TheVariants.{Slices, Party, Best, Window, SamePlace}
+use Rattle.fare_law.specs.declared.limits.TheConstants.{MOST_PASSENGERS, MOST_SLICES, MOST_TICKETS, MOST_WINDOW_DAYS}
 use Rattle.request_text.specs.declared.asked.Asked.{Asked}
 use Rattle.request_text.specs.declared.asked.AskedSlice.{AskedSlice}
 
@@ -14,9 +15,9 @@ abbrev pub between : ℕ → ℕ → ℤ → Option ℕ
 between low high (pos n) = if nat_le low n && nat_le n high then Some n else None
 between low high (negsuc n) = None
 
--- the slice, if its window has 1 to 7 days
+-- the slice, if its window has 1 to `MOST_WINDOW_DAYS` days
 abbrev pub windowed : AskedSlice → Option Slice
-windowed s = option_map (λ days. record { from = s.from; to = s.to; first = s.first; days = days }) (between 1 7 s.days)
+windowed s = option_map (λ days. record { from = s.from; to = s.to; first = s.first; days = days }) (between 1 MOST_WINDOW_DAYS s.days)
 
 -- each slice, if each has such a window
 abbrev pub each_windowed : List AskedSlice → Option (List Slice)
@@ -34,9 +35,9 @@ abbrev pub ◌>>=◌ : {A B E : Type 0} → Result A E → (A → Result B E) �
 
 -- the request that is asked for, or the first reason for which it is refused
 unfoldable pub in_turn : Asked → Result Request Why
-in_turn a = if nat_le 1 (length a.slices) && nat_le (length a.slices) 6 then (do
-  party ← ok_or (between 1 9 a.terms.party) Party
-  best ← ok_or (between 1 1000 a.terms.best) Best
+in_turn a = if nat_le 1 (length a.slices) && nat_le (length a.slices) MOST_SLICES then (do
+  party ← ok_or (between 1 MOST_PASSENGERS a.terms.party) Party
+  best ← ok_or (between 1 MOST_TICKETS a.terms.best) Best
   slices ← ok_or (each_windowed a.slices) Window
   if list_any stays slices then Err SamePlace
       else Ok (record { sale = a.terms.sale; party = party; best = best; slices = slices })) else Err Slices

@@ -9,7 +9,9 @@ ghost use Rattle.request_text.specs.Limits.{allowed};
 ghost use Rattle.request_text.specs.Steps as Steps;
 
 use crate::asked::{Asked, AskedSlice};
-use fare_law::{ArrayVec, Request, Slice, Why};
+use fare_law::{
+    ArrayVec, MOST_PASSENGERS, MOST_SLICES, MOST_TICKETS, MOST_WINDOW_DAYS, Request, Slice, Why,
+};
 
 /// The request that is asked for, or the first reason for which it is refused.
 pub fn allowed(asked: &Asked) -> Result<Request, Why>
@@ -28,11 +30,11 @@ fn in_turn(asked: &Asked) -> Result<Request, Why>
     ensures limits { IfOk result IsRequest }
 {
     let slices = asked.slices.as_slice();
-    if slices.is_empty() || slices.len() > 6 {
+    if slices.is_empty() || slices.len() > MOST_SLICES {
         return Err(Why::Slices);
     }
-    let party = between(asked.terms.party, 1, 9).ok_or(Why::Party)?;
-    let best = between(asked.terms.best, 1, 1000).ok_or(Why::Best)?;
+    let party = between(asked.terms.party, 1, u16::from(MOST_PASSENGERS)).ok_or(Why::Party)?;
+    let best = between(asked.terms.best, 1, MOST_TICKETS).ok_or(Why::Best)?;
     let slices = windowed_each(slices).ok_or(Why::Window)?;
     if some_stays(slices.as_slice()) {
         return Err(Why::SamePlace);
@@ -58,10 +60,10 @@ fn between(number: i128, low: u16, high: u16) -> Option<u16>
     }
 }
 
-// The slices, if each has a window of 1 to 7 days.
+// The slices, if each has a window of 1 to `MOST_WINDOW_DAYS` days.
 #[tactic(auto, using(crate::proofs::WindowLemmas::window_steps))]
-fn windowed_each(slices: &[AskedSlice]) -> Option<ArrayVec<Slice, 6>>
-    requires few { length slices.now ≤ 6 }
+fn windowed_each(slices: &[AskedSlice]) -> Option<ArrayVec<Slice, MOST_SLICES>>
+    requires few { length slices.now ≤ MOST_SLICES }
     requires each { Each IsAskedSlice slices.now }
     ensures value { result ≡ Steps.each_windowed slices.now }
     ensures windows { IfSome result (Each IsSlice) }
@@ -74,13 +76,13 @@ fn windowed_each(slices: &[AskedSlice]) -> Option<ArrayVec<Slice, 6>>
     Some(found)
 }
 
-// The slice, if its window has 1 to 7 days.
+// The slice, if its window has 1 to `MOST_WINDOW_DAYS` days.
 fn windowed(slice: &AskedSlice) -> Option<Slice>
     requires { IsAskedSlice slice.now }
     ensures value { result ≡ Steps.windowed slice.now }
     ensures window { IfSome result IsSlice }
 {
-    let days = between(slice.days, 1, 7)?;
+    let days = between(slice.days, 1, u16::from(MOST_WINDOW_DAYS))?;
     Some(Slice {
         from: slice.from,
         to: slice.to,

@@ -15,8 +15,9 @@ use std::alloc::Global;
 ///
 /// `Syntax` exactly where they are no JSON text. `Shape` exactly where the value is no object of
 /// `sale`, `party`, `slices` and perhaps `best`, each of its form. `BadRequest` exactly where there
-/// isn't 1 to 6 slices, the party isn't 1 to 9, `best` isn't 1 to 1,000, a window isn't 1 to 7 days,
-/// or a slice ends where it begins, the first in this order.
+/// isn't 1 to `MOST_SLICES` slices, the party isn't 1 to `MOST_PASSENGERS`, `best` isn't 1 to
+/// `MOST_TICKETS`, a window isn't 1 to `MOST_WINDOW_DAYS` days, or a slice ends where it begins, the
+/// first in this order.
 pub fn read_request(alloc: Global, bytes: &[u8]) -> Result<Request, RequestFault>
     ensures told { Tells result (request_of bytes.now) }
     ensures limits { IfOk result IsRequest }

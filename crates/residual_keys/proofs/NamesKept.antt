@@ -3,6 +3,7 @@ use Rattle.std.proofs.Common.{◌≡◌, ℕ, ℤ, zero, suc, pos, ◌≤◌, �
 use Rattle.std.proofs.lemmas.Int.{ints}
 use Rattle.std.proofs.lemmas.Nat.{and_le_l}
 use Rattle.std.proofs.lemmas.List.Edits.{length-remove}
+use Rattle.schedule_book.specs.declared.limits.TheConstants.{MOST_DATED_FLIGHTS}
 use Rattle.fare_law.specs.declared.flights.Flight.{Flight}
 use Rattle.fare_law.specs.declared.moves.Move.{Move}
 use Rattle.fare_law.specs.declared.moves.Role.{Role}
@@ -93,7 +94,7 @@ path_fits b sl at [] fs end h = absurd (h.some refl)
 path_fits b sl at (n ∷ ns) [] end h = absurd h.flies
 path_fits b sl at (n ∷ ns) (f ∷ fs) end h = let k = h.flies in flies_fits b sl k.3 ns fs end (leads_fits b sl k.0 at f k.3 k.1 k.4) k.5
 
-is_position : (b : Book) (q : Request) (at : Position) → IsRequest q → length b.timetable.flights ≤ 200000 → Fits b q.slices at → EndNamed (Some at) → IsPosition at
+is_position : (b : Book) (q : Request) (at : Position) → IsRequest q → length b.timetable.flights ≤ MOST_DATED_FLIGHTS → Fits b q.slices at → EndNamed (Some at) → IsPosition at
 is_position b q at r few f n = record {
   slice = let c = r.count in let s = f.slice in omega (arith, c.1, s);
   leg = let l = f.leg in omega (arith, l);

@@ -1,6 +1,7 @@
 -- The rows of a book's sheet: in a strict order, live, within limits, and the sheet is one. Given on to the crates above.
 use Rattle.std.proofs.Common.{◌≡◌, ◌≢◌, ◌⊎◌, ℕ, zero, suc, ◌+◌, ◌≤◌, ◌<◌, List, [], ◌∷◌, length, map, slice_get, Some, All, refl, sym, ap, subst, ◌∙◌, inl, inr, arith}
 use Rattle.fare_book.specs.Keeping.{IsLive, Limited}
+use Rattle.fare_book.specs.declared.limits.TheConstants.{MOST_FARES}
 use Rattle.std.proofs.lemmas.List.Elements.{All-head, All-tail}
 use Rattle.fare_component.specs.Keys.{IsKey, IsLeg, IsRow}
 use Rattle.fare_law.specs.declared.flights.Flight.{Flight}
@@ -15,6 +16,7 @@ use Rattle.fare_law.specs.declared.sheets.SheetRow.{SheetRow}
 use Rattle.fare_law.specs.Book.{Book, live_fare, live_rule}
 use Rattle.fare_law.specs.Lists.{AllDifferent, Each, EachPair, IsIn, KLeast, Less}
 use Rattle.fare_law.specs.Sheets.{IsLiveRow, IsSheet, RowBefore, Sheet, SheetOf}
+use Rattle.fare_law.specs.declared.limits.TheConstants.{MOST_FLIGHTS_OF_A_COMPONENT}
 use Rattle.residual_keys.proofs.LeastOne.{k_least_one}
 use Rattle.law_lemmas.proofs.EachOne.{each_from}
 use Rattle.law_lemmas.proofs.Options.{some_one, some_there}
@@ -81,7 +83,7 @@ module _ (never : (w : List ℕ) → Less w w → ⊥) (trans : (u v w : List �
     map_length [] = refl
     map_length (r ∷ rows) = omega (arith, map_length rows)
 
-    few : length sheet.rows ≤ 20000
+    few : length sheet.rows ≤ MOST_FARES
     few = limited.few_fares (length sheet.rows) (map (λ row. row.fare.key) sheet.rows, map_length sheet.rows, keys_different sheet.rows h.ascending, keys_live sheet.rows (λ row i. i))
 
     pub is_sheet : IsSheet sheet.from sheet.to sheet.rows
@@ -126,9 +128,9 @@ module _ (never : (w : List ℕ) → Less w w → ⊥) (trans : (u v w : List �
       λ i. record { from = f i; to = t i; rows = rows i }
 
 -- a key of legs and a sheet of the book is within its limits
-pub key_within : (key : OfferKey) (legs : List Leg) (fs : List Flight) (sheet : Sheet) → key.legs ≡ legs → key.sheet.value ≡ sheet → flights_of legs ≡ fs → 1 ≤ length fs → length fs ≤ 4 → All IsFlight fs → IsSheet sheet.from sheet.to sheet.rows → Each IsRow sheet.rows → IsKey key
+pub key_within : (key : OfferKey) (legs : List Leg) (fs : List Flight) (sheet : Sheet) → key.legs ≡ legs → key.sheet.value ≡ sheet → flights_of legs ≡ fs → 1 ≤ length fs → length fs ≤ MOST_FLIGHTS_OF_A_COMPONENT → All IsFlight fs → IsSheet sheet.from sheet.to sheet.rows → Each IsRow sheet.rows → IsKey key
 key_within key legs fs sheet a e same some few within s rows = record {
-  legs = subst (IsListOf 4 IsLeg) (sym a) (record { count = (omega (arith, long, some), omega (arith, long, few)); each = each_leg legs (subst (All IsFlight) (sym same) within) });
+  legs = subst (IsListOf MOST_FLIGHTS_OF_A_COMPONENT IsLeg) (sym a) (record { count = (omega (arith, long, some), omega (arith, long, few)); each = each_leg legs (subst (All IsFlight) (sym same) within) });
   sheet = subst (λ x. IsSheet x.from x.to x.rows) (sym e) s;
   rows = subst (λ x. Each IsRow x.rows) (sym e) rows;
 }

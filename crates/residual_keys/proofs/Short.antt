@@ -7,6 +7,7 @@ use Rattle.fare_law.specs.declared.requests.Request.{Request}
 use Rattle.fare_law.specs.declared.requests.Slice.{Slice}
 use Rattle.fare_law.specs.declared.tickets.Piece.{Piece}
 use Rattle.fare_law.specs.Book.{Book}
+use Rattle.fare_law.specs.declared.limits.TheConstants.{MOST_COMPONENTS_OF_A_SLICE}
 use Rattle.flight_paths.specs.declared.positions.Position.{Position}
 use Rattle.flight_paths.specs.Positions.{IsPath, Flies, LeadsTo, before_slice}
 use Rattle.open_unit.specs.declared.units.OpenUnit.{OpenUnit}
@@ -85,7 +86,7 @@ run_short b q x (m ∷ n ∷ ms) price (fs, p, at, us, rest, mv, run, e) =
     let both = length-append m.flights (flat_map (λ k. k.flights) (n ∷ ms)) in
     (omega (arith, some_length m.flights mv.path.some, k.0, both), omega (arith, r.0, k.1, both))
 
-pub root_run_short : (b : Book) (q : Request) (ms : List Move) (price : ℕ) → RunFromRoot b q ms price → length ms ≤ 3 * length q.slices
+pub root_run_short : (b : Book) (q : Request) (ms : List Move) (price : ℕ) → RunFromRoot b q ms price → length ms ≤ MOST_COMPONENTS_OF_A_SLICE * length q.slices
 root_run_short b q ms price (at, root, run) =
     let r = run_short b q (record { at = at; units = []; part = no_part }) ms price run in
     omega (arith, r.0, r.1)

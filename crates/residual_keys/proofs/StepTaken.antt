@@ -11,6 +11,7 @@ use Rattle.fare_law.specs.declared.sheets.Leg.{Leg}
 use Rattle.fare_law.specs.Lists.{Matched}
 use Rattle.fare_law.specs.Offers.{IsOffered, flights_of}
 use Rattle.fare_law.specs.Parts.{ComponentLawful, Numbers, StandsFor, price_of}
+use Rattle.fare_law.specs.declared.limits.TheConstants.{MOST_FLIGHTS_OF_A_COMPONENT}
 use Rattle.flight_paths.specs.declared.positions.Position.{Position}
 use Rattle.flight_paths.specs.Positions.{Flies, IsPath}
 use Rattle.open_unit.specs.declared.units.OpenUnit.{OpenUnit}
@@ -43,7 +44,7 @@ module _ (b : Book) (q : Request) (r : State) (m : Move) (fs : List Flight) (aft
   pub path_some : 1 ≤ length fs
   path_some = numbered_some b m.flights fs path.some path_numbers
 
-  pub path_few : length fs ≤ 4
+  pub path_few : length fs ≤ MOST_FLIGHTS_OF_A_COMPONENT
   path_few = path.shape.few
 
   -- the flights of a move are those of its numbers, and lead where these do

@@ -5,6 +5,7 @@ use Rattle.fare_law.specs.declared.moves.Move.{Move}
 use Rattle.fare_law.specs.declared.requests.Request.{Request}
 use Rattle.fare_law.specs.declared.tickets.Piece.{Piece}
 use Rattle.fare_law.specs.Book.{Book}
+use Rattle.fare_law.specs.declared.limits.TheConstants.{MOST_COMPONENTS_OF_A_SLICE}
 use Rattle.flight_paths.specs.declared.positions.Position.{Position}
 use Rattle.flight_paths.specs.Positions.{Fits, Flies}
 use Rattle.open_unit.specs.declared.units.OpenUnit.{OpenUnit}
@@ -34,9 +35,9 @@ RunIsShort b q =
     (x : State) (ms : List Move) (price : ℕ) → Run b q x ms price
     → (length ms ≤ length (flat_map (λ m. m.flights) ms)) × (length (flat_map (λ m. m.flights) ms) + flights_before q (Some x.at) ≤ 3 * length q.slices)
 
--- A run from the root has at most three moves a slice.
+-- A run from the root has no more moves than components may begin in its slices.
 abbrev pub RootRunIsShort : Book → Request → Type 0
-RootRunIsShort b q = (ms : List Move) (price : ℕ) → RunFromRoot b q ms price → length ms ≤ 3 * length q.slices
+RootRunIsShort b q = (ms : List Move) (price : ℕ) → RunFromRoot b q ms price → length ms ≤ MOST_COMPONENTS_OF_A_SLICE * length q.slices
 
 -- What a list of moves leads to from the root is a position of the request.
 abbrev pub ReachedFits : Book → Request → Type 0

@@ -1,5 +1,6 @@
 -- What a search reaches has a text, and a run from the root has a code.
 use Rattle.std.specs.Prelude.{◌≡◌, ℕ, ◌≤◌, List, [], length, slice_get, Some, None}
+use Rattle.schedule_book.specs.declared.limits.TheConstants.{MOST_DATED_FLIGHTS}
 use Rattle.fare_book.specs.Keeping.{Limited}
 use Rattle.fare_law.specs.declared.moves.Move.{Move}
 use Rattle.fare_law.specs.declared.requests.Request.{Request}
@@ -18,11 +19,11 @@ use Rattle.residual_keys.specs.Searches.{Reached}
 use Rattle.residual_keys.specs.Steps.{IsChosen}
 use Rattle.ticket_order.specs.Coding.{IsCodeOf}
 
--- A book within its limits: those of its fares and rules, and of its flights, of which there are at most 200,000.
+-- A book within its limits: those of its fares and rules, and of its flights, of which there are not too many.
 pub record InLimits (b : Book) : Type 0 where
   pub fares : Limited b
   pub flights : Each IsFlight b.timetable.flights
-  pub few : length b.timetable.flights ≤ 200000
+  pub few : length b.timetable.flights ≤ MOST_DATED_FLIGHTS
 
 -- what a move leaves has a text, or is the end of the journey
 abbrev pub IsWrittenNext : Next → Type 0

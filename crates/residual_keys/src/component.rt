@@ -15,7 +15,9 @@ ghost use Rattle.residual_keys.specs.AskedKeys.{IsLeg};
 ghost use Rattle.residual_keys.specs.Gathered.{IsReadOver};
 
 use fare_book::Book;
-use fare_law::{ArrayVec, FareKey, Flight, Leg, Move, Place, Role, SheetRow};
+use fare_law::{
+    ArrayVec, FareKey, Flight, Leg, MOST_FLIGHTS_OF_A_COMPONENT, Move, Place, Role, SheetRow,
+};
 use open_unit::Facts;
 use rule_unit::rules_stay_in_range;
 use schedule_book::Schedule;
@@ -28,8 +30,8 @@ pub fn schedule_of(book: &Book) -> &Schedule
 }
 
 /// The flights of these numbers, at most four.
-pub fn flights_of(book: &Book, numbers: &[u32]) -> ArrayVec<Flight, 4>
-    requires few { length numbers.now ≤ 4 }
+pub fn flights_of(book: &Book, numbers: &[u32]) -> ArrayVec<Flight, MOST_FLIGHTS_OF_A_COMPONENT>
+    requires few { length numbers.now ≤ MOST_FLIGHTS_OF_A_COMPONENT }
     requires known { (fs : List DatedFlight) × Numbers book.now numbers.now fs }
     ensures flights { (fs : List DatedFlight) → Numbers book.now numbers.now fs → result ≡ fs }
     ensures limits { All IsFlight result }
@@ -43,8 +45,12 @@ pub fn flights_of(book: &Book, numbers: &[u32]) -> ArrayVec<Flight, 4>
 }
 
 /// The flights as legs, with the classes that have seats for the party.
-pub fn legs_of(book: &Book, party: u8, flights: &[Flight]) -> ArrayVec<Leg, 4>
-    requires { length flights.now ≤ 4 }
+pub fn legs_of(
+    book: &Book,
+    party: u8,
+    flights: &[Flight],
+) -> ArrayVec<Leg, MOST_FLIGHTS_OF_A_COMPONENT>
+    requires { length flights.now ≤ MOST_FLIGHTS_OF_A_COMPONENT }
     ensures legs { Matched (IsLeg book.now party) flights.now result }
     ensures flights { flights_of result ≡ flights.now }
 {

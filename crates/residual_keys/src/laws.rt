@@ -22,19 +22,20 @@ ghost use Rattle.std.specs.declared.cmp.Ordering.TheVariants.{Equal, Less};
 ghost use Rattle.std.specs.Prelude.{List, length, ℕ, ◌≡◌, ◌≤◌, ◌<◌, ◌↔◌, ◌⊎◌};
 
 use crate::Residual;
+use fare_law::{MOST_COMPONENTS, MOST_SLICES};
 use rule_unit::rules_stay_in_range;
 use ticket_order::{codes_tell, order_laws};
 
 /// Nothing is lost: where the timetable's flights stand in the order of their departures, a list of
 /// moves is a run from the root exactly where it is the moves of a lawful ticket, and then of one,
 /// with the run's price. Where two lists of moves lead to one residual, what completes the one
-/// completes the other. A lawful ticket of at most six slices has at most 18 components.
+/// completes the other. A lawful ticket of at most `MOST_SLICES` slices has at most `MOST_COMPONENTS` components.
 pub fn nothing_lost()
     ensures runs { (b : Book) (q : Request) → Ascending b.timetable.flights → RunsAreTickets b q }
     ensures tickets { (b : Book) (q : Request) → TicketsAreRuns b q }
     ensures one { (b : Book) (q : Request) → OneTicket b q }
     ensures same { (b : Book) (q : Request) → Ascending b.timetable.flights → SameCompletions b q }
-    ensures few { (b : Book) (q : Request) (t : Ticket) → length q.slices ≤ 6 → Lawful t b q → length t.components ≤ 18 }
+    ensures few { (b : Book) (q : Request) (t : Ticket) → length q.slices ≤ MOST_SLICES → Lawful t b q → length t.components ≤ MOST_COMPONENTS }
 {}
 
 /// A move leaves one residual, so a list of moves leads to one, and a run that begins with the list
@@ -75,14 +76,14 @@ pub fn one_best()
 }
 
 /// Runs are short: from slice s and leg m of n slices lead at most 3 (n - s) - m flights, so a run from
-/// the root has at most three moves a slice, which is 18 for a request of six slices. Each move raises
+/// the root has at most three moves a slice, and so at most `MOST_COMPONENTS`. Each move raises
 /// the slice or the leg, and what moves from the root lead to is a position of the request.
 pub fn runs_are_short()
     ensures flights { (b : Book) (q : Request) → FliesFew b q }
     ensures raised { (b : Book) (q : Request) → MoveGoesOn b q }
     ensures runs { (b : Book) (q : Request) → RunIsShort b q }
     ensures root { (b : Book) (q : Request) → RootRunIsShort b q }
-    ensures six { (b : Book) (q : Request) (ms : List Move) (price : ℕ) → length q.slices ≤ 6 → RunFromRoot b q ms price → length ms ≤ 18 }
+    ensures six { (b : Book) (q : Request) (ms : List Move) (price : ℕ) → length q.slices ≤ MOST_SLICES → RunFromRoot b q ms price → length ms ≤ MOST_COMPONENTS }
     ensures fits { (b : Book) (q : Request) → ReachedFits b q }
 {}
 
@@ -100,7 +101,7 @@ pub fn reached_is_written()
     ensures root { (b : Book) (q : Request) → InLimits b → IsRequest q → RootIsWritten b q }
     ensures moves { (b : Book) (q : Request) → InLimits b → IsRequest q → MovesKeepTexts b q }
     ensures reached { (b : Book) (q : Request) → InLimits b → IsRequest q → ReachedIsWritten b q }
-    ensures codes { (b : Book) (q : Request) → InLimits b → length q.slices ≤ 6 → RunsHaveCodes b q }
+    ensures codes { (b : Book) (q : Request) → InLimits b → length q.slices ≤ MOST_SLICES → RunsHaveCodes b q }
 {
     rules_stay_in_range();
 }

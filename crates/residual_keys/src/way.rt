@@ -7,15 +7,15 @@ ghost use Rattle.residual_keys.specs.Residuals.{State};
 
 use crate::component::{flights_of, legs_of};
 use fare_book::Book;
-use fare_law::{ArrayVec, Flight, Leg, Request};
+use fare_law::{ArrayVec, Flight, Leg, MOST_FLIGHTS_OF_A_COMPONENT, Request};
 use flight_paths::Path;
 
 /// A path of a residual, with its flights, and these as legs with the seats for the party.
 #[derive(Drop)]
 pub struct Way {
     pub path: Path,
-    pub flights: ArrayVec<Flight, 4>,
-    pub legs: ArrayVec<Leg, 4>,
+    pub flights: ArrayVec<Flight, MOST_FLIGHTS_OF_A_COMPONENT>,
+    pub legs: ArrayVec<Leg, MOST_FLIGHTS_OF_A_COMPONENT>,
 }
 
 impl Way {

@@ -11,6 +11,7 @@ use Rattle.fare_law.specs.declared.flights.Flight.{Flight}
 use Rattle.fare_law.specs.declared.rules.Rule.{Rule}
 use Rattle.fare_law.specs.declared.rules.StopRule.{StopRule}
 use Rattle.fare_law.specs.declared.rules.Surcharge.{Surcharge}
+use Rattle.fare_law.specs.declared.limits.TheConstants.{MOST_FLIGHTS_OF_A_COMPONENT}
 use Rattle.rule_route.specs.Limits.{HasLowCharge, HasLowSurcharges, IsTimed, IsLow}
 use Rattle.rule_route.proofs.Neighbours.{stopovers_few}
 use Rattle.rule_route.proofs.Sums.{flights_low}
@@ -45,14 +46,14 @@ charge_low : (o : Option StopRule) (n : ℕ) → IfSome o IsStopRule → n ≤ 3
 charge_low None n h few = omega arith
 charge_low (Some c) n h few = at_most_three c.charge n h.charge few
 
-pub charged : (r : Rule) (fs : List Flight) → IsRule r → length fs ≤ 4 → stopover_charge r fs ≤ 3000000
+pub charged : (r : Rule) (fs : List Flight) → IsRule r → length fs ≤ MOST_FLIGHTS_OF_A_COMPONENT → stopover_charge r fs ≤ 3000000
 charged r fs h few = charge_low r.cat8 (stopovers fs) h.cat8 (let few_stops = stopovers_few fs in omega arith)
 
-amounts_low : (o : Option (List Surcharge)) (fs : List Flight) → IfSome o (IsListOf 8 IsSurcharge) → length fs ≤ 4 → surcharges o fs ≤ 32000000
+amounts_low : (o : Option (List Surcharge)) (fs : List Flight) → IfSome o (IsListOf 8 IsSurcharge) → length fs ≤ MOST_FLIGHTS_OF_A_COMPONENT → surcharges o fs ≤ 32000000
 amounts_low None fs h few = omega arith
 amounts_low (Some ss) fs h few = flights_low ss fs (all_low ss h.each) h.count.1 few
 
-pub surcharged : (r : Rule) (fs : List Flight) → IsRule r → length fs ≤ 4 → surcharges r.cat12 fs ≤ 32000000
+pub surcharged : (r : Rule) (fs : List Flight) → IsRule r → length fs ≤ MOST_FLIGHTS_OF_A_COMPONENT → surcharges r.cat12 fs ≤ 32000000
 surcharged r fs h few = amounts_low r.cat12 fs h.cat12 few
 
 pub ruleset limits_met = (timed, charge_met, surcharges_met, charged, surcharged)

@@ -6,7 +6,7 @@ ghost use Rattle.fare_law.specs.Parts.{is_stopover, stopovers, transfers, Stopov
 ghost use Rattle.rule_route.specs.Limits.{IsTimed};
 ghost use Rattle.rule_route.specs.Permits.{permits_stop, StopsOnlyAt};
 
-use fare_law::{Carrier, Flight, Place, Rule, StopRule};
+use fare_law::{Carrier, Flight, MOST_FLIGHTS_OF_A_COMPONENT, Place, Rule, StopRule};
 
 /// The longest gap of a transfer, in minutes; a longer one is a stopover.
 const LONGEST_TRANSFER: i64 = 1440;
@@ -15,7 +15,7 @@ const LONGEST_TRANSFER: i64 = 1440;
 /// Instants lie from 0 to 100,000,000.
 #[tactic(auto, using(crate::proofs::Neighbours::stopovers_paired, crate::proofs::Neighbours::stopovers_few))]
 pub fn stopovers(flights: &[Flight]) -> u8
-    requires few { length flights.now ≤ 4 }
+    requires few { length flights.now ≤ MOST_FLIGHTS_OF_A_COMPONENT }
     requires timed { All IsTimed flights.now }
     ensures count { result ≡ stopovers flights.now }
     ensures few { result ≤ 3 }
@@ -27,7 +27,7 @@ pub fn stopovers(flights: &[Flight]) -> u8
 /// that is given. True where it is absent.
 #[tactic(auto, unfolding(crate::specs::Permits::StopsOnlyAt))]
 pub fn stopovers_ok(rule: &Rule, flights: &[Flight]) -> bool
-    requires few { length flights.now ≤ 4 }
+    requires few { length flights.now ≤ MOST_FLIGHTS_OF_A_COMPONENT }
     requires timed { All IsTimed flights.now }
     ensures { IsTrue result ↔ StopoversHold rule.now flights.now }
 {
@@ -38,7 +38,7 @@ pub fn stopovers_ok(rule: &Rule, flights: &[Flight]) -> bool
 
 /// Whether the stopovers are at most as many, and only where the category says.
 fn stops_permitted(stops: &StopRule, flights: &[Flight]) -> bool
-    requires few { length flights.now ≤ 4 }
+    requires few { length flights.now ≤ MOST_FLIGHTS_OF_A_COMPONENT }
     requires timed { All IsTimed flights.now }
     ensures { IsTrue result ↔ ((stopovers flights.now ≤ stops.now.max) × IfSome stops.now.places (λ places. StopsOnlyAt places flights.now)) }
 {
@@ -52,7 +52,7 @@ fn stops_permitted(stops: &StopRule, flights: &[Flight]) -> bool
 /// Whether the flights meet category 9: at most `max` transfers, and every flight of the fare's
 /// carrier where it is `online`. Otherwise, and where it is absent, the first flight is of it.
 pub fn transfers_ok(rule: &Rule, carrier: Carrier, flights: &[Flight]) -> bool
-    requires few { length flights.now ≤ 4 }
+    requires few { length flights.now ≤ MOST_FLIGHTS_OF_A_COMPONENT }
     requires timed { All IsTimed flights.now }
     ensures { IsTrue result ↔ TransfersHold rule.now carrier flights.now }
 {
@@ -119,7 +119,7 @@ fn permits_stop(places: &[Place], arriving: &Flight, departing: &Flight) -> bool
 /// The connections that are no stopovers.
 #[tactic(auto, using(crate::proofs::Neighbours::connections_split))]
 fn transfers(flights: &[Flight]) -> u8
-    requires few { length flights.now ≤ 4 }
+    requires few { length flights.now ≤ MOST_FLIGHTS_OF_A_COMPONENT }
     requires timed { All IsTimed flights.now }
     ensures { result ≡ transfers flights.now }
 {

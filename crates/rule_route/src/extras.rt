@@ -4,12 +4,12 @@ ghost use Rattle.fare_law.specs.Parts.{fits, stopover_charge, surcharges};
 ghost use Rattle.rule_route.specs.Limits.{IsTimed, HasLowCharge, HasLowSurcharges, IsLow};
 
 use crate::stopovers;
-use fare_law::{Flight, Rule, Surcharge};
+use fare_law::{Flight, MOST_FLIGHTS_OF_A_COMPONENT, Rule, Surcharge};
 
 /// The charge of category 8 for each stopover of at most four flights; 0 where it is absent.
 /// The charge for one is at most 1,000,000.
 pub fn charge(rule: &Rule, flights: &[Flight]) -> u64
-    requires few { length flights.now ≤ 4 }
+    requires few { length flights.now ≤ MOST_FLIGHTS_OF_A_COMPONENT }
     requires timed { All IsTimed flights.now }
     requires low { HasLowCharge rule.now }
     ensures sum { result ≡ stopover_charge rule.now flights.now }
@@ -23,7 +23,7 @@ pub fn charge(rule: &Rule, flights: &[Flight]) -> u64
 /// The amounts of category 12, for each of at most four flights those of the entries that fit it;
 /// 0 where it is absent. An amount is at most 1,000,000.
 pub fn surcharge(rule: &Rule, flights: &[Flight]) -> u64
-    requires few { length flights.now ≤ 4 }
+    requires few { length flights.now ≤ MOST_FLIGHTS_OF_A_COMPONENT }
     requires low { HasLowSurcharges rule.now }
     ensures sum { result ≡ surcharges rule.now.cat12 flights.now }
     ensures low { result ≤ 32000000 }
@@ -33,7 +33,7 @@ pub fn surcharge(rule: &Rule, flights: &[Flight]) -> u64
 
 /// The amounts of the entries that fit, summed over the flights.
 fn flights_surcharge(entries: &[Surcharge], flights: &[Flight]) -> u64
-    requires few { length flights.now ≤ 4 }
+    requires few { length flights.now ≤ MOST_FLIGHTS_OF_A_COMPONENT }
     requires few_entries { length entries.now ≤ 8 }
     requires low { All IsLow entries.now }
     ensures sum { result ≡ sum_by (λ f. sum_by (λ s. cond (fits s f) s.amount 0) entries.now) flights.now }

@@ -7,6 +7,8 @@ ghost use Rattle.fare_law.specs.declared.flights.Flight.{Flight};
 ghost use Rattle.fare_law.specs.declared.rules.Rule.{Rule};
 ghost use Rattle.rule_route.specs.Limits.{HasLowCharge, HasLowSurcharges, IsTimed};
 
+use fare_law::MOST_FLIGHTS_OF_A_COMPONENT;
+
 /// Flights and rules within their limits meet what this crate's calls ask for, and what they cost
 /// beside the fare is low.
 #[tactic(auto, using(crate::proofs::WithinLimits::limits_met))]
@@ -14,6 +16,6 @@ pub fn limits_are_met()
     ensures timed { (f : Flight) → IsFlight f → IsTimed f }
     ensures charge { (r : Rule) → IsRule r → HasLowCharge r }
     ensures surcharges { (r : Rule) → IsRule r → HasLowSurcharges r }
-    ensures charged { (r : Rule) (fs : List Flight) → IsRule r → length fs ≤ 4 → stopover_charge r fs ≤ 3000000 }
-    ensures surcharged { (r : Rule) (fs : List Flight) → IsRule r → length fs ≤ 4 → surcharges r.cat12 fs ≤ 32000000 }
+    ensures charged { (r : Rule) (fs : List Flight) → IsRule r → length fs ≤ MOST_FLIGHTS_OF_A_COMPONENT → stopover_charge r fs ≤ 3000000 }
+    ensures surcharged { (r : Rule) (fs : List Flight) → IsRule r → length fs ≤ MOST_FLIGHTS_OF_A_COMPONENT → surcharges r.cat12 fs ≤ 32000000 }
 {}

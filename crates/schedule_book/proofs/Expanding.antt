@@ -15,6 +15,7 @@ use Rattle.schedule_book.specs.declared.dated.FlightName.{FlightName}
 use Rattle.schedule_book.specs.Days.{named_days}
 use Rattle.schedule_book.specs.Expansions.{AddsRow, Expands, RepeatsOne, Seen, number_of}
 use Rattle.schedule_book.specs.Faults.{HasFault, IsRepeated, NoOwnFault, OwnFault, RowCause, RowFault, RowsRight, SameDated, fault_number}
+use Rattle.schedule_book.specs.declared.limits.TheConstants.{MOST_DATED_FLIGHTS}
 use Rattle.schedule_book.proofs.Numbers.{same, parts_differ}
 use Rattle.schedule_book.proofs.Rows.{split_push}
 use Rattle.schedule_book.proofs.SharedNames.{one_name}
@@ -25,7 +26,7 @@ use Rattle.law_lemmas.proofs.Members.{in_either, in_left, in_right}
 pub record Expanded (places : List PlaceRow) (rows : List FlightRow) (flights : List Flight) : Type 0 where
   pub expands : Expands same rows flights
   pub right : RowsRight places rows
-  pub few : length flights ≤ 200000
+  pub few : length flights ≤ MOST_DATED_FLIGHTS
 
 same_number : (f g : Flight) → SameDated f g → number_of f ≡ number_of g
 same_number f g s = let a = s.carrier in let b = s.number in let x = s.from in let d = s.day in λ i. record { carrier = a i; number = b i; from = x i; day = d i }
@@ -78,7 +79,7 @@ module _ (places : List PlaceRow) (rows : List FlightRow) (flights : List Flight
     many_least (TooMany line) h = omega arith
     many_least Mem h = absurd h
 
-    no_fault : length new ≤ 200000 → (other : SchedFault) → HasFault places rows row other → ⊥
+    no_fault : length new ≤ MOST_DATED_FLIGHTS → (other : SchedFault) → HasFault places rows row other → ⊥
     no_fault few (PlaceTwice line) h = h
     no_fault few (UnknownPlace line) h = let l = many_least (UnknownPlace line) h in low l
       where
@@ -100,7 +101,7 @@ module _ (places : List PlaceRow) (rows : List FlightRow) (flights : List Flight
     no_fault few (TooMany line) h = omega (arith, h.1, counted)
     no_fault few Mem h = h
 
-    pub expanded_more : length new ≤ 200000 → Expanded places (rows ++ row ∷ []) new
+    pub expanded_more : length new ≤ MOST_DATED_FLIGHTS → Expanded places (rows ++ row ∷ []) new
     expanded_more few = record {
       expands = record { are = λ f. (forth f, back f); many = counted; differ = differ };
       right = λ before r after q other h. elim (split_push rows row before r after q) [
@@ -156,16 +157,16 @@ module _ (places : List PlaceRow) (rows : List FlightRow) (i : ℕ) (d row : Fli
       subst (RowCause places rows) (sym t.0)
       (take i rows, row, drop (i + 1) rows, split_is rows i d row lt is, e.right, (refl, repeated places (take i rows) flights e row own t.1), twice_least places (take i rows) flights e row own)
 
-  pub many_cause : NoOwnFault places row → (new : List Flight) → AddsRow row flights new → IsDistinct same (map number_of new) → 200000 < length new → RowCause places rows (TooMany row.line)
+  pub many_cause : NoOwnFault places row → (new : List Flight) → AddsRow row flights new → IsDistinct same (map number_of new) → MOST_DATED_FLIGHTS < length new → RowCause places rows (TooMany row.line)
   many_cause own new adds differ many = (
     take i rows,
     row,
     drop (i + 1) rows,
     split_is rows i d row lt is,
     e.right,
-    (refl, subst (λ n. 200000 < n) (counted places (take i rows) flights e row own new adds differ) many),
+    (refl, subst (λ n. MOST_DATED_FLIGHTS < n) (counted places (take i rows) flights e row own new adds differ) many),
     many_least places (take i rows) flights e row own new adds differ,
   )
 
-  pub expanded_next : NoOwnFault places row → (new : List Flight) → AddsRow row flights new → IsDistinct same (map number_of new) → length new ≤ 200000 → Expanded places (take (i + 1) rows) new
+  pub expanded_next : NoOwnFault places row → (new : List Flight) → AddsRow row flights new → IsDistinct same (map number_of new) → length new ≤ MOST_DATED_FLIGHTS → Expanded places (take (i + 1) rows) new
   expanded_next own new adds differ few = subst (λ rs. Expanded places rs new) (sym (front_read rows i d row lt is)) (expanded_more places (take i rows) flights e row own new adds differ few)

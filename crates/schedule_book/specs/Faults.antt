@@ -9,6 +9,7 @@ use Rattle.fare_law.specs.Lists.{IsIn}
 use Rattle.schedule_book.specs.declared.faults.SchedFault.{SchedFault}
 use Rattle.schedule_book.specs.declared.faults.SchedFault.TheVariants.{PlaceTwice, UnknownPlace, SamePlace, BadPeriod, ArrivesBefore, Twice, TooMany, Mem}
 use Rattle.schedule_book.specs.Days.{named_days}
+use Rattle.schedule_book.specs.declared.limits.TheConstants.{MOST_DATED_FLIGHTS}
 
 -- the place stands among these rows
 abbrev pub IsKnown : Place → List PlaceRow → Type 0
@@ -33,7 +34,7 @@ HasFault places before row (SamePlace line) = (line ≡ row.line) × (row.from �
 HasFault places before row (BadPeriod line) = (line ≡ row.line) × ((row.last <ℤ row.first) ⊎ ((row.first +ℤ pos 365) <ℤ row.last))
 HasFault places before row (ArrivesBefore line) = (line ≡ row.line) × (instant (row.first +ℤ row.shift) row.arr row.arr_offset ≤ℤ instant row.first row.dep row.dep_offset)
 HasFault places before row (Twice line) = (line ≡ row.line) × IsRepeated before row
-HasFault places before row (TooMany line) = (line ≡ row.line) × (200000 < sum_by named_days (before ++ row ∷ []))
+HasFault places before row (TooMany line) = (line ≡ row.line) × (MOST_DATED_FLIGHTS < sum_by named_days (before ++ row ∷ []))
 HasFault places before row Mem = ⊥
 
 -- the order in which the faults of one row are judged

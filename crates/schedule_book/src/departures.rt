@@ -6,6 +6,7 @@ ghost use Rattle.fare_law.specs.Limits.{IsFlight};
 ghost use Rattle.fare_law.specs.Lists.{Each};
 ghost use Rattle.schedule_book.specs.Departures.{AreDepartures, Indexes, IsKey, origins, packed};
 
+use crate::MOST_DATED_FLIGHTS;
 use crate::parts::Parts;
 use fare_law::{Flight, Mem, Place};
 use std::alloc::Global;
@@ -24,7 +25,7 @@ pub struct Departures {
 impl Departures {
     /// The index of flights.
     pub fn of(alloc: Global, flights: &[Flight]) -> Result<Departures, Mem>
-        requires few { length flights.now ≤ 200000 }
+        requires few { length flights.now ≤ MOST_DATED_FLIGHTS }
         requires limits { Each IsFlight flights.now }
         ensures { IfOk result (λ d. Indexes flights.now d.keys.items d.numbers.items) }
     {
@@ -78,7 +79,7 @@ impl Departures {
 
 /// The origin and the number of each flight.
 fn origins_of(alloc: Global, flights: &[Flight]) -> Result<Vec<u64>, Mem>
-    requires { length flights.now ≤ 200000 }
+    requires { length flights.now ≤ MOST_DATED_FLIGHTS }
     ensures { IfOk result (λ keys. keys.items ≡ map packed (origins 0 flights.now)) }
 {
     let mut keys = Vec::with_capacity(alloc, flights.len())?;

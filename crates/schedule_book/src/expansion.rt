@@ -6,17 +6,14 @@ ghost use Rattle.schedule_book.specs.declared.dated.DatedNumber.{DatedNumber as 
 ghost use Rattle.schedule_book.specs.Expansions.{AddsRow, AllDiffer, Expands, HasNone, HasShared, IsAmong, RepeatsOne, Seen, SeenAt, StillSeen, name_in, name_of, number_of};
 ghost use Rattle.schedule_book.specs.Faults.{RowCause, RowsRight};
 
-use crate::SchedFault;
 use crate::dated::{DatedNumber, FlightName};
 use crate::places::Places;
 use crate::row_days::{flight_on, name_of, names, number_of};
 use crate::row_faults::own_fault;
+use crate::{MOST_DATED_FLIGHTS, SchedFault};
 use fare_law::{Flight, FlightRow};
 use std::alloc::Global;
 use std::collections::HashSet;
-
-/// How many dated flights a timetable may have.
-const MOST: usize = 200_000;
 
 /// Adds the flights that a row stands for to those so far. Only where another row has the row's name may one of them
 /// be there already.
@@ -145,7 +142,7 @@ fn day_after(first: i32, offset: u16) -> i32
 /// The dated flights of rows, in the order of the rows.
 pub fn expand(alloc: Global, rows: &[FlightRow], places: &Places) -> Result<Vec<Flight>, SchedFault>
     ensures expansion { IfOk result (λ v. Expands ⟦<DatedNumber as PartialEq>⟧.eq rows.now v.items) }
-    ensures few { IfOk result (λ v. length v.items ≤ 200000) }
+    ensures few { IfOk result (λ v. length v.items ≤ MOST_DATED_FLIGHTS) }
     ensures right { OnOk result (RowsRight places.now rows.now) }
     ensures fault { IfErr result (RowCause places.now rows.now) }
 {
@@ -160,7 +157,7 @@ pub fn expand(alloc: Global, rows: &[FlightRow], places: &Places) -> Result<Vec<
         if let Err(fault) = add_row(&mut flights, &mut seen, &shared, row) {
             return Err(fault);
         }
-        if flights.len() > MOST {
+        if flights.len() > MOST_DATED_FLIGHTS {
             return Err(SchedFault::TooMany { line: row.line });
         }
     }
@@ -174,7 +171,7 @@ fn likely_count(rows: &[FlightRow]) -> usize {
         let weeks = row.last.abs_diff(row.first) as usize / 7 + 1;
         count = count
             .saturating_add(weeks * row.days.count_ones() as usize)
-            .min(MOST);
+            .min(MOST_DATED_FLIGHTS);
     }
     count
 }

@@ -20,7 +20,7 @@ pub enum SchedFault {
     ArrivesBefore { line: u32 },
     /// A dated flight of the same carrier, number, origin and local day stands already.
     Twice { line: u32 },
-    /// There are more than 200,000 dated flights.
+    /// There are more than `MOST_DATED_FLIGHTS` of them.
     TooMany { line: u32 },
     /// Want of memory.
     Mem,

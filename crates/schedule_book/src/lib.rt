@@ -8,6 +8,7 @@ mod expansion;
 mod faults;
 mod gathering;
 mod laws;
+mod limits;
 mod numbering;
 mod parts;
 mod places;
@@ -19,4 +20,5 @@ mod times;
 
 pub use faults::SchedFault;
 pub use laws::{one_fault_of_rows, one_list_of_flights, ordered_flights_ascend};
+pub use limits::MOST_DATED_FLIGHTS;
 pub use schedule::Schedule;

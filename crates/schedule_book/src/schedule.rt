@@ -9,12 +9,12 @@ ghost use Rattle.schedule_book.specs.Departures.{AreDepartures};
 ghost use Rattle.schedule_book.specs.Faults.{HasCause, IsKnown, PlacesDiffer, RowsRight};
 ghost use Rattle.schedule_book.specs.LocalDays.{KeepsDay};
 
-use crate::SchedFault;
 use crate::departures::Departures;
 use crate::expansion::expand;
 use crate::numbering::put_in_order;
 use crate::places::Places;
 use crate::times::Times;
+use crate::{MOST_DATED_FLIGHTS, SchedFault};
 use fare_law::{Flight, FlightRow, List, Place, PlaceRow};
 use std::alloc::Global;
 use std::marker::Model;
@@ -37,12 +37,13 @@ impl Model for Schedule {
     ghost use Rattle.schedule_book.specs.Departures.{Indexes};
     ghost use Rattle.schedule_book.specs.LocalDays.{KeepsDay};
     ghost use Rattle.schedule_book.specs.Plan.{Plan};
+    ghost use Rattle.schedule_book.specs.declared.limits.TheConstants.{MOST_DATED_FLIGHTS};
 
     ghost Value = { Plan };
 
     ghost view = { λ s. record { places = s.places; flights = s.flights } };
 
-    ghost invariant = { λ s. (EachPair Earlier s.flights) × (length s.flights ≤ 200000) × Indexes s.flights s.departures.keys.items s.departures.numbers.items × Each IsFlight s.flights × Each KeepsDay s.flights × Each IsPlaceRow s.places };
+    ghost invariant = { λ s. (EachPair Earlier s.flights) × (length s.flights ≤ MOST_DATED_FLIGHTS) × Indexes s.flights s.departures.keys.items s.departures.numbers.items × Each IsFlight s.flights × Each KeepsDay s.flights × Each IsPlaceRow s.places };
 }
 
 impl Schedule {
@@ -78,12 +79,12 @@ impl Schedule {
         })
     }
 
-    /// All flights, in order: at most 200,000, each within its limits.
+    /// All flights, in order: at most `MOST_DATED_FLIGHTS`, each within its limits.
     pub fn flights(&self) -> &[Flight]
         ensures flights { result.now ≡ self.now.flights }
         ensures order { EachPair Earlier self.now.flights }
         ensures ascending { Ascending self.now.flights }
-        ensures few { length self.now.flights ≤ 200000 }
+        ensures few { length self.now.flights ≤ MOST_DATED_FLIGHTS }
         ensures limits { Each IsFlight self.now.flights }
         ensures local { Each KeepsDay self.now.flights }
     {

@@ -11,6 +11,7 @@ use Rattle.fare_law.specs.declared.filings.SeatKey.{SeatKey}
 use Rattle.fare_law.specs.Book.{same_seat_key}
 use Rattle.fare_law.specs.Lists.{HasMany, AllDifferent, Each, IsIn}
 use Rattle.seat_classes.specs.Held.{Changes, Counts, HasNoRoom, HasRow, seats_at}
+use Rattle.seat_classes.specs.declared.limits.TheConstants.{MOST_SEAT_ROWS}
 use Rattle.seat_classes.proofs.SeatKeys.{same_equivalence, same_flips, tests_agree}
 use Rattle.law_lemmas.proofs.EachOne.{each_from, member_holds}
 use Rattle.law_lemmas.proofs.Names.{same_seats_tell}
@@ -92,9 +93,9 @@ module _ (held : List (SeatKey × List ℕ)) (unique : IsDistinct seat.ghosts.eq
   pub counts_all : Counts held (length held)
   counts_all = record { many = all_rows; most = most_rows held }
 
-pub no_room : (held : List (SeatKey × List ℕ)) (key : SeatKey) → IsDistinct seat.ghosts.eq (keys_of held) → length held ≡ 200000 → is_some (lookup (seat.ghosts.eq key) held) ≡ false → HasNoRoom held key
+pub no_room : (held : List (SeatKey × List ℕ)) (key : SeatKey) → IsDistinct seat.ghosts.eq (keys_of held) → length held ≡ MOST_SEAT_ROWS → is_some (lookup (seat.ghosts.eq key) held) ≡ false → HasNoRoom held key
 no_room held key unique full absent = (no_row_told held key absent, subst (λ n. HasMany n (HasRow held)) full (all_rows held unique))
 
-pub room : (held : List (SeatKey × List ℕ)) (key : SeatKey) → (length held < 200000) ⊎ (is_some (lookup (seat.ghosts.eq key) held) ≡ true) → HasNoRoom held key → ⊥
-room held key (inl few) h = omega (arith, few, most_rows held 200000 h.1)
+pub room : (held : List (SeatKey × List ℕ)) (key : SeatKey) → (length held < MOST_SEAT_ROWS) ⊎ (is_some (lookup (seat.ghosts.eq key) held) ≡ true) → HasNoRoom held key → ⊥
+room held key (inl few) h = omega (arith, few, most_rows held MOST_SEAT_ROWS h.1)
 room held key (inr known) h = row_told held key known h.0

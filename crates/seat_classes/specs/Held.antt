@@ -1,6 +1,7 @@
 -- Seat rows that are held: each key that has a row, with its seats.
 use Rattle.std.specs.Prelude.{◌≡◌, ◌≤◌, ℕ, List, Option, Some, None, IsSome, slice_index, if◌then◌else◌}
 use Rattle.std.specs.Map.{lookup}
+use Rattle.seat_classes.specs.declared.limits.TheConstants.{MOST_SEAT_ROWS}
 use Rattle.fare_law.specs.declared.filings.SeatKey.{SeatKey}
 use Rattle.fare_law.specs.declared.flights.Flight.{Flight}
 use Rattle.fare_law.specs.Book.{same_seat_key, or_else}
@@ -37,4 +38,4 @@ pub record Counts (held : List (SeatKey × List ℕ)) (n : ℕ) : Type 0 where
 
 -- the key has no row, and there are as many rows as there may be
 abbrev pub HasNoRoom : List (SeatKey × List ℕ) → SeatKey → Type 0
-HasNoRoom held key = (seats_at held key ≡ None) × HasMany 200000 (HasRow held)
+HasNoRoom held key = (seats_at held key ≡ None) × HasMany MOST_SEAT_ROWS (HasRow held)

@@ -18,7 +18,7 @@ pub enum SeatFault {
 /// Why one row is refused.
 #[derive(Clone, Copy, PartialEq, Eq, Debug)]
 pub enum SeatPut {
-    /// It would be a new row beside 200,000.
+    /// It would be a new row beside `MOST_SEAT_ROWS`.
     Full,
     /// Want of memory.
     Mem,

@@ -7,18 +7,15 @@ ghost use Rattle.seat_classes.specs.Held.{Changes, Counts, HasNoRoom, seats_at, 
 ghost use Rattle.seat_classes.specs.Given.{HasCause, rows_have};
 
 use crate::keys::{daily_key, dated_key, row_key};
-use crate::{SeatFault, SeatPut};
+use crate::{MOST_SEAT_ROWS, SeatFault, SeatPut};
 use fare_law::{Class, Flight, SeatKey, SeatRow};
 use lane_mask::at_least;
 use std::alloc::{AllocError, Global};
 use std::collections::HashMap;
 use std::marker::Model;
 
-/// How many rows there may be.
-const MOST: usize = 200_000;
-
 /// Seat rows, found by carrier, number, origin and day. Contracts see each key that has a row, once,
-/// with its seats, in no certain order. There are at most 200,000.
+/// with its seats, in no certain order. There are at most `MOST_SEAT_ROWS`.
 #[derive(Drop)]
 pub struct Seats {
     rows: HashMap<SeatKey, [u8; 32]>,
@@ -27,19 +24,20 @@ pub struct Seats {
 impl Model for Seats {
     ghost use Rattle.std.specs.Prelude.{ℕ, ◌≤◌, length, List};
     ghost use Rattle.fare_law.specs.declared.filings.SeatKey.{SeatKey};
+    ghost use Rattle.seat_classes.specs.declared.limits.TheConstants.{MOST_SEAT_ROWS};
 
     ghost Value = { List (SeatKey × List ℕ) };
 
     ghost view = { λ s. s.rows.entries };
 
-    ghost invariant = { λ s. length s.rows.entries ≤ 200000 };
+    ghost invariant = { λ s. length s.rows.entries ≤ MOST_SEAT_ROWS };
 }
 
 impl Seats {
-    /// The seats of at most 200,000 rows. The first row that has the carrier, number, origin and date
+    /// The seats of at most `MOST_SEAT_ROWS` rows. The first row that has the carrier, number, origin and date
     /// field of an earlier one is refused. A row for no flight has no effect.
     pub fn build(alloc: Global, rows: &[SeatRow]) -> Result<Seats, SeatFault>
-        requires { length rows.now ≤ 200000 }
+        requires { length rows.now ≤ MOST_SEAT_ROWS }
         ensures rows { IfOk result (λ seats. (key : SeatKey) → seats_at seats key ≡ rows_have rows.now key) }
         ensures differ { OnOk result (AllDifferent (map row_key rows.now)) }
         ensures fault { IfErr result (HasCause rows.now) }
@@ -97,14 +95,14 @@ impl Seats {
         self.rows.len() as u32
     }
 
-    /// Gives a key these seats, in place of those that it has. A new row beside 200,000 is refused.
+    /// Gives a key these seats, in place of those that it has. A new row beside `MOST_SEAT_ROWS` is refused.
     /// After a refusal the rows are as before.
     pub fn put(&mut self, _alloc: Global, key: &SeatKey, seats: &[u8; 32]) -> Result<(), SeatPut>
         ensures row { OnOk result (Changes self.old self.new key.now (Some seats.now)) }
         ensures full { IsErrOf result SeatPut.Full ↔ HasNoRoom self.old key.now }
         ensures same { OnErr result (self.new ≡ self.old) }
     {
-        if self.rows.len() == MOST && !self.rows.contains_key(key) {
+        if self.rows.len() == MOST_SEAT_ROWS && !self.rows.contains_key(key) {
             return Err(SeatPut::Full);
         }
         self.rows.insert(*key, *seats)?;

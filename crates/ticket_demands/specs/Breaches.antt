@@ -14,6 +14,7 @@ use Rattle.fare_law.specs.Lawful.{comes_in, unit_of, EndOnEndHolds, AtMostTwoStr
 use Rattle.fare_law.specs.Parts.{Part, Seated, DayTimeHolds, FlightsHold, StopoversHold, TransfersHold}
 use Rattle.fare_law.specs.Lists.{Each, EachPair, OnFirst, OnLast, AllDifferent}
 use Rattle.fare_law.specs.Units.{IsUnit, MayStand, SeasonHolds, AdvanceHolds, TravelHolds, EndsBy, MinStayHolds, MaxStayHolds, KindHolds, PartnersHold}
+use Rattle.fare_law.specs.declared.limits.TheConstants.{MOST_FLIGHTS_OF_A_COMPONENT}
 use Rattle.ticket_demands.specs.declared.breach.Breach.{Breach}
 use Rattle.ticket_demands.specs.declared.demand.ComponentDemand.{ComponentDemand}
 use Rattle.ticket_demands.specs.declared.demand.ComponentDemand.TheVariants.{KnownFlights, FlightCount, NoGap, PlacesOnce, LiveFare, FareEnds, Seats, DayTime, Flights, Stopovers, Transfers}
@@ -48,7 +49,7 @@ InUnit parts part P =
 -- What a component meets by itself.
 abbrev pub ComponentMeets : Book → ℕ → ComponentDemand → Component → Type 0
 ComponentMeets b party KnownFlights c = Any (IsUnknown b) c.flights → ⊥
-ComponentMeets b party FlightCount c = (1 ≤ length c.flights) × (length c.flights ≤ 4)
+ComponentMeets b party FlightCount c = (1 ≤ length c.flights) × (length c.flights ≤ MOST_FLIGHTS_OF_A_COMPONENT)
 ComponentMeets b party NoGap c = EachPair Joins (known_flights b c.flights)
 ComponentMeets b party PlacesOnce c = IfSome (ends_of (known_flights b c.flights)) (λ e. AllDifferent (calls e.0.from (known_flights b c.flights)))
 ComponentMeets b party LiveFare c = IsSome (live_row b c.fare)

@@ -15,11 +15,11 @@ use crate::stretch::{Stretch, stretches_of, unit_of};
 use crate::unit_rules::{greatest_stay_meets, is_one_way, least_stay_meets};
 use crate::units::{UnitFacts, facts_of};
 use fare_book::Book;
-use fare_law::{Component, Rule};
+use fare_law::{Component, MOST_COMPONENTS, Rule};
 use rule_days::{advance_ok, season_ok};
 
 /// Whether a component meets the demand of one category in its unit, which is made of those of at most
-/// 18 components that have its label. One without a live fare or a known flight, or in a unit that has
+/// `MOST_COMPONENTS` components that have its label. One without a live fare or a known flight, or in a unit that has
 /// no kind, meets each.
 pub fn category_meets(
     demand: CategoryDemand,
@@ -28,7 +28,7 @@ pub fn category_meets(
     book: &Book,
     sale: i32,
 ) -> bool
-    requires few { length components.now ≤ 18 }
+    requires few { length components.now ≤ MOST_COMPONENTS }
     requires sale { IsCalendarDay sale }
     ensures { IsTrue result ↔ IfSome (part_of book.now sale component.now) (CategoryMeets (parts_of book.now sale components.now) demand) }
 {

@@ -7,7 +7,7 @@ ghost use Rattle.ticket_demands.specs.Breaches.{number_of};
 pub enum ComponentDemand {
     /// Its flights are known.
     KnownFlights,
-    /// It has 1 to 4 flights.
+    /// It has 1 to `MOST_FLIGHTS_OF_A_COMPONENT` flights.
     FlightCount,
     /// Each flight departs where the one before arrived.
     NoGap,

@@ -8,7 +8,7 @@ ghost use Rattle.fare_law.specs.RuleLimits.{IsRule};
 ghost use Rattle.ticket_demands.specs.Known.{known_flights, ends_of, live_row, IsUnknown};
 
 use fare_book::Book;
-use fare_law::{ArrayVec, Component, Flight, Place, SheetRow};
+use fare_law::{ArrayVec, Component, Flight, MOST_FLIGHTS_OF_A_COMPONENT, Place, SheetRow};
 
 /// All flights of the book's timetable.
 pub fn all_flights(book: &Book) -> &[Flight]
@@ -39,22 +39,25 @@ pub fn has_unknown_flight(component: &Component, book: &Book) -> bool
 }
 
 /// The known flights of the component, in order.
-pub fn flights_of(component: &Component, book: &Book) -> ArrayVec<Flight, 4>
+pub fn flights_of(
+    component: &Component,
+    book: &Book,
+) -> ArrayVec<Flight, MOST_FLIGHTS_OF_A_COMPONENT>
     ensures flights { result ≡ known_flights book.now component.now.flights }
     ensures limits { Each IsFlight result }
-    ensures few { length result ≤ 4 }
+    ensures few { length result ≤ MOST_FLIGHTS_OF_A_COMPONENT }
 {
     numbered(component.flights.as_slice(), all_flights(book))
 }
 
 /// The flights that have one of at most four numbers.
 #[tactic(auto, using(crate::proofs::Gathering::gather_steps))]
-fn numbered(numbers: &[u32], flights: &[Flight]) -> ArrayVec<Flight, 4>
-    requires few { length numbers.now ≤ 4 }
+fn numbered(numbers: &[u32], flights: &[Flight]) -> ArrayVec<Flight, MOST_FLIGHTS_OF_A_COMPONENT>
+    requires few { length numbers.now ≤ MOST_FLIGHTS_OF_A_COMPONENT }
     requires limits { Each IsFlight flights.now }
     ensures flights { result ≡ filter_map (slice_get flights.now) numbers.now }
     ensures limits { Each IsFlight result }
-    ensures few { length result ≤ 4 }
+    ensures few { length result ≤ MOST_FLIGHTS_OF_A_COMPONENT }
 {
     let mut found = ArrayVec::new();
     for number in numbers {

@@ -7,7 +7,7 @@ ghost use Rattle.ticket_demands.specs.Stretches.{stretch_of};
 
 use crate::known::{ends_of, flights_of};
 use fare_book::Book;
-use fare_law::{ArrayVec, Carrier, Component, Place};
+use fare_law::{ArrayVec, Carrier, Component, MOST_COMPONENTS, Place};
 
 /// What the rules of units read of a component: where it begins and ends, whether its fare is filed
 /// the other way, the local days of departure of its first and last flight, its fare's carrier and
@@ -54,12 +54,12 @@ pub fn is_reverse(component: &Component, book: &Book) -> Option<bool>
     Some(stretch.reverse)
 }
 
-/// The stretches of at most 18 components.
-pub fn stretches_of(components: &[Component], book: &Book) -> ArrayVec<Stretch, 18>
-    requires { length components.now ≤ 18 }
+/// The stretches of at most `MOST_COMPONENTS` components.
+pub fn stretches_of(components: &[Component], book: &Book) -> ArrayVec<Stretch, MOST_COMPONENTS>
+    requires { length components.now ≤ MOST_COMPONENTS }
     ensures value { (sale : ℤ) → result ≡ map stretch_of (parts_of book.now sale components.now) }
     ensures days { Each (λ s. IsCalendarDay s.first_day) result }
-    ensures few { length result ≤ 18 }
+    ensures few { length result ≤ MOST_COMPONENTS }
 {
     let mut found = ArrayVec::new();
     for component in components {
@@ -71,9 +71,9 @@ pub fn stretches_of(components: &[Component], book: &Book) -> ArrayVec<Stretch, 
     found
 }
 
-/// Those of at most 18 stretches that are of one unit.
-pub fn unit_of(unit: u8, stretches: &[Stretch]) -> ArrayVec<Stretch, 18>
-    requires { length stretches.now ≤ 18 }
+/// Those of at most `MOST_COMPONENTS` stretches that are of one unit.
+pub fn unit_of(unit: u8, stretches: &[Stretch]) -> ArrayVec<Stretch, MOST_COMPONENTS>
+    requires { length stretches.now ≤ MOST_COMPONENTS }
     ensures { result ≡ filter (λ s. s.unit == unit) stretches.now }
 {
     let mut found = ArrayVec::new();

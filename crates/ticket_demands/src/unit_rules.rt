@@ -16,11 +16,11 @@ use crate::known::{ends_of, flights_of, row_of};
 use crate::stretch::{Stretch, stretches_of, unit_of};
 use crate::units::{UnitFacts, facts_of};
 use fare_book::Book;
-use fare_law::{Component, FareKind, MinStay, Partners, Rule, SheetRow, UnitKind};
+use fare_law::{Component, FareKind, MOST_COMPONENTS, MinStay, Partners, Rule, SheetRow, UnitKind};
 use market_time::first_sunday_after;
 use rule_days::{advance_ok, season_ok, travel_ok};
 
-/// Whether a component meets a demand in its unit, which is made of those of at most 18 components that
+/// Whether a component meets a demand in its unit, which is made of those of at most `MOST_COMPONENTS` components that
 /// have its label. One without a live fare or a known flight meets each.
 pub fn part_meets(
     demand: UnitDemand,
@@ -29,7 +29,7 @@ pub fn part_meets(
     book: &Book,
     sale: i32,
 ) -> bool
-    requires few { length components.now ≤ 18 }
+    requires few { length components.now ≤ MOST_COMPONENTS }
     requires sale { IsCalendarDay sale }
     ensures { IsTrue result ↔ IfSome (part_of book.now sale component.now) (PartMeets (parts_of book.now sale components.now) demand) }
 {
@@ -45,7 +45,7 @@ fn unit_meets(
     book: &Book,
     sale: i32,
 ) -> bool
-    requires few { length stretches.now ≤ 18 }
+    requires few { length stretches.now ≤ MOST_COMPONENTS }
     requires days { Each (λ s. IsCalendarDay s.first_day) stretches.now }
     requires sale { IsCalendarDay sale }
     ensures { IsTrue result ↔ IfSome (part_of book.now sale component.now) (λ part. StretchesMeet sale (record { fare = part.piece.fare; rule = part.piece.rule }) (filter (λ s. s.unit == component.now.unit) stretches.now) demand) }
@@ -67,7 +67,7 @@ fn label_meets(
     stretches: &[Stretch],
     sale: i32,
 ) -> bool
-    requires few { length stretches.now ≤ 18 }
+    requires few { length stretches.now ≤ MOST_COMPONENTS }
     requires days { Each (λ s. IsCalendarDay s.first_day) stretches.now }
     requires sale { IsCalendarDay sale }
     requires rule { IsRule row.now.rule }

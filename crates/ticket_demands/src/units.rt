@@ -9,7 +9,7 @@ ghost use Rattle.ticket_demands.specs.Stretches.{kind_of_ends};
 
 use crate::stretch::{Stretch, stretches_of, unit_of};
 use fare_book::Book;
-use fare_law::{Component, UnitKind};
+use fare_law::{Component, MOST_COMPONENTS, UnitKind};
 
 /// The kind of a unit, its first day, its day of return and its last day.
 #[derive(Clone, Copy, PartialEq, Eq, Debug)]
@@ -20,10 +20,10 @@ pub struct UnitFacts {
     pub last_day: i32,
 }
 
-/// The kind of the unit that those of at most 18 components make which have this label. None exactly
+/// The kind of the unit that those of at most `MOST_COMPONENTS` components make which have this label. None exactly
 /// where they are a unit of no kind. Components without a live fare or a known flight are left out.
 pub fn unit_kind(label: u8, components: &[Component], book: &Book) -> Option<UnitKind>
-    requires { length components.now ≤ 18 }
+    requires { length components.now ≤ MOST_COMPONENTS }
     ensures { (sale : ℤ) → MatchOption result (HasNoKind (Lawful.unit_of label (parts_of book.now sale components.now))) (λ kind. IsUnit kind (Lawful.unit_of label (parts_of book.now sale components.now))) }
 {
     let stretches = stretches_of(components, book);

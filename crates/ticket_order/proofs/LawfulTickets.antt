@@ -18,6 +18,7 @@ use Rattle.fare_law.specs.Parts.{IsPart, Part, Numbers, StandsFor}
 use Rattle.fare_law.specs.Lists.{Each, LastDiffers, Matched, OnFirst}
 use Rattle.fare_law.specs.Moves.{moves_after, moves_of}
 use Rattle.fare_law.specs.Units.{Forward, IsUnit, Reverse, UnitLawful}
+use Rattle.fare_law.specs.declared.limits.TheConstants.{MOST_COMPONENTS}
 use Rattle.ticket_order.specs.Tickets.{FiledOver, LeadFrom, TicketOfMoves, labels, market_of}
 use Rattle.ticket_order.proofs.LiveKeys.{live_key}
 use Rattle.ticket_order.proofs.ReadLabels.{same_is}
@@ -132,7 +133,7 @@ each_filed b q whole before (c ∷ cs) (p ∷ ps) e m laws =
     more : (before : List Part) (p : Part) (c : Component) → p.unit ≡ c.unit → units (before ++ p ∷ []) ≡ units before ++ c.unit ∷ []
     more before p c e = map-append (λ p. p.unit) before (p ∷ []) ∙ ap (λ u. units before ++ u ∷ []) e
 
-pub lawful_ticket : (b : Book) (q : Request) (t : Ticket) → Lawful t b q → length t.components ≤ 18 → TicketOfMoves b.timetable.flights (moves_of t) t
+pub lawful_ticket : (b : Book) (q : Request) (t : Ticket) → Lawful t b q → length t.components ≤ MOST_COMPONENTS → TicketOfMoves b.timetable.flights (moves_of t) t
 lawful_ticket b q t (ps, m, law, some) few = record {
   few = few;
   numbered = subst (Numbered 0) (sym (labels_are b q t.components ps m)) law.numbered;

@@ -6,6 +6,7 @@ use Rattle.fare_law.specs.declared.moves.Move.{Move}
 use Rattle.fare_law.specs.Lists.{Each}
 use Rattle.fare_law.specs.Codes.{move_code, role_code, run_code, basis_number, carrier_number}
 use Rattle.fare_law.specs.Names.{IsBasis, IsCarrier}
+use Rattle.fare_law.specs.declared.limits.TheConstants.{MOST_COMPONENTS, MOST_FLIGHTS_OF_A_COMPONENT}
 use Rattle.ticket_order.specs.Coding.{Coded, IsCodeOf, IsMove}
 use Rattle.ticket_order.proofs.Codes.{codes_joined, codes_same, move_parts}
 use Rattle.law_lemmas.proofs.Lists.{parts_same}
@@ -48,11 +49,11 @@ parts_are numbers fs rest e m after h =
     tail_same : move_code m ++ after ≡ length fs ∷ fs ++ rest → (m.flights ++ (carrier_number m.carrier ∷ basis_number m.basis ∷ role_code m.role ∷ m.slot ∷ [])) ++ after ≡ fs ++ rest
     tail_same q = cc
 
-pub move_found : (numbers fs rest : List ℕ) (m : Move) → Each (λ n. n < 2 ^ 32) fs × (numbers ≡ length fs ∷ fs ++ rest) → length fs ≤ 4 → 4 ≤ length rest → m.flights ≡ fs
+pub move_found : (numbers fs rest : List ℕ) (m : Move) → Each (λ n. n < 2 ^ 32) fs × (numbers ≡ length fs ∷ fs ++ rest) → length fs ≤ MOST_FLIGHTS_OF_A_COMPONENT → 4 ≤ length rest → m.flights ≡ fs
     → IsCarrier m.carrier × (carrier_number m.carrier ≡ get_or rest 0 0) → IsBasis m.basis × (basis_number m.basis ≡ get_or rest 1 0) → role_code m.role ≡ get_or rest 2 0 → (m.slot ≡ get_or rest 3 0) × (m.slot < 2 ^ 8)
     → IsMove m × (numbers ≡ move_code m ++ take (length rest - 4) (drop 4 rest))
 move_found numbers fs rest m h few long f c b r s = (
-  record { few = subst (λ z. length z ≤ 4) (sym f) few; flights = subst (Each (λ n. n < 2 ^ 32)) (sym f) h.0; slot = s.1; coded = (c.0, b.0) },
+  record { few = subst (λ z. length z ≤ MOST_FLIGHTS_OF_A_COMPONENT) (sym f) few; flights = subst (Each (λ n. n < 2 ^ 32)) (sym f) h.0; slot = s.1; coded = (c.0, b.0) },
   h.1 ∙ ap₂ (λ x y. length x ∷ x ++ y) (sym f) (four_first rest long ∙ parts (sym c.1) (sym b.1) (sym r) (sym s.0)) ∙ ap (λ z. length m.flights ∷ z) (sym (append_assoc m.flights _ (take (length rest - 4) (drop 4 rest)))),
 )
   where
@@ -88,7 +89,7 @@ each_rest (m ∷ ms) more h = each_rest ms more h.1
 
 -- After these moves of a code these numbers are still to be read.
 pub record MovesRead (code : List ℕ) (moves : List Move) (rest : List ℕ) : Type 0 where
-  pub few : length moves ≤ 18
+  pub few : length moves ≤ MOST_COMPONENTS
   pub each : Each IsMove moves
   pub joined : code ≡ run_code moves ++ rest
   pub whole : (ms : List Move) → Each IsMove ms → code ≡ run_code ms → (more : List Move) × (ms ≡ moves ++ more) × (rest ≡ run_code more)
@@ -105,7 +106,7 @@ module _ (code : List ℕ) (moves : List Move) (rest : List ℕ) (r : MovesRead 
       split [] q k = absurd (some k)
       split (m ∷ more) q k = (m, more, q, (each_rest moves (m ∷ more) (subst (Each IsMove) q h)).0, k)
 
-  pub move_read : (m : Move) (after : List ℕ) → rest ≢ [] → length moves < 18 → IsMove m → rest ≡ move_code m ++ after → MovesRead code (moves ++ m ∷ []) after
+  pub move_read : (m : Move) (after : List ℕ) → rest ≢ [] → length moves < MOST_COMPONENTS → IsMove m → rest ≡ move_code m ++ after → MovesRead code (moves ++ m ∷ []) after
   move_read m after some lt is e = record {
     few = omega (arith, length-append moves (m ∷ []));
     each = each_push moves m r.each is;
@@ -119,7 +120,7 @@ module _ (code : List ℕ) (moves : List Move) (rest : List ℕ) (r : MovesRead 
   pub move_lost : rest ≢ [] → ((m : Move) (after : List ℕ) → IsMove m → rest ≡ move_code m ++ after → ⊥) → (ms : List Move) → IsCodeOf code ms → ⊥
   move_lost some none ms is = let n = next_move ms some is.each is.code_is in none n.0 (run_code n.1) n.3 n.4
 
-  pub too_many : rest ≢ [] → 18 ≤ length moves → (ms : List Move) → IsCodeOf code ms → ⊥
+  pub too_many : rest ≢ [] → MOST_COMPONENTS ≤ length moves → (ms : List Move) → IsCodeOf code ms → ⊥
   too_many some full ms is =
       let n = next_move ms some is.each is.code_is in
       omega (arith, ap length n.2, length-append moves (n.0 ∷ n.1), is.few)

@@ -7,7 +7,9 @@ use Rattle.fare_law.specs.declared.moves.Move.{Move}
 use Rattle.fare_law.specs.declared.moves.Role.TheVariants.{Alone, Opens, GoesOn, Closes}
 use Rattle.fare_law.specs.Lawful.{Numbered, comes_in}
 use Rattle.fare_law.specs.Moves.{role_of, labels_below, slot_number}
+use Rattle.fare_law.specs.declared.limits.TheConstants.{MOST_COMPONENTS}
 use Rattle.ticket_order.specs.Tickets.{AreLabels, begins, stays_open}
+use Rattle.ticket_order.specs.declared.numbering.TheConstants.{LABELS}
 use Rattle.ticket_order.proofs.OpenLabels.{ones, count_open}
 use Rattle.ticket_order.proofs.TicketMoves.{rest_is}
 use Rattle.law_lemmas.proofs.Lists.{front_at, rest_at}
@@ -40,7 +42,7 @@ comes_push u l (x ∷ ls) = ap (λ b. (u == x) || b) (comes_push u l ls) ∙ or_
 pub record Reads (before after : List ℕ) (ms : List Move) (count : ℕ) (opened : List Bool) : Type 0 where
   pub numbered : Numbered count after
   pub seen : (u : ℕ) → comes_in u before ≡ (nat_le 1 u && nat_le u count)
-  pub tells : (u : ℕ) → u < 19 → get_or opened u false ≡ (comes_in u before && comes_in u after)
+  pub tells : (u : ℕ) → u < LABELS → get_or opened u false ≡ (comes_in u before && comes_in u after)
   pub right : AreLabels before after ms
 
 pub same_is : (n : ℕ) → eqb n n ≡ true
@@ -50,7 +52,7 @@ and_true : (a b : Bool) → a ≡ true → a && b ≡ b
 and_true true b e = refl
 and_true false b e = absurd (cc)
 
-reads_step : (before rest : List ℕ) (l : ℕ) (m : Move) (ms : List Move) (count new : ℕ) (opened : List Bool) → Reads before (l ∷ rest) (m ∷ ms) count opened → l < 19 → length opened ≡ 19
+reads_step : (before rest : List ℕ) (l : ℕ) (m : Move) (ms : List Move) (count new : ℕ) (opened : List Bool) → Reads before (l ∷ rest) (m ∷ ms) count opened → l < LABELS → length opened ≡ LABELS
     → Numbered new rest → ((u : ℕ) → (comes_in u before || (u == l)) ≡ (nat_le 1 u && nat_le u new)) → Reads (before ++ l ∷ []) rest ms new (set opened l (stays_open m.role))
 reads_step before rest l m ms count new opened r small long n s = record {
   numbered = n;
@@ -74,7 +76,7 @@ reads_step before rest l m ms count new opened r small long n s = record {
         subst (λ z. get_or (set opened l (stays_open m.role)) z false ≡ (comes_in z (before ++ l ∷ []) && comes_in z rest)) (sym e)
         (get_or-set_same opened l (stays_open m.role) false (subst (λ n. l < n) (sym long) small) ∙ flag ∙ sym (and_true (comes_in l (before ++ l ∷ [])) (comes_in l rest) last))
 
-    there : (u : ℕ) → u < 19 → (u ≡ l → ⊥) → get_or (set opened l (stays_open m.role)) u false ≡ (comes_in u (before ++ l ∷ []) && comes_in u rest)
+    there : (u : ℕ) → u < LABELS → (u ≡ l → ⊥) → get_or (set opened l (stays_open m.role)) u false ≡ (comes_in u (before ++ l ∷ []) && comes_in u rest)
     there u lt ne =
         let f : (u == l) ≡ false = ne_eqb u l ne in
         get_or-set_other opened l u (stays_open m.role) false ne ∙ r.tells u lt ∙ ap (λ b. comes_in u before && (b || comes_in u rest)) f
@@ -88,8 +90,8 @@ seen_again u l count low high = grind (arith, nat_tests)
 
 -- the state before a move, with the label that comes
 pub record Turn (before rest : List ℕ) (l : ℕ) (m : Move) (ms : List Move) (count : ℕ) (opened : List Bool) : Type 0 where
-  pub begin : begins m.role ≡ true → (l ≡ suc count) × (l < 19 → Reads (before ++ l ∷ []) rest ms (suc count) (set opened l (stays_open m.role)))
-  pub go_on : begins m.role ≡ false → (l < 19) × (get_or opened l false ≡ true) × (ones (take l opened) ≡ m.slot) × Reads (before ++ l ∷ []) rest ms count (set opened l (stays_open m.role))
+  pub begin : begins m.role ≡ true → (l ≡ suc count) × (l < LABELS → Reads (before ++ l ∷ []) rest ms (suc count) (set opened l (stays_open m.role)))
+  pub go_on : begins m.role ≡ false → (l < LABELS) × (get_or opened l false ≡ true) × (ones (take l opened) ≡ m.slot) × Reads (before ++ l ∷ []) rest ms count (set opened l (stays_open m.role))
 
 range_true : (l count : ℕ) → (nat_le 1 l && nat_le l count) ≡ true → (1 ≤ l) × (l ≤ count)
 range_true l count e = grind (arith, nat_tests)
@@ -97,13 +99,13 @@ range_true l count e = grind (arith, nat_tests)
 range_holds : (l count : ℕ) → 1 ≤ l → l ≤ count → (nat_le 1 l && nat_le l count) ≡ true
 range_holds l count a b = grind (arith, nat_tests)
 
-pub turn : (before rest : List ℕ) (l : ℕ) (m : Move) (ms : List Move) (count : ℕ) (opened : List Bool) → Reads before (l ∷ rest) (m ∷ ms) count opened → count < 19 → length opened ≡ 19 → Turn before rest l m ms count opened
+pub turn : (before rest : List ℕ) (l : ℕ) (m : Move) (ms : List Move) (count : ℕ) (opened : List Bool) → Reads before (l ∷ rest) (m ∷ ms) count opened → count < LABELS → length opened ≡ LABELS → Turn before rest l m ms count opened
 turn before rest l m ms count opened r few long = record { begin = begin r.numbered; go_on = go_on r.numbered }
   where
     told : begins m.role ≡ not (comes_in l before)
     told = ap begins r.right.0 ∙ begins_told (comes_in l before) (comes_in l rest)
 
-    begin : Numbered count (l ∷ rest) → begins m.role ≡ true → (l ≡ suc count) × (l < 19 → Reads (before ++ l ∷ []) rest ms (suc count) (set opened l (stays_open m.role)))
+    begin : Numbered count (l ∷ rest) → begins m.role ≡ true → (l ≡ suc count) × (l < LABELS → Reads (before ++ l ∷ []) rest ms (suc count) (set opened l (stays_open m.role)))
     begin (inl h) e = let c = r.seen l ∙ range_holds l count h.0 h.1 in absurd (both (sym e ∙ told ∙ ap not c))
       where
         both : true ≡ false → ⊥
@@ -114,7 +116,7 @@ turn before rest l m ms count opened r few long = record { begin = begin r.numbe
           (λ u. ap₂ (λ a b. a || (u == b)) (r.seen u) h.0 ∙ seen_more u count),
     )
 
-    go_on : Numbered count (l ∷ rest) → begins m.role ≡ false → (l < 19) × (get_or opened l false ≡ true) × (ones (take l opened) ≡ m.slot) × Reads (before ++ l ∷ []) rest ms count (set opened l (stays_open m.role))
+    go_on : Numbered count (l ∷ rest) → begins m.role ≡ false → (l < LABELS) × (get_or opened l false ≡ true) × (ones (take l opened) ≡ m.slot) × Reads (before ++ l ∷ []) rest ms count (set opened l (stays_open m.role))
     go_on (inr h) e = let c : (nat_le 1 l && nat_le l count) ≡ false = beyond h.0 in absurd (both (sym e ∙ told ∙ ap not (r.seen l ∙ c)))
       where
         both : false ≡ true → ⊥
@@ -145,7 +147,7 @@ turn before rest l m ms count opened r few long = record { begin = begin r.numbe
         slot_is : ones (take l opened) ≡ m.slot
         slot_is = count_is (l - 1) (omega arith) ∙ sym (r.right.1 ∙ ap (λ b. cond b (count_by (λ u. comes_in u before && comes_in u rest) (labels_below l)) 0) comes)
 
-next_read : (ls before after : List ℕ) (m : Move) (ms : List Move) (count : ℕ) (opened : List Bool) → ls ≡ before ++ after → Reads before after (m ∷ ms) count opened → count < 19 → length opened ≡ 19
+next_read : (ls before after : List ℕ) (m : Move) (ms : List Move) (count : ℕ) (opened : List Bool) → ls ≡ before ++ after → Reads before after (m ∷ ms) count opened → count < LABELS → length opened ≡ LABELS
     → (l : ℕ) × (rest : List ℕ) × (ls ≡ (before ++ l ∷ []) ++ rest) × Turn before rest l m ms count opened
 next_read ls before [] m ms count opened e r few long = absurd r.right
 next_read ls before (l ∷ rest) m ms count opened e r few long = (l, rest, e ∙ sym (append_assoc before (l ∷ []) rest), turn before rest l m ms count opened r few long)
@@ -160,7 +162,7 @@ read_none moves opened h ls n a = (ls, refl, record { numbered = n; seen = λ u.
     none : (u : ℕ) → false ≡ (nat_le 1 u && nat_le u 0)
     none u = grind (arith, nat_tests)
 
-pub read_begin : (moves : List Move) (labels : List ℕ) (m : Move) (ms : List Move) (count : ℕ) (opened : List Bool) → Read moves labels (m ∷ ms) count opened → count < 18 → length opened ≡ 19 → begins m.role ≡ true
+pub read_begin : (moves : List Move) (labels : List ℕ) (m : Move) (ms : List Move) (count : ℕ) (opened : List Bool) → Read moves labels (m ∷ ms) count opened → count < MOST_COMPONENTS → length opened ≡ LABELS → begins m.role ≡ true
     → Read moves (labels ++ (count + 1) ∷ []) ms (count + 1) (set opened (count + 1) (stays_open m.role))
 read_begin moves labels m ms count opened h few long b ls n a =
     let k = h ls n a in
@@ -179,14 +181,14 @@ read_begin moves labels m ms count opened h few long b ls n a =
     next : (l : ℕ) → l ≡ suc count → l ≡ count + 1
     next l e = omega arith
 
-    small : (l : ℕ) → l ≡ suc count → l < 19
+    small : (l : ℕ) → l ≡ suc count → l < LABELS
     small l e = omega arith
 
 -- the label in the slot, which a call found
 abbrev pub Found : List Bool → ℕ → Option ℕ → Type 0
 Found opened slot found = (l : ℕ) → get_or opened l false ≡ true → ones (take l opened) ≡ slot → found ≡ Some l
 
-pub read_go_on : (moves : List Move) (labels : List ℕ) (m : Move) (ms : List Move) (count : ℕ) (opened : List Bool) (label : ℕ) → Read moves labels (m ∷ ms) count opened → count < 19 → length opened ≡ 19 → begins m.role ≡ false
+pub read_go_on : (moves : List Move) (labels : List ℕ) (m : Move) (ms : List Move) (count : ℕ) (opened : List Bool) (label : ℕ) → Read moves labels (m ∷ ms) count opened → count < LABELS → length opened ≡ LABELS → begins m.role ≡ false
     → Found opened m.slot (Some label) → Read moves (labels ++ label ∷ []) ms count (set opened label (stays_open m.role))
 read_go_on moves labels m ms count opened label h few long b found ls n a =
     let k = h ls n a in
@@ -201,7 +203,7 @@ read_go_on moves labels m ms count opened label h few long b found ls n a =
     back : (l : ℕ) → Some label ≡ Some l → l ≡ label
     back l e = cc
 
-pub read_lost : (moves : List Move) (labels : List ℕ) (m : Move) (ms : List Move) (count : ℕ) (opened : List Bool) → Read moves labels (m ∷ ms) count opened → count < 19 → length opened ≡ 19 → begins m.role ≡ false
+pub read_lost : (moves : List Move) (labels : List ℕ) (m : Move) (ms : List Move) (count : ℕ) (opened : List Bool) → Read moves labels (m ∷ ms) count opened → count < LABELS → length opened ≡ LABELS → begins m.role ≡ false
     → Found opened m.slot None → (ls : List ℕ) → Numbered 0 ls → AreLabels [] ls moves → ⊥
 read_lost moves labels m ms count opened h few long b found ls n a =
     let k = h ls n a in

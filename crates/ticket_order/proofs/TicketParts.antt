@@ -9,6 +9,7 @@ use Rattle.fare_law.specs.declared.tickets.Ticket.{Ticket}
 use Rattle.fare_law.specs.Lawful.{Numbered}
 use Rattle.fare_law.specs.Lists.{Matched}
 use Rattle.fare_law.specs.Moves.{moves_after, move_of}
+use Rattle.fare_law.specs.declared.limits.TheConstants.{MOST_COMPONENTS}
 use Rattle.ticket_order.specs.Tickets.{IsComponent, FiledOver, LeadFrom, TicketOfMoves, AreLabels, labels, market_of}
 use Rattle.ticket_order.proofs.TicketMoves.{rest_is}
 use Rattle.law_lemmas.proofs.Lists.{front_at, front_is, rest_at}
@@ -163,7 +164,7 @@ filed_each flights [] (c ∷ cs) h = absurd h
 filed_each flights (m ∷ ms) [] h = absurd h
 filed_each flights (m ∷ ms) (c ∷ cs) h = (h.0.filed, filed_each flights ms cs h.1)
 
-pub ticket_made : (flights : List Flight) (ms : List Move) (ls : List ℕ) (t : Ticket) → length ms ≤ 18 → Numbered 0 ls → AreLabels [] ls ms → Matched (IsComponent flights) ms t.components → labels t.components ≡ ls → TicketOfMoves flights ms t
+pub ticket_made : (flights : List Flight) (ms : List Move) (ls : List ℕ) (t : Ticket) → length ms ≤ MOST_COMPONENTS → Numbered 0 ls → AreLabels [] ls ms → Matched (IsComponent flights) ms t.components → labels t.components ≡ ls → TicketOfMoves flights ms t
 ticket_made flights ms ls t few n r h u = record {
   few = omega (arith, matched_long (IsComponent flights) ms t.components h);
   numbered = subst (Numbered 0) (sym u) n;
@@ -177,5 +178,5 @@ ticket_labels flights ms t h = labels_made [] t.components ms h.moves_are
 pub ticket_parts : (flights : List Flight) (ms : List Move) (t : Ticket) → TicketOfMoves flights ms t → Matched (IsComponent flights) ms t.components
 ticket_parts flights ms t h = parts_made flights [] t.components ms h.moves_are h.filed
 
-pub ticket_short : (flights : List Flight) (ms : List Move) (t : Ticket) → TicketOfMoves flights ms t → length ms ≤ 18
+pub ticket_short : (flights : List Flight) (ms : List Move) (t : Ticket) → TicketOfMoves flights ms t → length ms ≤ MOST_COMPONENTS
 ticket_short flights ms t h = omega (arith, matched_long (IsComponent flights) ms t.components (ticket_parts flights ms t h), h.few)

@@ -10,6 +10,7 @@ use Rattle.fare_law.specs.declared.tickets.Ticket.{Ticket}
 use Rattle.fare_law.specs.Lawful.{Numbered}
 use Rattle.fare_law.specs.Lists.{Matched, OnFirst, OnLast}
 use Rattle.fare_law.specs.Moves.{moves_of, role_of, slot_number}
+use Rattle.fare_law.specs.declared.limits.TheConstants.{MOST_COMPONENTS}
 
 -- the labels of the components' units
 abbrev pub labels : List Component → List ℕ
@@ -61,7 +62,7 @@ pub record IsComponent (flights : List Flight) (m : Move) (c : Component) : Type
 
 -- The ticket has these moves, its labels are numbered by first appearance, and each fare is filed over its flights.
 pub record TicketOfMoves (flights : List Flight) (moves : List Move) (t : Ticket) : Type 0 where
-  pub few : length t.components ≤ 18
+  pub few : length t.components ≤ MOST_COMPONENTS
   pub numbered : Numbered 0 (labels t.components)
   pub moves_are : moves_of t ≡ moves
   pub filed : Matched (λ m c. FiledOver flights m.role c) moves t.components

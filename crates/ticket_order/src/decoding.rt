@@ -9,11 +9,13 @@ ghost use Rattle.fare_law.specs.Codes.{move_code, role_code, basis_number, carri
 ghost use Rattle.fare_law.specs.Names.{IsBasis, IsCarrier, IsCharacter};
 ghost use Rattle.ticket_order.specs.Coding.{IsCodeOf, IsMove};
 
-use fare_law::{ArrayVec, Basis, Carrier, Move, Role};
+use fare_law::{
+    ArrayVec, Basis, Carrier, MOST_COMPONENTS, MOST_FLIGHTS_OF_A_COMPONENT, Move, Role,
+};
 
-/// The moves of a code. None exactly where the numbers are the code of no moves, or of more than 18:
+/// The moves of a code. None exactly where the numbers are the code of no moves, or of more than `MOST_COMPONENTS`:
 /// a move has at most four flights, and a carrier and a basis of their characters.
-pub fn moves_of_code(code: &[u64]) -> Option<ArrayVec<Move, 18>>
+pub fn moves_of_code(code: &[u64]) -> Option<ArrayVec<Move, MOST_COMPONENTS>>
     ensures { (ms : List AnyMove) → (result ≡ Some ms) ↔ IsCodeOf code.now ms }
 {
     let mut moves = ArrayVec::new();
@@ -49,15 +51,15 @@ fn first_move(numbers: &[u64]) -> Option<(Move, &[u64])>
 }
 
 /// The flights with whose count the numbers begin, and the numbers after them.
-fn first_flights(numbers: &[u64]) -> Option<(ArrayVec<u32, 4>, &[u64])>
+fn first_flights(numbers: &[u64]) -> Option<(ArrayVec<u32, MOST_FLIGHTS_OF_A_COMPONENT>, &[u64])>
     ensures some { IfSome result (λ x. Each (λ n. n < 2 ^ 32) x.0 × (numbers.now ≡ length x.0 ∷ x.0 ++ x.1.now)) }
-    ensures few { IfSome result (λ x. length x.0 ≤ 4) }
-    ensures none { IfNone result ((fs after : List ℕ) → length fs ≤ 4 → Each (λ n. n < 2 ^ 32) fs → numbers.now ≡ length fs ∷ fs ++ after → ⊥) }
+    ensures few { IfSome result (λ x. length x.0 ≤ MOST_FLIGHTS_OF_A_COMPONENT) }
+    ensures none { IfNone result ((fs after : List ℕ) → length fs ≤ MOST_FLIGHTS_OF_A_COMPONENT → Each (λ n. n < 2 ^ 32) fs → numbers.now ≡ length fs ∷ fs ++ after → ⊥) }
 {
     let [count, rest @ ..] = numbers else {
         return None;
     };
-    if *count > 4 || *count > rest.len() as u64 {
+    if *count > MOST_FLIGHTS_OF_A_COMPONENT as u64 || *count > rest.len() as u64 {
         return None;
     }
     let (flights, after) = rest.split_at(*count as usize);
@@ -65,8 +67,8 @@ fn first_flights(numbers: &[u64]) -> Option<(ArrayVec<u32, 4>, &[u64])>
 }
 
 /// Numbers of 32 bits.
-fn flights_of(numbers: &[u64]) -> Option<ArrayVec<u32, 4>>
-    requires { length numbers.now ≤ 4 }
+fn flights_of(numbers: &[u64]) -> Option<ArrayVec<u32, MOST_FLIGHTS_OF_A_COMPONENT>>
+    requires { length numbers.now ≤ MOST_FLIGHTS_OF_A_COMPONENT }
     ensures { (fs : List ℕ) → (result ≡ Some fs) ↔ ((fs ≡ numbers.now) × Each (λ n. n < 2 ^ 32) fs) }
 {
     let mut flights = ArrayVec::new();

@@ -14,6 +14,8 @@ ghost use Rattle.fare_law.specs.Moves.{moves_of};
 ghost use Rattle.ticket_order.specs.Coding.{Apart, Coded};
 ghost use Rattle.ticket_order.specs.Tickets.{TicketOfMoves};
 
+use fare_law::MOST_COMPONENTS;
+
 /// A code tells its moves, where carriers and bases have their characters: the codes of two moves
 /// are equal or neither is the front of the other, and a code that begins with the code of moves
 /// is that of moves that begin with them.
@@ -45,9 +47,9 @@ pub fn order_laws()
     ensures before_second { (price p q : ℕ) (u v w : List ℕ) → Before p v q w ↔ Before (price + p) (u ++ v) (price + q) (u ++ w) }
 {}
 
-/// A lawful ticket of at most 18 components is the ticket of its moves: in it each fare that closes a
+/// A lawful ticket of at most `MOST_COMPONENTS` components is the ticket of its moves: in it each fare that closes a
 /// unit is filed from its component's end to its beginning, and each other one from the beginning to
 /// the end.
 pub fn lawful_tickets()
-    ensures { (b : Book) (q : Request) (t : Ticket) → Lawful t b q → length t.components ≤ 18 → TicketOfMoves b.timetable.flights (moves_of t) t }
+    ensures { (b : Book) (q : Request) (t : Ticket) → Lawful t b q → length t.components ≤ MOST_COMPONENTS → TicketOfMoves b.timetable.flights (moves_of t) t }
 {}

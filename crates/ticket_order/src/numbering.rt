@@ -5,11 +5,14 @@ ghost use Rattle.fare_law.specs.Moves.{role_of, slot_number};
 ghost use Rattle.ticket_order.specs.Tickets.{AreLabels, begins, stays_open};
 
 use crate::roles::{is_numbered, role_of, slot_number};
-use fare_law::{ArrayVec, Move, Role};
+use fare_law::{ArrayVec, MOST_COMPONENTS, Move, Role};
+
+/// The most labels of a ticket: one for each component, and 0, which none has.
+const LABELS: usize = MOST_COMPONENTS + 1;
 
 /// The labels of a ticket with these moves, where there is one.
-pub fn labels_for(moves: &[Move]) -> Option<ArrayVec<u8, 18>>
-    requires { length moves.now ≤ 18 }
+pub fn labels_for(moves: &[Move]) -> Option<ArrayVec<u8, MOST_COMPONENTS>>
+    requires { length moves.now ≤ MOST_COMPONENTS }
     ensures right { IfSome result (λ ls. Numbered 0 ls × AreLabels [] ls moves.now) }
     ensures only { (ls : List ℕ) → Numbered 0 ls → AreLabels [] ls moves.now → result ≡ Some ls }
 {
@@ -23,11 +26,11 @@ pub fn labels_for(moves: &[Move]) -> Option<ArrayVec<u8, 18>>
 
 /// The only labels that these moves may give: the next number where a unit begins, else the label
 /// in the slot among the open ones.
-fn read_labels(moves: &[Move]) -> Option<ArrayVec<u8, 18>>
-    requires { length moves.now ≤ 18 }
+fn read_labels(moves: &[Move]) -> Option<ArrayVec<u8, MOST_COMPONENTS>>
+    requires { length moves.now ≤ MOST_COMPONENTS }
     ensures { (ls : List ℕ) → Numbered 0 ls → AreLabels [] ls moves.now → result ≡ Some ls }
 {
-    let mut opened = [false; 19];
+    let mut opened = [false; LABELS];
     let mut count = 0;
     let mut labels = ArrayVec::new();
     for m in moves {
@@ -58,12 +61,12 @@ fn stays_open(role: Role) -> bool
 }
 
 /// The open label with this many smaller ones.
-fn open_label(opened: &[bool; 19], slot: u8) -> Option<u8>
+fn open_label(opened: &[bool; LABELS], slot: u8) -> Option<u8>
     ensures only { (l : ℕ) → slice_index_or opened.now l false ≡ true → count_by (λ b. b) (take l opened.now) ≡ slot → result ≡ Some l }
-    ensures small { IfSome result (λ label. label < 19) }
+    ensures small { IfSome result (λ label. label < LABELS) }
 {
     let mut left = slot;
-    for label in 0..19 {
+    for label in 0..LABELS as u8 {
         if opened[usize::from(label)] {
             if left == 0 {
                 return Some(label);

@@ -2,12 +2,15 @@
 ghost use Rattle.std.specs.Prelude.{◌≡◌, ◌+◌, ◌≤◌, ◌∷◌, ◌++◌, length, option_map, slice_get, unwrap_or};
 ghost use Rattle.fare_law.specs.Codes.{move_code, role_code, run_code, basis_number, carrier_number, character_value};
 
-use fare_law::{ArrayVec, Basis, Carrier, Code, Move, Role};
+use fare_law::{
+    ArrayVec, Basis, CODE_NUMBERS_OF_A_MOVE, Carrier, Code, MOST_COMPONENTS,
+    MOST_FLIGHTS_OF_A_COMPONENT, Move, Role,
+};
 
-/// The code of at most 18 moves: of each move the count of its flights, their numbers, the
+/// The code of at most `MOST_COMPONENTS` moves: of each move the count of its flights, their numbers, the
 /// carrier's number, the basis's number, the role from 0 to 3, and the slot.
 pub fn code(moves: &[Move]) -> Code
-    requires { length moves.now ≤ 18 }
+    requires { length moves.now ≤ MOST_COMPONENTS }
     ensures { result ≡ run_code moves.now }
 {
     let mut code = Code::new();
@@ -21,7 +24,7 @@ pub fn code(moves: &[Move]) -> Code
 fn push_move(code: &mut Code, m: &Move)
     requires { length code.old ≤ 153 }
     ensures code { code.new ≡ code.old ++ move_code m.now }
-    ensures fits { length code.new ≤ length code.old + 9 }
+    ensures fits { length code.new ≤ length code.old + CODE_NUMBERS_OF_A_MOVE }
 {
     let numbers = move_code(m);
     for number in numbers.as_slice() {
@@ -31,7 +34,7 @@ fn push_move(code: &mut Code, m: &Move)
 
 /// The code of one move: the count of its flights, their numbers, the carrier's number, the basis's
 /// number, the role from 0 to 3, and the slot.
-pub fn move_code(m: &Move) -> ArrayVec<u64, 9>
+pub fn move_code(m: &Move) -> ArrayVec<u64, CODE_NUMBERS_OF_A_MOVE>
     ensures { result ≡ move_code m.now }
 {
     let mut numbers = flight_numbers(m.flights.as_slice());
@@ -43,8 +46,8 @@ pub fn move_code(m: &Move) -> ArrayVec<u64, 9>
 }
 
 /// The count of at most four flights and their numbers.
-fn flight_numbers(flights: &[u32]) -> ArrayVec<u64, 9>
-    requires { length flights.now ≤ 4 }
+fn flight_numbers(flights: &[u32]) -> ArrayVec<u64, CODE_NUMBERS_OF_A_MOVE>
+    requires { length flights.now ≤ MOST_FLIGHTS_OF_A_COMPONENT }
     ensures { result ≡ length flights.now ∷ flights.now }
 {
     let mut numbers = ArrayVec::new();

@@ -4,11 +4,11 @@ ghost use Rattle.fare_law.specs.Lawful.{Numbered, comes_in};
 ghost use Rattle.fare_law.specs.Moves.{move_of, moves_of, role_of, slot_number};
 ghost use Rattle.ticket_order.specs.Tickets.{labels};
 
-use fare_law::{ArrayVec, Component, Move, Role, Ticket};
+use fare_law::{ArrayVec, Component, MOST_COMPONENTS, Move, Role, Ticket};
 
 /// The moves of a ticket: for each component its flights, carrier and basis, its role in its unit,
 /// and the unit's slot. None where the labels aren't numbered from 1 by first appearance.
-pub fn moves_of(ticket: &Ticket) -> Option<ArrayVec<Move, 18>>
+pub fn moves_of(ticket: &Ticket) -> Option<ArrayVec<Move, MOST_COMPONENTS>>
     ensures moves { IfSome result (λ moves. moves ≡ moves_of ticket.now) }
     ensures numbered { IsSome result ↔ Numbered 0 (labels ticket.now.components) }
 {
@@ -25,9 +25,9 @@ pub fn moves_of(ticket: &Ticket) -> Option<ArrayVec<Move, 18>>
     Some(moves)
 }
 
-/// The labels of at most 18 components.
-fn labels_of(components: &[Component]) -> ArrayVec<u8, 18>
-    requires { length components.now ≤ 18 }
+/// The labels of at most `MOST_COMPONENTS` components.
+fn labels_of(components: &[Component]) -> ArrayVec<u8, MOST_COMPONENTS>
+    requires { length components.now ≤ MOST_COMPONENTS }
     ensures { result ≡ labels components.now }
 {
     let mut labels = ArrayVec::new();

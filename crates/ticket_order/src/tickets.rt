@@ -7,7 +7,7 @@ ghost use Rattle.fare_law.specs.Lists.{Matched};
 ghost use Rattle.ticket_order.specs.Tickets.{IsComponent, LeadFrom, TicketOfMoves, labels, market_of};
 
 use crate::numbering::labels_for;
-use fare_law::{ArrayVec, Component, FareKey, Flight, Move, Place, Role, Ticket};
+use fare_law::{ArrayVec, Component, FareKey, Flight, MOST_COMPONENTS, Move, Place, Role, Ticket};
 use schedule_book::Schedule;
 
 /// The ticket with these moves in which each fare is filed from its component's beginning to its
@@ -18,7 +18,7 @@ pub fn ticket_of(moves: &[Move], schedule: &Schedule) -> Option<Ticket>
     ensures only { IfSome result (λ t. (u : Ticket) → TicketOfMoves schedule.now.flights moves.now u → u ≡ t) }
     ensures none { IfNone result ((t : Ticket) → TicketOfMoves schedule.now.flights moves.now t → ⊥) }
 {
-    if moves.len() > 18 {
+    if moves.len() > MOST_COMPONENTS {
         return None;
     }
     let labels = labels_for(moves)?;
@@ -31,8 +31,8 @@ fn components_of(
     moves: &[Move],
     units: &[u8],
     flights: &[Flight],
-) -> Option<ArrayVec<Component, 18>>
-    requires few { length moves.now ≤ 18 }
+) -> Option<ArrayVec<Component, MOST_COMPONENTS>>
+    requires few { length moves.now ≤ MOST_COMPONENTS }
     requires each { length units.now ≡ length moves.now }
     ensures some { IfSome result (λ cs. Matched (IsComponent flights.now) moves.now cs × (labels cs ≡ units.now)) }
     ensures only { (cs : List Component) → Matched (IsComponent flights.now) moves.now cs → labels cs ≡ units.now → result ≡ Some cs }

@@ -5,11 +5,11 @@ ghost use Rattle.ticket_demands.specs.Breaches as Breaches;
 ghost use Rattle.ticket_demands.specs.Breaches.{LabelStands};
 ghost use Rattle.ticket_whole.specs.Boundaries.{AtMostTwo};
 
-use fare_law::{ArrayVec, Component};
+use fare_law::{ArrayVec, Component, MOST_COMPONENTS};
 
-/// The labels of at most 18 components.
-pub fn labels_of(components: &[Component]) -> ArrayVec<u8, 18>
-    requires { length components.now ≤ 18 }
+/// The labels of at most `MOST_COMPONENTS` components.
+pub fn labels_of(components: &[Component]) -> ArrayVec<u8, MOST_COMPONENTS>
+    requires { length components.now ≤ MOST_COMPONENTS }
     ensures { result ≡ map (λ c. c.unit) components.now }
 {
     let mut labels = ArrayVec::new();

@@ -7,7 +7,7 @@ ghost use Rattle.ticket_whole.specs.FaresOn.{Combines, fare_on};
 
 use crate::known::{has_known_flight, row_of};
 use fare_book::Book;
-use fare_law::{ArrayVec, Carrier, Component, EndOnEnd};
+use fare_law::{ArrayVec, Carrier, Component, EndOnEnd, MOST_COMPONENTS};
 
 /// A fare on a ticket: its carrier, the label of its unit, and what its category 10 asks of the
 /// ticket.
@@ -18,18 +18,18 @@ pub struct FareOn {
     pub asks: Option<EndOnEnd>,
 }
 
-/// Whether the fares of at most 18 components are as each asks by category 10, end on end.
+/// Whether the fares of at most `MOST_COMPONENTS` components are as each asks by category 10, end on end.
 pub fn end_on_end_meets(components: &[Component], book: &Book) -> bool
-    requires { length components.now ≤ 18 }
+    requires { length components.now ≤ MOST_COMPONENTS }
     ensures { (sale : ℤ) → IsTrue result ↔ Each (λ part. EndOnEndHolds (parts_of book.now sale components.now) part.piece) (parts_of book.now sale components.now) }
 {
     let fares = fares_on(components, book);
     all_combine(fares.as_slice())
 }
 
-/// The fares of at most 18 components: of those whose fare is live and that have a known flight.
-fn fares_on(components: &[Component], book: &Book) -> ArrayVec<FareOn, 18>
-    requires { length components.now ≤ 18 }
+/// The fares of at most `MOST_COMPONENTS` components: of those whose fare is live and that have a known flight.
+fn fares_on(components: &[Component], book: &Book) -> ArrayVec<FareOn, MOST_COMPONENTS>
+    requires { length components.now ≤ MOST_COMPONENTS }
     ensures { (sale : ℤ) → result ≡ map fare_on (parts_of book.now sale components.now) }
 {
     let mut found = ArrayVec::new();

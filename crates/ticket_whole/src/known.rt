@@ -7,7 +7,7 @@ ghost use Rattle.ticket_demands.specs.Breaches.{flights_of};
 ghost use Rattle.ticket_demands.specs.Known.{known_flights, ends_of, live_row};
 
 use fare_book::Book;
-use fare_law::{ArrayVec, Component, Flight, SheetRow};
+use fare_law::{ArrayVec, Component, Flight, MOST_COMPONENTS, MOST_FLIGHTS, SheetRow};
 
 /// All flights of the book's timetable.
 fn all_flights(book: &Book) -> &[Flight]
@@ -17,9 +17,9 @@ fn all_flights(book: &Book) -> &[Flight]
     book.timetable().schedule().flights()
 }
 
-/// The known flights of at most 18 components, in order.
-pub fn flights_of(components: &[Component], book: &Book) -> ArrayVec<Flight, 72>
-    requires { length components.now ≤ 18 }
+/// The known flights of at most `MOST_COMPONENTS` components, in order.
+pub fn flights_of(components: &[Component], book: &Book) -> ArrayVec<Flight, MOST_FLIGHTS>
+    requires { length components.now ≤ MOST_COMPONENTS }
     ensures flights { result ≡ flights_of book.now components.now }
     ensures limits { Each IsFlight result }
 {
@@ -32,8 +32,8 @@ pub fn flights_of(components: &[Component], book: &Book) -> ArrayVec<Flight, 72>
 }
 
 /// Adds the flights that have one of these numbers.
-fn add_numbered(found: &mut ArrayVec<Flight, 72>, numbers: &[u32], flights: &[Flight])
-    requires room { length found.old + length numbers.now ≤ 72 }
+fn add_numbered(found: &mut ArrayVec<Flight, MOST_FLIGHTS>, numbers: &[u32], flights: &[Flight])
+    requires room { length found.old + length numbers.now ≤ MOST_FLIGHTS }
     requires held { Each IsFlight found.old }
     requires limits { Each IsFlight flights.now }
     ensures flights { found.new ≡ found.old ++ filter_map (slice_get flights.now) numbers.now }

@@ -10,7 +10,7 @@ use crate::boundaries::{few_straddle, label_stands, labels_of};
 use crate::fares_on::end_on_end_meets;
 use crate::known::flights_of;
 use fare_book::Book;
-use fare_law::{Component, Request, Slice, Ticket};
+use fare_law::{Component, MOST_COMPONENTS, Request, Slice, Ticket};
 use ticket_demands::{Demand, JourneyDemand, component_meets, cuts_meet, part_meets};
 
 /// The least component, counted from 1, at which the ticket breaks a demand, 0 where it breaks it as
@@ -58,7 +58,7 @@ fn journey_meets(
     components: &[Component],
     book: &Book,
 ) -> bool
-    requires few { length components.now ≤ 18 }
+    requires few { length components.now ≤ MOST_COMPONENTS }
     requires slices { Each IsSlice slices.now }
     ensures { IsTrue result ↔ CutsMeet book.now demand None slices.now (Breaches.flights_of book.now components.now) }
 {

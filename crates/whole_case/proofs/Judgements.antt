@@ -9,6 +9,7 @@ use Rattle.fare_law.specs.declared.rows.PlaceRow.{PlaceRow}
 use Rattle.fare_law.specs.Book.{Book, same_place}
 use Rattle.fare_law.specs.Limits.{IsRequest}
 use Rattle.fare_law.specs.Requests.{are_known, by_limits, departs, has_window, in_century, is_known, judged, judged_alone, known_places, required, within}
+use Rattle.fare_law.specs.declared.limits.TheConstants.{MOST_PASSENGERS, MOST_SLICES, MOST_TICKETS}
 use Rattle.fare_law.proofs.Judged.{within_judged}
 use Rattle.schedule_book.specs.Connects.{connect_of}
 use Rattle.whole_case.specs.declared.refusals.LoadFault.{LoadFault}
@@ -30,9 +31,9 @@ same_after false why next other t e = absurd (cc)
 
 limits_kept : (q : Request) → judged_alone q ≡ None → (next : Option Why) → by_limits q next ≡ next
 limits_kept q e next =
-    let a = tested (within 1 6 (length q.slices)) Slices _ e in
-    let b = tested (within 1 9 q.party) Party _ a.1 in
-    let c = tested (within 1 1000 q.best) Best _ b.1 in
+    let a = tested (within 1 MOST_SLICES (length q.slices)) Slices _ e in
+    let b = tested (within 1 MOST_PASSENGERS q.party) Party _ a.1 in
+    let c = tested (within 1 MOST_TICKETS q.best) Best _ b.1 in
     let d = tested (in_century q.sale && list_all has_window q.slices) Window _ c.1 in
     let f = tested (list_all departs q.slices) SamePlace None d.1 in
     same_after _ Slices _ next a.0 (same_after _ Party _ next b.0 (same_after _ Best _ next c.0 (same_after _ Window _ next d.0 (same_after _ SamePlace next next f.0 refl))))

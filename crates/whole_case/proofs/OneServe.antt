@@ -9,6 +9,7 @@ use Rattle.fare_law.specs.Lists.{Each}
 use Rattle.fare_law.specs.Requests.{judged, known_places}
 use Rattle.fare_law.specs.declared.requests.Request.{Request}
 use Rattle.fare_law.specs.declared.rows.TextLine.{TextLine}
+use Rattle.fare_law.specs.declared.limits.TheConstants.{MOST_TICKETS}
 use Rattle.script_text.specs.Laws.{OneFault, OneScript, ScriptOrFault}
 use Rattle.whole_case.specs.declared.refusals.Reason.TheVariants.{Script as BadScript}
 use Rattle.whole_case.specs.declared.serve.ServeCase.{ServeCase}
@@ -53,12 +54,12 @@ module _ (one : OneScript) (either : ScriptOrFault) (fault : OneFault) where
       one_done (serving book later requests script)))))))
 
 -- ---- what is asked
-ask_right : (best : Option ℕ) → IfSome best (IsInRange 1 1000) → (b : Book) (line : TextLine) (q : Request) → asked_in best b line (Ok q) → judged (known_places b) q ≡ None
+ask_right : (best : Option ℕ) → IfSome best (IsInRange 1 MOST_TICKETS) → (b : Book) (line : TextLine) (q : Request) → asked_in best b line (Ok q) → judged (known_places b) q ≡ None
 ask_right best h b line q (request, (spelled, is, (u, right, e)), same) =
     let asked : judged (known_places b) request ≡ None = subst (λ (x : Request). judged (known_places b) x ≡ None) (sym (ok_same request spelled e)) right in
     subst (λ (x : Request). judged (known_places b) x ≡ None) (sym (ok_same q (with_best best request) same)) (right_with (known_places b) request best h asked)
 
-pub asks_right : (best : Option ℕ) (bytes : List ℕ) (found : ServeCase) → IfSome best (IsInRange 1 1000) → serve_case best bytes (Ok found) → Each (λ q. judged (known_places found.book) q ≡ None) found.requests
+pub asks_right : (best : Option ℕ) (bytes : List ℕ) (found : ServeCase) → IfSome best (IsInRange 1 MOST_TICKETS) → serve_case best bytes (Ok found) → Each (λ q. judged (known_places found.book) q ≡ None) found.requests
 asks_right best bytes found h (case, form, (opening, rows, (book, filings, (later, read, (requests, asked, (script, spelled, e)))))) =
     subst (λ (x : ServeCase). Each (λ q. judged (known_places x.book) q ≡ None) x.requests) (sym (ok_same found (serving book later requests script) e))
     (each_such (asked_in best book) (λ q. judged (known_places book) q ≡ None) (ask_right best h book) case.requests requests asked)

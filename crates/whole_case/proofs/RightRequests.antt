@@ -9,6 +9,7 @@ use Rattle.fare_law.specs.declared.requests.Why.TheVariants.{Slices, Party, Best
 use Rattle.fare_law.specs.declared.rows.TextLine.{TextLine}
 use Rattle.fare_law.specs.Book.{Book}
 use Rattle.fare_law.specs.Requests.{judged, known_places, within}
+use Rattle.fare_law.specs.declared.limits.TheConstants.{MOST_PASSENGERS, MOST_SLICES, MOST_TICKETS}
 use Rattle.case_text.specs.declared.kinds.CaseKind.{CaseKind}
 use Rattle.case_text.specs.declared.kinds.CaseKind.TheVariants.{Search, Check, Verdict}
 use Rattle.whole_case.specs.declared.asked.AskedCase.{AskedCase}
@@ -34,24 +35,24 @@ ranged : (low high n : ℕ) → IsInRange low high n → within low high n ≡ t
 ranged low high n h = and_from _ _ (le-leb _ _ h.0) (le-leb _ _ h.1)
 
 -- the number of tickets is judged by itself
-pub right_with : (places : List Place) (q : Request) (best : Option ℕ) → IfSome best (IsInRange 1 1000) → judged places q ≡ None → judged places (with_best best q) ≡ None
+pub right_with : (places : List Place) (q : Request) (best : Option ℕ) → IfSome best (IsInRange 1 MOST_TICKETS) → judged places q ≡ None → judged places (with_best best q) ≡ None
 right_with places q None h e = e
 right_with places q (Some best) h e =
-    let a = tested (within 1 6 (length q.slices)) Slices _ e in
-    let b = tested (within 1 9 q.party) Party _ a.1 in
-    let c = tested (within 1 1000 q.best) Best _ b.1 in
-    same_after _ Slices _ None a.0 (same_after _ Party _ None b.0 (same_after (within 1 1000 best) Best _ None (ranged 1 1000 best h) c.1))
+    let a = tested (within 1 MOST_SLICES (length q.slices)) Slices _ e in
+    let b = tested (within 1 MOST_PASSENGERS q.party) Party _ a.1 in
+    let c = tested (within 1 MOST_TICKETS q.best) Best _ b.1 in
+    same_after _ Slices _ None a.0 (same_after _ Party _ None b.0 (same_after (within 1 MOST_TICKETS best) Best _ None (ranged 1 MOST_TICKETS best h) c.1))
 
 asked_right : (kind : CaseKind) (at : Option ℕ) (bytes : List ℕ) (asked : AskedCase) → asked_case kind at bytes (Ok asked) → judged (known_places asked.book) asked.request ≡ None
 asked_right kind at bytes asked (case, form, (opening, rows, (book, filed, (request, sole, e)))) =
     subst (λ (x : AskedCase). judged (known_places x.book) x.request ≡ None) (sym (ok_same asked (asked_of case book request) e)) (sole_right book case.requests request sole)
 
-pub searched_right : (best at : Option ℕ) (bytes : List ℕ) (found : SearchCase) → IfSome best (IsInRange 1 1000) → search_case best at bytes (Ok found) → judged (known_places found.book) found.request ≡ None
+pub searched_right : (best at : Option ℕ) (bytes : List ℕ) (found : SearchCase) → IfSome best (IsInRange 1 MOST_TICKETS) → search_case best at bytes (Ok found) → judged (known_places found.book) found.request ≡ None
 searched_right best at bytes found h (asked, a, (u, number, e)) =
     subst (λ (x : SearchCase). judged (known_places x.book) x.request ≡ None) (sym (ok_same found (record { book = asked.book; request = with_best best asked.request }) e))
     (right_with (known_places asked.book) asked.request best h (asked_right Search at bytes asked a))
 
-pub checked_right : (best at : Option ℕ) (bytes : List ℕ) (found : CheckCase) → IfSome best (IsInRange 1 1000) → check_case best at bytes (Ok found) → judged (known_places found.book) found.request ≡ None
+pub checked_right : (best at : Option ℕ) (bytes : List ℕ) (found : CheckCase) → IfSome best (IsInRange 1 MOST_TICKETS) → check_case best at bytes (Ok found) → judged (known_places found.book) found.request ≡ None
 checked_right best at bytes found h (asked, a, (certificate, read, (u, number, e))) =
     subst (λ (x : CheckCase). judged (known_places x.book) x.request ≡ None) (sym (ok_same found (record { book = asked.book; request = with_best best asked.request; certificate = certificate }) e))
     (right_with (known_places asked.book) asked.request best h (asked_right Check at bytes asked a))

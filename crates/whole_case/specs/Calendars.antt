@@ -3,6 +3,7 @@ use Rattle.std.specs.Prelude.{◌≡◌, ◌==◌, ◌&&◌, ℕ, pos, ◌+ℤ�
 use Rattle.fare_law.specs.declared.requests.Request.{Request}
 use Rattle.fare_law.specs.declared.requests.Slice.{Slice}
 use Rattle.fare_law.specs.Requests.{within}
+use Rattle.fare_law.specs.declared.limits.TheConstants.{LAST_DAY}
 use Rattle.whole_case.specs.declared.refusals.Reason.TheVariants.{NotTwo, Span}
 use Rattle.whole_case.specs.Refusals.{refused_at}
 use Rattle.whole_case.specs.Stages.{Stage}
@@ -13,7 +14,7 @@ has_two line request outcome = outcome ≡ (if length request.slices == 2 then O
 
 -- 1 to 31 days from the first day of the slice on, up to 2099-12-31
 abbrev pub span_fits : ℕ → Slice → Bool
-span_fits days slice = within 1 31 days && int_le (slice.first +ℤ pos days) (pos 47482)
+span_fits days slice = within 1 31 days && int_le (slice.first +ℤ pos days) (LAST_DAY +ℤ pos 1)
 
 -- both slices have so many days
 abbrev pub spans_fit : ℕ → ℕ → List Slice → Bool

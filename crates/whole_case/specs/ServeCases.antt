@@ -2,6 +2,7 @@
 -- seats, the filings, the later filings, which are only read, the requests, and last the script.
 use Rattle.std.specs.Prelude.{◌≡◌, ◌≤◌, ℕ, List, [], ◌∷◌, length, Option, None, Ok, Err}
 use Rattle.case_text.specs.declared.kinds.CaseKind.TheVariants.{Serve}
+use Rattle.case_text.specs.declared.limits.TheConstants.{MOST_FILINGS, MOST_REQUESTS}
 use Rattle.fare_law.specs.Book.{Book}
 use Rattle.fare_law.specs.declared.requests.Request.{Request}
 use Rattle.fare_law.specs.declared.rows.TextLine.{TextLine}
@@ -33,7 +34,7 @@ asked_in best b line = do
 
 -- the script of these lines, over so many later filings and requests, within the limits of a case, or the first line at fault
 abbrev pub script_in : ℕ → ℕ → List TextLine → Stage Lines
-script_in later requests lines (Ok script) = (later ≤ 1000) × (requests ≤ 100) × SpellsScript later requests lines script
+script_in later requests lines (Ok script) = (later ≤ MOST_FILINGS) × (requests ≤ MOST_REQUESTS) × SpellsScript later requests lines script
 script_in later requests lines (Err refusal) = (line : ℕ) × FaultAt later requests lines line × (refusal ≡ refused_at line Script)
 
 -- what the lines after the filings of a serving run's case give

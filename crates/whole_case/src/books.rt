@@ -9,9 +9,10 @@ ghost use Rattle.whole_case.specs.Stages.{Reads};
 use crate::LoadFault;
 use crate::histories::filed_version;
 use crate::rows::{opening_of, sections_in};
-use case_text::{CaseKind, CaseLine};
+use case_text::{CaseKind, CaseLine, MOST_FILINGS};
 use fare_book::Book;
 use fare_law::{FlightRow, List, PlaceRow, SeatRow, TextLine};
+use seat_classes::MOST_SEAT_ROWS;
 use std::alloc::Global;
 
 /// The version of the book that a case is about, and the lines of its other sections.
@@ -46,7 +47,7 @@ pub fn filed_case(
 ) -> Result<FiledCase<'_>, LoadFault>
     requires { length bytes.now + 1 < 2 ^ 32 }
     ensures case { Reads result (Books.filed_case kind at bytes.now) }
-    ensures later { IfOk result (λ filed. length filed.later ≤ 1000) }
+    ensures later { IfOk result (λ filed. length filed.later ≤ MOST_FILINGS) }
     ensures requests { IfOk result (λ filed. MayAsk kind (length filed.requests)) }
 {
     let case = sections_in(alloc, bytes, kind)?;
@@ -81,7 +82,7 @@ fn book_in(
 ) -> Result<Book, LoadFault>
     requires places { Each IsPlaceRow places }
     requires flights { Each IsFlightRow flights }
-    requires seats { length seats ≤ 200000 }
+    requires seats { length seats ≤ MOST_SEAT_ROWS }
     ensures { Reads result (Books.book_in places flights seats filings.now at) }
 {
     let opening = opening_of(alloc, places, flights, seats)?;

@@ -13,6 +13,7 @@ ghost use Rattle.whole_case.specs.Stages.{IsOne};
 
 use certificate_text::one_reading;
 use fare_book::{one_fault_of_filings, one_fault_of_seats};
+use fare_law::MOST_TICKETS;
 use schedule_book::{one_fault_of_rows, one_list_of_flights};
 
 /// Bytes ask one thing at most, or have one first refusal before what their kind of case has more.
@@ -57,9 +58,9 @@ pub fn one_verdict_case()
 /// What a case that is spelled asks is refused for no reason in its book, also where another number of
 /// tickets within the limits is put in.
 pub fn spelled_requests_are_right()
-    ensures search { (best at : Option ℕ) (bytes : List ℕ) (found : Found) → IfSome best (IsInRange 1 1000)
+    ensures search { (best at : Option ℕ) (bytes : List ℕ) (found : Found) → IfSome best (IsInRange 1 MOST_TICKETS)
         → search_case best at bytes (Ok found) → judged (known_places found.book) found.request ≡ None }
-    ensures check { (best at : Option ℕ) (bytes : List ℕ) (found : Checked) → IfSome best (IsInRange 1 1000)
+    ensures check { (best at : Option ℕ) (bytes : List ℕ) (found : Checked) → IfSome best (IsInRange 1 MOST_TICKETS)
         → check_case best at bytes (Ok found) → judged (known_places found.book) found.request ≡ None }
     ensures calendar { (outs backs : ℕ) (at : Option ℕ) (bytes : List ℕ) (found : Spanned) → calendar_case outs backs at bytes (Ok found)
         → judged (known_places found.book) found.request ≡ None }

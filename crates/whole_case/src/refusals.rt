@@ -58,8 +58,8 @@ pub enum Reason {
     NotTwo,
     /// A calendar's days of a slice aren't 1 to 31, or the last of them is after 2099-12-31.
     Span,
-    /// A line of a ticket isn't of its form, is a flight before any component or a fifth flight of one,
-    /// or is a nineteenth component.
+    /// A line of a ticket isn't of its form, is a flight before any component, a flight beside
+    /// `MOST_FLIGHTS_OF_A_COMPONENT` of one, or a component beside `MOST_COMPONENTS`.
     Ticket,
     /// A line of a script isn't of its form, or names more than there is; at line 0 there is no line.
     Script,

@@ -12,7 +12,7 @@ use case_text::{Case, CaseKind, sections};
 use fare_book::Book;
 use fare_law::{FlightRow, List, PlaceRow, SeatRow};
 use schedule_book::Schedule;
-use seat_classes::SeatFault;
+use seat_classes::{MOST_SEAT_ROWS, SeatFault};
 use std::alloc::Global;
 
 /// The sections of a case of this kind.
@@ -36,7 +36,7 @@ pub fn opening_of(
 ) -> Result<Book, LoadFault>
     requires places { Each IsPlaceRow places }
     requires flights { Each IsFlightRow flights }
-    requires seats { length seats ≤ 200000 }
+    requires seats { length seats ≤ MOST_SEAT_ROWS }
     ensures book { Reads result (Timetables.opening_of places flights seats) }
     ensures empty { IfOk result (λ book. book.entries ≡ []) }
 {
@@ -57,7 +57,7 @@ fn book_of(
 ) -> Result<Book, LoadFault>
     requires places { Each IsPlaceRow places.now }
     requires flights { Each IsFlightRow flights.now }
-    requires seats { length seats.now ≤ 200000 }
+    requires seats { length seats.now ≤ MOST_SEAT_ROWS }
     ensures book { Reads result (Timetables.opening_of places.now flights.now seats.now) }
     ensures empty { IfOk result (λ book. book.entries ≡ []) }
 {

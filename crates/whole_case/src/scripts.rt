@@ -6,6 +6,7 @@ ghost use Rattle.whole_case.specs.Stages.{Reads};
 
 use crate::reasons::refused_at;
 use crate::{LoadFault, Reason};
+use case_text::{MOST_FILINGS, MOST_REQUESTS};
 use fare_law::{Filing, List, Request, TextLine};
 use script_text::{Script, ScriptFault, read_script};
 use std::alloc::Global;
@@ -17,8 +18,8 @@ pub fn script_in(
     later: &List<Filing>,
     requests: &List<Request>,
 ) -> Result<Script, LoadFault>
-    requires later { length later.now ≤ 1000 }
-    requires requests { length requests.now ≤ 100 }
+    requires later { length later.now ≤ MOST_FILINGS }
+    requires requests { length requests.now ≤ MOST_REQUESTS }
     ensures script { Reads result (ServeCases.script_in (length later.now) (length requests.now) lines.now) }
     ensures limits { IfOk result (IsScript (length later.now) (length requests.now)) }
 {
@@ -32,8 +33,8 @@ fn script_within(
     later: usize,
     requests: usize,
 ) -> Result<Script, LoadFault>
-    requires later { later ≤ 1000 }
-    requires requests { requests ≤ 100 }
+    requires later { later ≤ MOST_FILINGS }
+    requires requests { requests ≤ MOST_REQUESTS }
     ensures script { Reads result (ServeCases.script_in later requests lines.now) }
     ensures limits { IfOk result (IsScript later requests) }
 {

@@ -10,7 +10,7 @@ use crate::LoadFault;
 use crate::books::{FiledCase, filed_case};
 use crate::scripts::script_in;
 use crate::serve_lines::{asked_requests, later_filings};
-use case_text::CaseKind;
+use case_text::{CaseKind, MOST_FILINGS, MOST_REQUESTS};
 use fare_book::Book;
 use fare_law::{Filing, List, Request};
 use script_text::Script;
@@ -58,8 +58,8 @@ pub fn load_serve_case(
 
 /// What the lines after the filings of a serving run's case give.
 fn asks_in(alloc: Global, filed: &FiledCase<'_>, best: Option<u16>) -> Result<Asks, LoadFault>
-    requires later { length filed.now.later ≤ 1000 }
-    requires requests { length filed.now.requests ≤ 100 }
+    requires later { length filed.now.later ≤ MOST_FILINGS }
+    requires requests { length filed.now.requests ≤ MOST_REQUESTS }
     ensures asks { Reads result (ServeCases.asks_in best filed.now) }
     ensures later { IfOk result (λ asks. Each IsFiling asks.later) }
     ensures script { IfOk result (λ asks. IsScript (length asks.later) (length asks.requests) asks.script) }

@@ -8,6 +8,7 @@ ghost use Rattle.whole_case.specs.Stages.{IsOne};
 ghost use Rattle.whole_case.specs.declared.serve.ServeCase.{ServeCase as Found};
 
 use fare_book::{one_fault_of_filings, one_fault_of_seats};
+use fare_law::MOST_TICKETS;
 use schedule_book::{one_fault_of_rows, one_list_of_flights};
 use script_text::one_reading;
 
@@ -25,6 +26,6 @@ pub fn one_serve_case()
 /// Each request of a serving run's case that is spelled is refused for no reason in its book, also where another number
 /// of tickets within the limits is put in.
 pub fn spelled_asks_are_right()
-    ensures { (best : Option ℕ) (bytes : List ℕ) (found : Found) → IfSome best (IsInRange 1 1000) → serve_case best bytes (Ok found)
+    ensures { (best : Option ℕ) (bytes : List ℕ) (found : Found) → IfSome best (IsInRange 1 MOST_TICKETS) → serve_case best bytes (Ok found)
         → Each (λ q. judged (known_places found.book) q ≡ None) found.requests }
 {}

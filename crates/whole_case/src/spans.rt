@@ -5,10 +5,10 @@ ghost use Rattle.whole_case.specs.Stages.{Reads};
 
 use crate::reasons::refused_at;
 use crate::{LoadFault, Reason};
-use fare_law::{Request, Slice};
+use fare_law::{LAST_DAY, Request, Slice};
 
-/// The last day of a calendar, 2099-12-31, and one day more.
-const PAST_THE_LAST: i64 = 47_482;
+/// The day after the last one of the calendar.
+const PAST_THE_LAST: i64 = LAST_DAY as i64 + 1;
 
 /// That the request of a line has two slices.
 pub fn check_two(line: u32, request: &Request) -> Result<(), LoadFault>

@@ -1,5 +1,5 @@
 -- The cases keep to the limits.
-use Rattle.std.proofs.Common.{◌≡◌, ℕ, zero, suc, pos, ◌≤◌, ◌∷◌, ◌++◌, List, [], drop, get_or, replicate, slice_index, refl, inl, inr, arith}
+use Rattle.std.proofs.Common.{◌≡◌, ℕ, zero, suc, pos, nat_abs, ◌≤◌, ◌∷◌, ◌++◌, List, [], drop, get_or, replicate, slice_index, refl, inl, inr, arith}
 use Rattle.std.proofs.lemmas.Int.{ints}
 use Rattle.fare_law.specs.declared.fares.Fare.{Fare}
 use Rattle.fare_law.specs.declared.fares.FareKind.{FareKind}
@@ -11,6 +11,7 @@ use Rattle.fare_law.specs.Limits.{IsCapital, IsFare, IsFlight, IsPlace, IsPlaceR
 use Rattle.fare_law.specs.Lists.{Each}
 use Rattle.fare_law.specs.Names.{IsCarrier}
 use Rattle.fare_law.specs.RuleLimits.{IsRule}
+use Rattle.fare_law.specs.declared.limits.TheConstants.{FIRST_DAY, LAST_DAY}
 use Rattle.worked_cases.specs.Cases.{charges, circle_book, circle_request, no_stops, one_way_book, one_way_request, round_book, round_request}
 use Rattle.worked_cases.specs.Journeys.{boston_fare, far_fare, inner_book, inner_request, jaw_book, jaw_request, paris_fare, round_fare_of}
 use Rattle.worked_cases.specs.Makers.{bos, chi, fare_of, flight_of, lon, nyc, par, place_row, qx, rom, seat_row, slice_of}
@@ -41,7 +42,7 @@ is_qx = (refl, (inr (omega arith, omega arith), (inr (omega arith, omega arith),
 row : (p : Place) → IsPlace p → IsPlaceRow (place_row p)
 row p is = record { place = is; connect = omega arith }
 
-dated : (number : ℕ) (from to : Place) (day : ℕ) → 1 ≤ number → number ≤ 9999 → IsPlace from → IsPlace to → 10957 ≤ day → day ≤ 47481 → IsFlight (flight_of number from to day)
+dated : (number : ℕ) (from to : Place) (day : ℕ) → 1 ≤ number → number ≤ 9999 → IsPlace from → IsPlace to → nat_abs FIRST_DAY ≤ day → day ≤ nat_abs LAST_DAY → IsFlight (flight_of number from to day)
 dated number from to day one last from_is to_is first end = record {
   carrier = is_qx;
   number = (one, last);
@@ -82,7 +83,7 @@ fare_is from to letter kind amount rule from_is to_is low high amount_is rule_is
   rule = rule_is;
 }
 
-sliced : (from to : Place) (day : ℕ) → IsPlace from → IsPlace to → 10957 ≤ day → day ≤ 47481 → IsSlice (slice_of from to day)
+sliced : (from to : Place) (day : ℕ) → IsPlace from → IsPlace to → nat_abs FIRST_DAY ≤ day → day ≤ nat_abs LAST_DAY → IsSlice (slice_of from to day)
 sliced from to day from_is to_is first end = record { from = from_is; to = to_is; first = (omega (arith, ints, first), omega (arith, ints, end)); days = (omega arith, omega arith) }
 
 pub no_stops_is : IsRule no_stops

@@ -7,11 +7,11 @@ ghost use Rattle.fare_law.specs.declared.filings.BookWhy.{BookWhy as Reason};
 ghost use Rattle.fare_book.specs.Drafts.{Drafts};
 ghost use Rattle.fare_book.specs.Taking.{HasCause, NoneStops};
 
-use super::{Book, MOST_ENTRIES};
-use crate::BookFault;
+use super::Book;
 use crate::draft::Draft;
 use crate::sheets::{place_tables, touch_stale};
 use crate::taking::take_actions;
+use crate::{BookFault, MOST_ENTRIES};
 use fare_law::{BookWhy, Filing, List, Mem, Refused};
 use std::alloc::Global;
 use std::collections::{HashMap, HashSet};
@@ -63,7 +63,7 @@ impl Book {
     /// The book after a filing whose actions are taken.
     fn finish(&self, alloc: Global, draft: Draft, filing: Arc<Filing>) -> Result<Book, Mem>
         requires limits { IsFiling (arc_value filing) }
-        requires few { length self.now.entries < 1000000 }
+        requires few { length self.now.entries < MOST_ENTRIES }
         requires taken { Drafts (filed self.now (arc_value filing).actions) draft }
         requires faultless { NoneStops self.now (arc_value filing).actions }
         ensures { IfOk result (λ b. b ≡ record { timetable = self.now.timetable; entries = self.now.entries ++ arc_value filing ∷ [] }) }

@@ -6,12 +6,12 @@ ghost use Rattle.fare_law.specs.FilingLimits.{IsFiling};
 ghost use Rattle.fare_law.specs.declared.filings.BookWhy.{BookWhy as Reason};
 ghost use Rattle.fare_book.specs.Taking.{HasCause};
 
+use super::Book;
 use super::next::shared;
-use super::{Book, MOST_ENTRIES};
 use crate::draft::Draft;
 use crate::sheets::{place_tables, touch_stale};
 use crate::taking::take_actions;
-use crate::{BookFault, Timetable};
+use crate::{BookFault, MOST_ENTRIES, Timetable};
 use fare_law::{BookWhy, Filing, List, Mem, Refused};
 use std::alloc::Global;
 use std::collections::{HashMap, HashSet};

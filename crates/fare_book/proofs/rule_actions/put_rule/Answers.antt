@@ -1,4 +1,5 @@
 use Rattle.std.proofs.Common.{Some, refl, arith}
+use Rattle.fare_book.specs.declared.limits.TheConstants.{MOST_RULES}
 use Rattle.fare_law.specs.declared.filings.Action.TheVariants.{PutRule}
 use Rattle.fare_law.specs.declared.filings.BookWhy.TheVariants.{Limit}
 use Rattle.fare_law.specs.Book.{live_fare, live_rule}
@@ -41,9 +42,9 @@ returns c = λ b next d f.
       rules_alone b next _ (fares_stay b next (PutRule k m r) (λ q. refl) f) (seats_stay b next (PutRule k m r) (λ q. refl) f)
           (record {
             fares_kept = fares_stay_kept (live_rule b) (live_rule next) k m (Some r) proper step (live_fare b) old.changed.keys c.set_rule-2.new.changed.keys c.in_ok-set_rule-2.ensures.changed old.sheets.entries old.tables.entries old.fare_count old.uses.entries d.fares_kept;
-            rules_kept = rules_new (live_rule b) (live_rule next) k m (Some r) proper step old.rules.entries c.set_rule-2.new.rules.entries c.in_ok-set_rule-2.ensures.rules old.rule_count d.rules_kept r refl none (omega (arith, c.if-draft-ge-MOST.false));
+            rules_kept = rules_new (live_rule b) (live_rule next) k m (Some r) proper step old.rules.entries c.set_rule-2.new.rules.entries c.in_ok-set_rule-2.ensures.rules old.rule_count d.rules_kept r refl none (omega (arith, c.if-draft-ge-MOST_RULES.false));
             seats_kept = d.seats_kept;
             stand = stand_put (live_rule b) (live_rule next) k m (Some r) proper step (live_fare b) r refl d.stand;
           }),
-      faultless b (PutRule k m r) Limit (put_rule_limit b k m r) (λ full. omega (arith, c.if-draft-ge-MOST.false, d.rules_kept.counted.most 2000 full.1)),
+      faultless b (PutRule k m r) Limit (put_rule_limit b k m r) (λ full. omega (arith, c.if-draft-ge-MOST_RULES.false, d.rules_kept.counted.most MOST_RULES full.1)),
     )

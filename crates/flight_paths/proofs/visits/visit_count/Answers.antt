@@ -1,5 +1,6 @@
 use Rattle.std.proofs.Common.{◌+◌, ◌-◌, ◌≤◌, length, suc, take, drop, subst, arith}
 use Rattle.fare_law.specs.Lists.{IsIn}
+use Rattle.fare_law.specs.declared.limits.TheConstants.{MOST_FLIGHTS_OF_A_COMPONENT}
 use Rattle.flight_paths.specs.Heads.{AreRest, AreRestOf, Saw, chosen}
 use Rattle.flight_paths.specs.Plans.{plan_book}
 use Rattle.flight_paths.proofs.Joining.{tail_count}
@@ -31,7 +32,7 @@ visit_each-requires-clause-near g c = λ t i.
     let from = c.place_of-from.result in
     let to = c.place_of-to.result in
     let le : from ≤ to = omega (arith, c.if-to-from.false) in
-    let room : length h.flights + c.args.count ≤ 4 = omega (arith, c.if-len-count-gt4.false, c.len.ensures.value) in
+    let room : length h.flights + c.args.count ≤ MOST_FLIGHTS_OF_A_COMPONENT = omega (arith, c.if-len-count-gt-MOST_FLIGHTS_OF_A_COMPONENT.false, c.len.ensures.value) in
     let there : IsIn t (take (to - from) (drop from ts)) = subst (IsIn t) (chosen_part all ns from (to - from) c.requires.numbers) i in
     let some = (tail_count b sl at (suc at.slice) ts c.requires.tails t (part_of ts from (to - from) t there)).0 in
     entering h c.args.junction.now.middle ts c.args.count from to c.place_of-from.ensures.point c.place_of-to.ensures.point le room t some there

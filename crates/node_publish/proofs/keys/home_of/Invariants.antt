@@ -1,4 +1,5 @@
 use Rattle.std.proofs.Common.{◌≡◌, ◌≤◌, ◌+◌, ◌*◌, drop, length}
+use Rattle.fare_law.specs.declared.limits.TheConstants.{MOST_FLIGHTS_OF_A_COMPONENT}
 use Rattle.node_publish.specs.Homes.{weighed}
 use Rattle.node_publish.proofs.keys.home_of.Given as goal
 
@@ -8,5 +9,5 @@ invariant-loop-leg l = record {
   times : l.times ≡ l.leg-index + 1;
   low : l.home ≤ l.leg-index * 140737488355328;
   legs : l.leg-items ≡ l.key.legs;
-  few : length l.leg-items ≤ 4;
+  few : length l.leg-items ≤ MOST_FLIGHTS_OF_A_COMPONENT;
 }

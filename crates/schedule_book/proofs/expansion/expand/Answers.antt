@@ -1,6 +1,7 @@
 use Rattle.std.proofs.Common.{◌+◌, take, drop, get_or, refl, subst, arith}
 use Rattle.std.proofs.lemmas.List.{take_all}
 use Rattle.schedule_book.specs.Faults.{RowsRight}
+use Rattle.schedule_book.specs.declared.limits.TheConstants.{MOST_DATED_FLIGHTS}
 use Rattle.schedule_book.proofs.OwnFaults.{own_period}
 use Rattle.schedule_book.proofs.Expanding.{expanded_empty, seen_empty, own_cause, twice_cause, many_cause, expanded_next}
 use Rattle.schedule_book.proofs.SharedNames.{no_row, none_before}
@@ -30,8 +31,8 @@ add_row-requires-clause-apart c =
 pub returns-in-Err-clause-fault : goal.returns-in-Err-clause-fault
 returns-in-Err-clause-fault c = twice_cause c.args.places.now c.args.rows.now c.loop-row.row-index no_row (get_or c.args.rows.now c.loop-row.row-index no_row) c.loop-row.flights.items c.loop-row-test.true refl c.loop-row.invariant.0 c.in_default.ensures.none c.in-Err.fault c.in-Err.ensures.fault
 
-pub returns-then-len-gt-MOST-clause-fault : goal.returns-then-len-gt-MOST-clause-fault
-returns-then-len-gt-MOST-clause-fault c =
+pub returns-then-len-gt-MOST_DATED_FLIGHTS-clause-fault : goal.returns-then-len-gt-MOST_DATED_FLIGHTS-clause-fault
+returns-then-len-gt-MOST_DATED_FLIGHTS-clause-fault c =
     many_cause c.args.places.now c.args.rows.now c.loop-row.row-index no_row (get_or c.args.rows.now c.loop-row.row-index no_row) c.loop-row.flights.items c.loop-row-test.true refl c.loop-row.invariant.0 c.in_default.ensures.none c.add_row.new.flights.items
     c.in_default-add_row.ensures.added c.in_default-add_row.ensures.seen.differ (omega (arith, c.len.ensures, c.add_row.new.flights.ok.0))
 

@@ -1,13 +1,14 @@
 use Rattle.std.proofs.Common.{◌≡◌, IfNone, length, sym, ap, subst, ◌∙◌, arith}
 use Rattle.fare_law.specs.declared.tickets.Ticket.{Ticket}
 use Rattle.fare_law.specs.Lists.{Matched}
+use Rattle.fare_law.specs.declared.limits.TheConstants.{MOST_COMPONENTS}
 use Rattle.ticket_order.specs.Tickets.{TicketOfMoves, labels, IsComponent}
 use Rattle.ticket_order.proofs.ReadLabels.{labels_long}
 use Rattle.ticket_order.proofs.TicketParts.{ticket_made, ticket_labels, ticket_parts, ticket_short}
 use Rattle.ticket_order.proofs.tickets.ticket_of.Goals as goal
 
-pub returns-then-moves-gt18-clause-none : goal.returns-then-moves-gt18-clause-none
-returns-then-moves-gt18-clause-none c = λ t h. let s = ticket_short c.args.schedule.now.flights c.args.moves.now t h in omega arith
+pub returns-then-moves-gt-MOST_COMPONENTS-clause-none : goal.returns-then-moves-gt-MOST_COMPONENTS-clause-none
+returns-then-moves-gt-MOST_COMPONENTS-clause-none c = λ t h. let s = ticket_short c.args.schedule.now.flights c.args.moves.now t h in omega arith
 
 pub returns-in_err-labels-clause-none : goal.returns-in_err-labels-clause-none
 returns-in_err-labels-clause-none c =

@@ -1,5 +1,6 @@
 use Rattle.std.proofs.Common.{◌≡◌, ◌≤◌, [], ◌∷◌, ◌++◌, ap, length, slice_get, subst, sym, ◌∙◌, arith}
 use Rattle.std.specs.Arc.{arc_value}
+use Rattle.fare_book.specs.declared.limits.TheConstants.{MOST_FARES}
 use Rattle.component_table.specs.declared.markets.Market.{Market}
 use Rattle.component_table.proofs.PathFacts.{own_sheet}
 use Rattle.fare_law.specs.Sheets.{Sheet}
@@ -12,7 +13,7 @@ groups_of-requires c =
     let laws = c.order_laws.ensures in
     let sheet = arc_value c.args.sheet.now in
     let is = is_sheet laws.less_never laws.less_trans laws.less_total c.args.book.now c.limits.ensures sheet (own_sheet c.args.book.now c.args.key.from c.args.key.to sheet c.requires.sheet) in
-    subst (λ rows. length rows ≤ 20000) (sym (c.as_slice.ensures ∙ ap (λ (s : Sheet). s.rows) (c.behind-sheet.view_is ∙ c.deref.ensures))) is.few
+    subst (λ rows. length rows ≤ MOST_FARES) (sym (c.as_slice.ensures ∙ ap (λ (s : Sheet). s.rows) (c.behind-sheet.view_is ∙ c.deref.ensures))) is.few
 
 pub returns-clause-found : goal.returns-clause-found
 returns-clause-found c =

@@ -2,9 +2,10 @@ use Rattle.std.proofs.Common.{◌≡◌, Some, Result, Ok, Err, refl, sym, subst
 use Rattle.seat_classes.specs.Held.{Changes, HasNoRoom}
 use Rattle.seat_classes.specs.declared.faults.SeatPut.{SeatPut}
 use Rattle.seat_classes.specs.declared.faults.SeatPut.TheVariants.{Full, Mem}
+use Rattle.seat_classes.specs.declared.limits.TheConstants.{MOST_SEAT_ROWS}
 use Rattle.seat_classes.proofs.HeldLemmas.{changes_from, no_room, room}
 use Rattle.seat_classes.proofs.seats.Seats.put.Goals as goal
-use Rattle.seat_classes.proofs.seats.Seats.put.Goals.{else-len-eq-MOST-via-then-len-eq-MOST+else-not-contains_key, else-len-eq-MOST-via-else-len-eq-MOST}
+use Rattle.seat_classes.proofs.seats.Seats.put.Goals.{else-len-eq-MOST_SEAT_ROWS-via-then-len-eq-MOST_SEAT_ROWS+else-not-contains_key, else-len-eq-MOST_SEAT_ROWS-via-else-len-eq-MOST_SEAT_ROWS}
 
 -- want of memory is no want of room
 not_full : (r : Result (Unit {0}) SeatPut) → IsErrAnd r (λ e. e ≡ Mem) → IsErrOf r Full → ⊥
@@ -23,7 +24,7 @@ returns-then-not-contains_key-clause-full c =
     let key = c.args.key.now in
     let none : HasNoRoom c.args.self.now key =
     subst (λ h. HasNoRoom h key) c.self.view_is
-    (no_room held key c.len.ensures.unique (sym c.len.ensures.len ∙ c.if-len-eq-MOST.true) (sym c.contains_key.ensures ∙ c.if-not-contains_key.true)) in
+    (no_room held key c.len.ensures.unique (sym c.len.ensures.len ∙ c.if-len-eq-MOST_SEAT_ROWS.true) (sym c.contains_key.ensures ∙ c.if-not-contains_key.true)) in
     (λ _. none, λ _. refl)
 
 pub returns-in_err-insert-clause-full : goal.returns-in_err-insert-clause-full
@@ -33,9 +34,9 @@ returns-in_err-insert-clause-full c =
       λ full. absurd (not_full c.from_residual.result c.from_residual.ensures.1 full),
       λ none.
           let none_held : HasNoRoom held key = subst (λ h. HasNoRoom h key) (sym c.self.view_is) none in
-          absurd (elim c.else-len-eq-MOST.branch [
-            | else-len-eq-MOST-via-then-len-eq-MOST+else-not-contains_key w ↦ room held key (inr (sym w.contains_key.ensures ∙ w.if-not-contains_key.false)) none_held
-            | else-len-eq-MOST-via-else-len-eq-MOST w ↦ room held key (inl (omega (arith, c.self.invariant, c.len.ensures.len, w.if-len-eq-MOST.false))) none_held
+          absurd (elim c.else-len-eq-MOST_SEAT_ROWS.branch [
+            | else-len-eq-MOST_SEAT_ROWS-via-then-len-eq-MOST_SEAT_ROWS+else-not-contains_key w ↦ room held key (inr (sym w.contains_key.ensures ∙ w.if-not-contains_key.false)) none_held
+            | else-len-eq-MOST_SEAT_ROWS-via-else-len-eq-MOST_SEAT_ROWS w ↦ room held key (inl (omega (arith, c.self.invariant, c.len.ensures.len, w.if-len-eq-MOST_SEAT_ROWS.false))) none_held
           ]),
     )
 
@@ -53,8 +54,8 @@ returns-clause-full c =
       λ full. absurd (no_fault full),
       λ none.
           let none_held : HasNoRoom held key = subst (λ h. HasNoRoom h key) (sym c.self.view_is) none in
-          absurd (elim c.else-len-eq-MOST.branch [
-            | else-len-eq-MOST-via-then-len-eq-MOST+else-not-contains_key w ↦ room held key (inr (sym w.contains_key.ensures ∙ w.if-not-contains_key.false)) none_held
-            | else-len-eq-MOST-via-else-len-eq-MOST w ↦ room held key (inl (omega (arith, c.self.invariant, c.len.ensures.len, w.if-len-eq-MOST.false))) none_held
+          absurd (elim c.else-len-eq-MOST_SEAT_ROWS.branch [
+            | else-len-eq-MOST_SEAT_ROWS-via-then-len-eq-MOST_SEAT_ROWS+else-not-contains_key w ↦ room held key (inr (sym w.contains_key.ensures ∙ w.if-not-contains_key.false)) none_held
+            | else-len-eq-MOST_SEAT_ROWS-via-else-len-eq-MOST_SEAT_ROWS w ↦ room held key (inl (omega (arith, c.self.invariant, c.len.ensures.len, w.if-len-eq-MOST_SEAT_ROWS.false))) none_held
           ]),
     )
