@@ -6,7 +6,7 @@ use Rattle.std.proofs.lemmas.Bool.Decides.{Decides-ltb, nat_tests}
 use Rattle.std.proofs.lemmas.List.{length-append}
 use Rattle.std.specs.Prelude.{IfOk}
 use Rattle.std.specs.List.{flat_map}
-use Rattle.seat_classes.specs.declared.limits.TheConstants.{MOST_SEAT_ROWS}
+use Rattle.fare_law.specs.declared.limits.TheConstants.{MOST_SEAT_ROWS}
 use Rattle.fare_law.specs.declared.rows.TextLine.{TextLine}
 use Rattle.case_text.specs.declared.contents.Case.{Case}
 use Rattle.case_text.specs.declared.contents.Entry.{Entry}

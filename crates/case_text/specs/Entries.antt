@@ -2,7 +2,7 @@
 -- before it and the count of lines since; of several faults the one that is tested first decides.
 use Rattle.std.specs.Prelude.{ℕ, ◌+◌, ◌==◌, ◌&&◌, Bool, true, false, not, nat_lt, List, [], ◌∷◌, length, Option, Some, None, Result, Ok, Err, if◌then◌else◌}
 use Rattle.std.specs.Str.Lines.{lines}
-use Rattle.seat_classes.specs.declared.limits.TheConstants.{MOST_SEAT_ROWS}
+use Rattle.fare_law.specs.declared.limits.TheConstants.{MOST_SEAT_ROWS}
 use Rattle.fare_law.specs.declared.rows.TextLine.{TextLine}
 use Rattle.case_text.specs.declared.contents.Case.{Case}
 use Rattle.case_text.specs.declared.contents.Entry.{Entry}

@@ -1,6 +1,6 @@
 -- What a case that is read keeps to: rows within their limits, and sections within theirs.
 use Rattle.std.specs.Prelude.{◌≡◌, ◌≤◌, ℕ, length, ⊤}
-use Rattle.seat_classes.specs.declared.limits.TheConstants.{MOST_SEAT_ROWS}
+use Rattle.fare_law.specs.declared.limits.TheConstants.{MOST_SEAT_ROWS}
 use Rattle.fare_law.specs.Limits.{IsFlightRow, IsPlaceRow, IsSeatRow}
 use Rattle.fare_law.specs.Lists.{Each}
 use Rattle.case_text.specs.declared.contents.Case.{Case}

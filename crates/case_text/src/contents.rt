@@ -4,8 +4,7 @@ ghost use Rattle.case_text.specs.Contents.{added, line_added, no_contents, after
 
 use crate::CaseLine;
 use crate::headers::Header;
-use fare_law::{FlightRow, List, Mem, PlaceRow, SeatRow, TextLine};
-use seat_classes::MOST_SEAT_ROWS;
+use fare_law::{FlightRow, List, MOST_SEAT_ROWS, Mem, PlaceRow, SeatRow, TextLine};
 use std::alloc::Global;
 
 /// The rows and lines of a case by their sections. A section that the kind of case doesn't have is

@@ -18,7 +18,7 @@ use crate::{
     MOST_REQUESTS, MOST_SCRIPT_LINES, RowFault,
 };
 use csv::ByteRecord;
-use seat_classes::MOST_SEAT_ROWS;
+use fare_law::MOST_SEAT_ROWS;
 use std::alloc::Global;
 
 /// What the line is, or its fault. Its fields are given where they were read with other lines.

@@ -8,7 +8,7 @@ use crate::classes::PathClass;
 use crate::recent::Recent;
 use crate::same::same_after;
 use crate::spots::Spots;
-use fare_groups::{GroupKey, same_kind};
+use fare_groups::GroupKey;
 use fare_law::{Mem, Rule, Shared};
 use outlines::{Entry, Outline};
 use std::alloc::Global;
@@ -357,6 +357,6 @@ pub fn same_outline(one: &Outline, other: &Outline) -> bool
         && one.last == other.last
         && one.carrier.is(other.carrier)
         && one.number == other.number
-        && same_kind(one.kind, other.kind)
+        && one.kind.is(other.kind)
         && one.reverse == other.reverse
 }

@@ -5,7 +5,7 @@ use Rattle.fare_law.specs.Book.{Book}
 use Rattle.fare_book.specs.Taking.{HasCause, StopsAt}
 use Rattle.fare_book.specs.declared.faults.BookFault.{BookFault}
 use Rattle.fare_book.specs.declared.faults.BookFault.TheVariants.{Refused, Mem}
-use Rattle.fare_book.specs.declared.limits.TheConstants.{MOST_ENTRIES}
+use Rattle.fare_law.specs.declared.limits.TheConstants.{MOST_ENTRIES}
 use Rattle.fare_book.proofs.TakingLemmas.{filing_fault}
 
 pub cause_told : (b : Book) (filing : Filing) (fault : BookFault) → length b.entries < MOST_ENTRIES → StopsAt b filing.actions fault → HasCause b filing fault

@@ -13,7 +13,7 @@ use Rattle.fare_book.specs.Tables.{AreKeyed, Changes, Fares, LiveRules, NamesRul
 use Rattle.fare_book.specs.declared.fare_table.FareTable.{FareTable}
 use Rattle.fare_book.specs.declared.keys.Market.{Market}
 use Rattle.fare_book.specs.declared.keys.RuleKey.{RuleKey}
-use Rattle.fare_book.specs.declared.limits.TheConstants.{MOST_FARES}
+use Rattle.fare_law.specs.declared.limits.TheConstants.{MOST_FARES}
 use Rattle.fare_book.proofs.Counting.{many_same}
 use Rattle.fare_book.proofs.FareSteps.{use_less, use_more}
 use Rattle.fare_book.proofs.SameKeys.{same_fares_tell}

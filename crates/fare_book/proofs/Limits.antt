@@ -5,7 +5,7 @@ use Rattle.fare_law.specs.Limits.{IsFareKey}
 use Rattle.fare_book.specs.declared.keys.RuleKey.{RuleKey}
 use Rattle.fare_book.specs.Counts.{AtMost}
 use Rattle.fare_book.specs.Keeping.{Counted, History, Limited}
-use Rattle.fare_book.specs.declared.limits.TheConstants.{MOST_FARES, MOST_RULES}
+use Rattle.fare_law.specs.declared.limits.TheConstants.{MOST_FARES, MOST_RULES}
 use Rattle.fare_book.proofs.LastActions.{live_fare_limits, live_key, live_rule_limits}
 
 at_most : {K : Type 0} (Has : K → Type 0) (n m : ℕ) → n ≤ m → AtMost n Has → AtMost m Has

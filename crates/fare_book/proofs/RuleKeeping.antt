@@ -23,7 +23,7 @@ use Rattle.fare_book.specs.Tables.{Fares, IsOldRow, LiveRules, NamesRule, TableO
 use Rattle.fare_book.specs.declared.fare_table.FareTable.{FareTable}
 use Rattle.fare_book.specs.declared.keys.Market.{Market}
 use Rattle.fare_book.specs.declared.keys.RuleKey.{RuleKey}
-use Rattle.fare_book.specs.declared.limits.TheConstants.{MOST_RULES}
+use Rattle.fare_law.specs.declared.limits.TheConstants.{MOST_RULES}
 use Rattle.fare_book.proofs.Counting.{count_same}
 use Rattle.fare_book.proofs.Finding.{rule_found}
 use Rattle.fare_book.proofs.Following.{rule_free}

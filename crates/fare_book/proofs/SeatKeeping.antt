@@ -11,7 +11,7 @@ use Rattle.fare_book.proofs.Updates.{at_key, either, few_new, few_old, most_less
 use Rattle.seat_classes.specs.declared.faults.SeatPut.{SeatPut}
 use Rattle.seat_classes.specs.declared.faults.SeatPut.TheVariants.{Full}
 use Rattle.seat_classes.specs.Held.{Changes, HasNoRoom, HasRow, seats_at}
-use Rattle.seat_classes.specs.declared.limits.TheConstants.{MOST_SEAT_ROWS}
+use Rattle.fare_law.specs.declared.limits.TheConstants.{MOST_SEAT_ROWS}
 use Rattle.law_lemmas.proofs.Names.{same_seats_tell}
 
 pub none_some : {A G : Type 0} (o : Option A) → o ≡ None → IsSome o → G

@@ -18,7 +18,7 @@ use Rattle.fare_book.specs.Drafts.{Acts, Drafts, Faultless, OnlyLimit, Places}
 use Rattle.fare_book.specs.declared.draft.Draft.{Draft}
 use Rattle.fare_book.specs.declared.draft.Stop.{Stop}
 use Rattle.fare_book.specs.declared.draft.Stop.TheVariants.{Fault, Mem}
-use Rattle.fare_book.specs.declared.limits.TheConstants.{MOST_FARES}
+use Rattle.fare_law.specs.declared.limits.TheConstants.{MOST_FARES}
 
 pub none_live : {A G : Type 0} (o : Option A) → o ≡ None → IsSome o → G
 none_live None e s = absurd (cc)

@@ -13,7 +13,7 @@ use Rattle.fare_book.specs.declared.draft.Draft.{Draft}
 use Rattle.fare_book.specs.declared.draft.Stop.{Stop}
 use Rattle.fare_book.specs.declared.draft.Stop.TheVariants.{Fault, Mem as NoMemory}
 use Rattle.fare_book.specs.declared.faults.BookFault.TheVariants.{Refused}
-use Rattle.fare_book.specs.declared.limits.TheConstants.{MOST_ENTRIES}
+use Rattle.fare_law.specs.declared.limits.TheConstants.{MOST_ENTRIES}
 use Rattle.fare_book.proofs.Following.{filed_follows}
 use Rattle.law_lemmas.proofs.Lists.{front_length, front_read, split_is, split_last}
 use Rattle.law_lemmas.proofs.Numbers.{suc_is}

@@ -27,7 +27,7 @@ use Rattle.fare_book.specs.declared.draft.Draft.{Draft}
 use Rattle.fare_book.specs.declared.fare_table.FareTable.{FareTable}
 use Rattle.fare_book.specs.declared.keys.Market.{Market}
 use Rattle.fare_book.specs.declared.keys.RuleKey.{RuleKey}
-use Rattle.fare_book.specs.declared.limits.TheConstants.{MOST_ENTRIES}
+use Rattle.fare_law.specs.declared.limits.TheConstants.{MOST_ENTRIES}
 use Rattle.fare_book.proofs.Following.{filed_actions, rule_free, same_fares, same_rules, same_seats}
 use Rattle.fare_book.proofs.LastActions.{live_key}
 use Rattle.fare_book.proofs.LiveRows.{row_live}

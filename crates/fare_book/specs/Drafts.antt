@@ -23,9 +23,9 @@ use Rattle.fare_book.specs.declared.draft.Stop.TheVariants.{Fault, Mem}
 use Rattle.fare_book.specs.declared.fare_table.FareTable.{FareTable}
 use Rattle.fare_book.specs.declared.keys.Market.{Market}
 use Rattle.fare_book.specs.declared.keys.RuleKey.{RuleKey}
-use Rattle.fare_book.specs.declared.limits.TheConstants.{MOST_FARES, MOST_RULES}
+use Rattle.fare_law.specs.declared.limits.TheConstants.{MOST_FARES, MOST_RULES}
 use Rattle.seat_classes.specs.Held.{seats_at}
-use Rattle.seat_classes.specs.declared.limits.TheConstants.{MOST_SEAT_ROWS}
+use Rattle.fare_law.specs.declared.limits.TheConstants.{MOST_SEAT_ROWS}
 
 -- the one book has one action more than the other
 pub record Follows (b : Book) (action : Action) (next : Book) : Type 0 where

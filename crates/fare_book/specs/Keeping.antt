@@ -3,7 +3,7 @@ use Rattle.std.specs.Prelude.{◌≡◌, ◌≢◌, ◌≤◌, ◌-◌, ℕ, if�
 use Rattle.std.specs.Map.{lookup}
 use Rattle.std.specs.Arc.{arc_value}
 use Rattle.std.specs.declared.sync.Arc.{Arc}
-use Rattle.seat_classes.specs.declared.limits.TheConstants.{MOST_SEAT_ROWS}
+use Rattle.fare_law.specs.declared.limits.TheConstants.{MOST_SEAT_ROWS}
 use Rattle.fare_law.specs.declared.fares.Fare.{Fare}
 use Rattle.fare_law.specs.declared.fares.FareKey.{FareKey}
 use Rattle.fare_law.specs.declared.names.Carrier.{Carrier}
@@ -22,7 +22,7 @@ use Rattle.fare_book.specs.Keys.{same_market, same_rule}
 use Rattle.fare_book.specs.Seating.{SeatsBook}
 use Rattle.fare_book.specs.declared.keys.Market.{Market}
 use Rattle.fare_book.specs.declared.keys.RuleKey.{RuleKey}
-use Rattle.fare_book.specs.declared.limits.TheConstants.{MOST_ENTRIES, MOST_FARES, MOST_RULES}
+use Rattle.fare_law.specs.declared.limits.TheConstants.{MOST_ENTRIES, MOST_FARES, MOST_RULES}
 
 -- a fare of this key is live
 abbrev pub IsLive : Book → FareKey → Type 0

@@ -12,7 +12,7 @@ use Rattle.fare_book.specs.Tables.{MarketHolds, TableOf}
 use Rattle.fare_book.specs.declared.fare_table.FareTable.{FareTable}
 use Rattle.fare_book.specs.declared.keys.Market.{Market}
 use Rattle.fare_book.specs.declared.keys.RuleKey.{RuleKey}
-use Rattle.fare_book.specs.declared.limits.TheConstants.{MOST_FARES}
+use Rattle.fare_law.specs.declared.limits.TheConstants.{MOST_FARES}
 
 -- a market's sheet, or none where it has no fare
 abbrev pub IsRight : Book → Market → Option Sheet → Type 0

@@ -5,7 +5,7 @@ use Rattle.fare_law.specs.declared.rows.SeatRow.{SeatRow}
 use Rattle.fare_law.specs.Book.{Book, live_seats}
 use Rattle.seat_classes.specs.Given.{rows_have}
 use Rattle.seat_classes.specs.Held.{seats_at}
-use Rattle.seat_classes.specs.declared.limits.TheConstants.{MOST_SEAT_ROWS}
+use Rattle.fare_law.specs.declared.limits.TheConstants.{MOST_SEAT_ROWS}
 
 -- each key has the seats that these rows give it, and there are at most `MOST_SEAT_ROWS` rows
 pub record SeatsRows (rows : List SeatRow) (held : List (SeatKey × List ℕ)) : Type 0 where

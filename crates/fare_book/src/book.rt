@@ -15,11 +15,11 @@ mod open_book;
 
 use crate::keys::{Market, RuleKey};
 use crate::rows::row_of;
-use crate::{MOST_ENTRIES, Timetable};
-use fare_law::{FareKey, Filing, List, MarketSheet, Place, Rule, SeatRow, Shared, SheetRow};
+use crate::Timetable;
+use fare_law::{FareKey, Filing, List, MOST_ENTRIES, MOST_SEAT_ROWS, MarketSheet, Place, Rule, SeatRow, Shared, SheetRow};
 pub use open_book::OpenBook;
 use schedule_book::Schedule;
-use seat_classes::{MOST_SEAT_ROWS, SeatFault, Seats, live_rows_seat_flights};
+use seat_classes::{SeatFault, Seats, live_rows_seat_flights};
 use std::alloc::Global;
 use std::collections::HashMap;
 use std::marker::Model;

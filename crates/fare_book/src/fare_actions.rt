@@ -8,12 +8,11 @@ ghost use Rattle.fare_book.specs.Drafts.{Acts, OnlyLimit, Places};
 ghost use Rattle.fare_book.specs.Keeping.{Rules};
 ghost use Rattle.fare_book.specs.Tables.{rule_of};
 
-use crate::MOST_FARES;
 use crate::draft::{Draft, Stop};
 use crate::keys::RuleKey;
 use crate::tables::{remove_fare, replace_fare};
 use crate::uses::{count_use, forget_use, move_use};
-use fare_law::{BookWhy, Fare, FareKey, FareKind, Rule, Shared};
+use fare_law::{BookWhy, Fare, FareKey, FareKind, MOST_FARES, Rule, Shared};
 use std::alloc::Global;
 use std::collections::HashMap;
 

@@ -8,12 +8,11 @@ ghost use Rattle.fare_book.specs.Keeping.{rule_at};
 ghost use Rattle.fare_book.specs.Keys.{same_rule};
 ghost use Rattle.fare_book.specs.declared.keys.RuleKey.{RuleKey as RuleName};
 
-use crate::MOST_RULES;
 use crate::draft::{Draft, Stop};
 use crate::fare_actions::has_rule;
 use crate::keys::RuleKey;
 use crate::uses::uses_of;
-use fare_law::{BookWhy, Carrier, Mem, Rule, Shared};
+use fare_law::{BookWhy, Carrier, MOST_RULES, Mem, Rule, Shared};
 use std::collections::{HashMap, HashSet};
 
 /// Puts a rule in place of that of its carrier and number.

@@ -7,7 +7,7 @@ use Rattle.fare_law.specs.declared.filings.Action.{Action}
 use Rattle.fare_filing.specs.declared.fault.FilingFault.{FilingFault}
 use Rattle.fare_filing.specs.declared.fault.FilingFault.TheVariants.{Syntax, Shape, Rule, Mem}
 use Rattle.fare_filing.specs.Reading.{Tells, action_spelled, actions_from, few_actions, then_rest}
-use Rattle.fare_filing.specs.declared.limits.TheConstants.{MOST_ACTIONS}
+use Rattle.fare_law.specs.declared.limits.TheConstants.{MOST_ACTIONS}
 use Rattle.law_lemmas.proofs.EachOne.{each_more}
 use Rattle.law_lemmas.proofs.Tests.{le_false, le_true}
 use Rattle.rule_text.proofs.ItemLemmas.{count_items}

@@ -32,7 +32,7 @@ use Rattle.fare_filing.specs.Actions.{drop_rule, drop_seats, put_seats}
 use Rattle.fare_filing.specs.declared.fault.FilingFault.TheVariants.{Shape}
 use Rattle.fare_filing.specs.Reading.{action_spelled, actions_from, filing_of, filing_spelled, put_rule}
 use Rattle.fare_filing.specs.Text.{WritesAction, WritesActions, WritesFiling, WritesRule, fare_data, key_data, kind_text, rule_name_data, seat_key_data, seats_data, seats_text}
-use Rattle.fare_filing.specs.declared.limits.TheConstants.{MOST_ACTIONS}
+use Rattle.fare_law.specs.declared.limits.TheConstants.{MOST_ACTIONS}
 use Rattle.fare_filing.proofs.SeatLemmas.{seats_again}
 use Rattle.law_lemmas.proofs.Tests.{le_true}
 

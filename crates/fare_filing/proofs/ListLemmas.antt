@@ -18,7 +18,7 @@ use Rattle.rule_text.specs.Members.{item_count}
 use Rattle.fare_filing.specs.Compact.{Begins, Begun, Ended, Spells, items_of, with_commas}
 use Rattle.fare_filing.specs.Reading.{actions_from, filing_of, filing_spelled}
 use Rattle.fare_filing.specs.Text.{sole}
-use Rattle.fare_filing.specs.declared.limits.TheConstants.{MOST_ACTIONS}
+use Rattle.fare_law.specs.declared.limits.TheConstants.{MOST_ACTIONS}
 use Rattle.fare_filing.proofs.AgainLemmas.{spelled_again}
 use Rattle.law_lemmas.proofs.EachOne.{each_more}
 use Rattle.law_lemmas.proofs.Tests.{le_true}

@@ -13,7 +13,7 @@ use Rattle.rule_text.specs.declared.fault.RuleFault.{RuleFault}
 use Rattle.fare_filing.specs.declared.fault.FilingFault.{FilingFault}
 use Rattle.fare_filing.specs.declared.fault.FilingFault.TheVariants.{Syntax, Shape, Rule, Mem}
 use Rattle.fare_filing.specs.Actions.{if_there, plain_action, rule_number}
-use Rattle.fare_filing.specs.declared.limits.TheConstants.{MOST_ACTIONS}
+use Rattle.fare_law.specs.declared.limits.TheConstants.{MOST_ACTIONS}
 
 -- from one part to the next, up to the first fault
 infixl 10 ◌>>=◌

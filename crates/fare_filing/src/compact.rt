@@ -8,14 +8,13 @@ ghost use Rattle.fare_law.specs.Lists.{Each};
 ghost use Rattle.fare_filing.specs.Compact.{Begins, Ended, SeatsAction, fare_action};
 ghost use Rattle.fare_filing.specs.Reading.{filing_of};
 
-use crate::MOST_ACTIONS;
 use crate::fields::{
     basis_after, carrier_after, class_after, kind_after, number_after, place_after, text_after,
 };
 use crate::pieces::after;
 use crate::room::room_for;
 use crate::written::written_action;
-use fare_law::{Action, Fare, FareKey, Filing, List, Mem, SeatKey};
+use fare_law::{Action, Fare, FareKey, Filing, List, MOST_ACTIONS, Mem, SeatKey};
 use name_text::{names_read_again, seat_day_of, seats_of};
 use std::alloc::Global;
 

@@ -8,7 +8,6 @@ mod compact;
 mod fares;
 mod fault;
 mod fields;
-mod limits;
 mod members;
 mod pieces;
 mod reading;
@@ -21,6 +20,5 @@ mod values;
 mod written;
 
 pub use fault::FilingFault;
-pub use limits::MOST_ACTIONS;
 pub use reading::read_filing;
 pub use text::filing_text;

@@ -7,7 +7,7 @@ mod grouping;
 mod laws;
 mod permits;
 
-pub use group::{FareGroup, GroupKey, GroupedFare, is_open, same_kind};
+pub use group::{FareGroup, GroupKey, GroupedFare, is_open};
 pub use grouping::{first_row, groups_of, place_of};
 pub use laws::{fares_by_group, one_rule, rows_stand_once};
 pub use permits::{classes_of_all, extra};

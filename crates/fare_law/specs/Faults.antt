@@ -9,6 +9,7 @@ use Rattle.fare_law.specs.declared.fares.Fare.{Fare}
 use Rattle.fare_law.specs.declared.fares.FareKey.{FareKey}
 use Rattle.fare_law.specs.declared.fares.FareKind.TheVariants.{R}
 use Rattle.fare_law.specs.declared.filings.Filing.{Filing}
+use Rattle.fare_law.specs.declared.limits.TheConstants.{MOST_ENTRIES, MOST_FARES, MOST_RULES, MOST_SEAT_ROWS}
 use Rattle.fare_law.specs.Book.{Book, Timetable, live_fare, live_rule, live_seats}
 use Rattle.fare_law.specs.Lists.{HasMany}
 
@@ -17,12 +18,12 @@ abbrev pub Why : Book → Action → BookWhy → Type 0
 Why b (PutFare fare) SamePlace = fare.key.from ≡ fare.key.to
 Why b (PutFare fare) OddRound = (fare.kind ≡ R) × (fare.amount % 2 ≡ 1)
 Why b (PutFare fare) NoRule = live_rule b fare.key.carrier fare.rule ≡ None
-Why b (PutFare fare) Limit = (live_fare b fare.key ≡ None) × HasMany 20000 (λ key. IsSome (live_fare b key))
+Why b (PutFare fare) Limit = (live_fare b fare.key ≡ None) × HasMany MOST_FARES (λ key. IsSome (live_fare b key))
 Why b (DropFare key) NoFare = live_fare b key ≡ None
-Why b (PutRule carrier number rule) Limit = (live_rule b carrier number ≡ None) × HasMany 2000 (λ (k : Carrier × ℕ). (k.1 ≢ 0) × IsSome (live_rule b k.0 k.1))
+Why b (PutRule carrier number rule) Limit = (live_rule b carrier number ≡ None) × HasMany MOST_RULES (λ (k : Carrier × ℕ). (k.1 ≢ 0) × IsSome (live_rule b k.0 k.1))
 Why b (DropRule carrier number) NoRule = live_rule b carrier number ≡ None
 Why b (DropRule carrier number) RuleInUse = (key : FareKey) × (fare : Fare) × (live_fare b key ≡ Some fare) × (key.carrier ≡ carrier) × (fare.rule ≡ number)
-Why b (PutSeats key seats) Limit = (live_seats b key ≡ None) × HasMany 200000 (λ key. IsSome (live_seats b key))
+Why b (PutSeats key seats) Limit = (live_seats b key ≡ None) × HasMany MOST_FARES0 (λ key. IsSome (live_seats b key))
 Why b (DropSeats key) NoSeats = live_seats b key ≡ None
 Why b _ _ = ⊥
 
@@ -46,8 +47,8 @@ filed b actions = record b { entries = b.entries ++ record { actions = actions }
 -- The fault of a filing: at action 0, or at the first action with a fault where those before it stand.
 abbrev pub Fault : Book → Filing → ℕ → BookWhy → Type 0
 Fault b filing at why =
-    ((at ≡ 0) × (why ≡ Limit) × (1000000 ≤ length b.entries))
-    ⊎ ((length b.entries < 1000000) × ((before : List Action) × (action : Action) × (after : List Action)
+    ((at ≡ 0) × (why ≡ Limit) × (MOST_ENTRIES ≤ length b.entries))
+    ⊎ ((length b.entries < MOST_ENTRIES) × ((before : List Action) × (action : Action) × (after : List Action)
     × (filing.actions ≡ before ++ action ∷ after) × (at ≡ suc (length before)) × FaultOf (filed b before) action why
     × ((front : List Action) (earlier : Action) (rest : List Action) → before ≡ front ++ earlier ∷ rest → (other : BookWhy) → Why (filed b front) earlier other → ⊥)))
 

@@ -4,6 +4,7 @@ use Rattle.std.specs.Int.{IsInRange}
 use Rattle.fare_law.specs.declared.filings.Action.{Action}
 use Rattle.fare_law.specs.declared.filings.Action.TheVariants.{PutFare, DropFare, PutRule, DropRule, PutSeats, DropSeats}
 use Rattle.fare_law.specs.declared.filings.Filing.{Filing}
+use Rattle.fare_law.specs.declared.limits.TheConstants.{MOST_ACTIONS}
 use Rattle.fare_law.specs.Limits.{AreSeats, IsFare, IsFareKey, IsSeatKey}
 use Rattle.fare_law.specs.Lists.{Each}
 use Rattle.fare_law.specs.Names.{IsCarrier}
@@ -22,7 +23,7 @@ IsAction (DropRule carrier number) = IsCarrier carrier × IsRuleNumber number
 IsAction (PutSeats key seats) = IsSeatKey key × AreSeats seats
 IsAction (DropSeats key) = IsSeatKey key
 
--- a filing within its limits: at most 5,000 actions
+-- a filing within its limits
 pub record IsFiling (filing : Filing) : Type 0 where
-  pub few : length filing.actions ≤ 5000
+  pub few : length filing.actions ≤ MOST_ACTIONS
   pub each : Each IsAction filing.actions

@@ -1,5 +1,6 @@
 -- Sheets: the live fares of one market, with what their rules say of the time of departure.
 use Rattle.std.specs.Prelude.{◌≡◌, ◌≢◌, ◌⊎◌, ◌↔◌, ◌≤◌, ◌<◌, ℕ, ℤ, pos, List, [], length, slice_index_or, Option, Some, None}
+use Rattle.fare_law.specs.declared.limits.TheConstants.{MOST_FARES}
 use Rattle.fare_law.specs.declared.names.Place.{Place}
 use Rattle.fare_law.specs.declared.rules.DayTime.{DayTime}
 use Rattle.fare_law.specs.declared.sheets.SheetRow.{SheetRow}
@@ -32,9 +33,9 @@ last_minute row = to_minute row.rule.cat2
 abbrev pub RowBefore : SheetRow → SheetRow → Type 0
 RowBefore r s = Less r.fare.key.carrier.0 s.fare.key.carrier.0 ⊎ ((r.fare.key.carrier ≡ s.fare.key.carrier) × Less r.fare.key.basis.0 s.fare.key.basis.0)
 
--- rows that make a sheet: at most 20,000, of this market, ascending
+-- rows that make a sheet: as many as a book has fares at most, of this market, ascending
 pub record IsSheet (from to : Place) (rows : List SheetRow) : Type 0 where
-  pub few : length rows ≤ 20000
+  pub few : length rows ≤ MOST_FARES
   pub market : Each (λ row. (row.fare.key.from ≡ from) × (row.fare.key.to ≡ to)) rows
   pub ascending : EachPair RowBefore rows
 

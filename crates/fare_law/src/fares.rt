@@ -35,6 +35,19 @@ pub struct Fare {
     pub rule: u16,
 }
 
+impl FareKind {
+    /// Whether it is the same kind.
+    pub fn is(self, other: FareKind) -> bool
+        ensures { IsTrue result ↔ (self ≡ other) }
+    {
+        match self {
+            FareKind::O => matches!(other, FareKind::O),
+            FareKind::R => matches!(other, FareKind::R),
+            FareKind::S => matches!(other, FareKind::S),
+        }
+    }
+}
+
 impl FareKey {
     /// The same key.
     pub fn copied(&self) -> FareKey

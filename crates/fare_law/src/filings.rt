@@ -33,19 +33,19 @@ pub struct Filing {
 #[derive(Clone, Copy, PartialEq, Eq, Debug)]
 pub enum BookWhy {
     /// A fare from a place to itself.
-    SamePlace,
+    SamePlace = 1,
     /// A fare of kind R with an odd amount.
-    OddRound,
+    OddRound = 2,
     /// A fare on a rule that its carrier doesn't have, or a drop of a rule that isn't there.
-    NoRule,
+    NoRule = 3,
     /// A drop of a rule that a live fare names.
-    RuleInUse,
+    RuleInUse = 4,
     /// A drop of a fare that isn't there.
-    NoFare,
+    NoFare = 5,
     /// A new fare, rule or seat row beside as many as a book may have; at action 0, one filing more than a book may have.
-    Limit,
+    Limit = 6,
     /// A drop of a seat row that isn't there.
-    NoSeats,
+    NoSeats = 7,
 }
 
 /// The first action with a fault, counted from 1, and its reason.

@@ -1,5 +1,5 @@
-//! The limits of requests, tickets, filings and days. Each has its number here alone: code, clauses and
-//! definitions cite the names, and what follows from another limit is computed from it.
+//! The limits of requests, tickets, books, filings and days, by name. What follows from another limit is computed
+//! from it.
 
 /// The most slices of a request.
 pub const MOST_SLICES: usize = 6;
@@ -22,12 +22,6 @@ pub const CODE_NUMBERS_OF_A_MOVE: usize = MOST_FLIGHTS_OF_A_COMPONENT + 5;
 /// The most numbers of a ticket's code.
 pub const CODE_NUMBERS: usize = CODE_NUMBERS_OF_A_MOVE * MOST_COMPONENTS;
 
-/// What the price of a component is below.
-pub const PRICES_OF_A_COMPONENT: u64 = 4_294_967_296;
-
-/// The most that a ticket costs.
-pub const MOST_PRICE: u64 = MOST_COMPONENTS as u64 * PRICES_OF_A_COMPONENT;
-
 /// The first day of the calendar, 2000-01-01, in days since 1970-01-01.
 pub const FIRST_DAY: i32 = 10_957;
 
@@ -42,3 +36,21 @@ pub const MOST_TICKETS: u16 = 1_000;
 
 /// The most days of the window of a slice.
 pub const MOST_WINDOW_DAYS: u8 = 7;
+
+/// The most dated flights of a timetable.
+pub const MOST_DATED_FLIGHTS: usize = 200_000;
+
+/// The most seat rows of a book.
+pub const MOST_SEAT_ROWS: usize = 200_000;
+
+/// The most live fares of a book.
+pub const MOST_FARES: u32 = 20_000;
+
+/// The most live rules of a book.
+pub const MOST_RULES: u32 = 2_000;
+
+/// The most filings of a book.
+pub const MOST_ENTRIES: usize = 1_000_000;
+
+/// The most actions of a filing.
+pub const MOST_ACTIONS: usize = 5_000;

@@ -1,8 +1,9 @@
 //! The sheet of a market.
 ghost use Rattle.std.specs.Prelude.{◌≡◌, ◌<◌, ◌≤◌, length, map, IfOk};
+ghost use Rattle.fare_law.specs.declared.limits.TheConstants.{MOST_FARES};
 ghost use Rattle.fare_law.specs.Sheets.{AreRuleRows, HasRuleOf, IsSheet, Sheet, first_minute, last_minute};
 
-use crate::{ArrayVec, Leg, List, Mem, Place, SheetRow};
+use crate::{ArrayVec, Leg, List, MOST_FLIGHTS_OF_A_COMPONENT, Mem, Place, SheetRow};
 use std::alloc::Global;
 use std::marker::Model;
 use std::sync::Arc;
@@ -35,7 +36,7 @@ impl Model for MarketSheet {
 }
 
 impl MarketSheet {
-    /// The sheet of these rows, at most 20,000 of this market, ascending by carrier and basis.
+    /// The sheet of these rows, at most `MOST_FARES` of this market, ascending by carrier and basis.
     pub fn of(
         alloc: Global,
         from: Place,
@@ -100,7 +101,7 @@ fn closing_minute(row: &SheetRow) -> i32
 /// For each row the place of one that has the same rule and doesn't stand after it. Rows whose rules have
 /// numbers that end alike are held against one another, so that a rule is mostly found where it came before.
 fn rule_rows(alloc: Global, rows: &[SheetRow]) -> Result<List<u32>, Mem>
-    requires few { length rows.now ≤ 20000 }
+    requires few { length rows.now ≤ MOST_FARES }
     ensures { IfOk result (AreRuleRows rows.now) }
 {
     let mut latest = [0u32; 256];
@@ -117,7 +118,7 @@ fn rule_rows(alloc: Global, rows: &[SheetRow]) -> Result<List<u32>, Mem>
 /// The place that is tried, where a row with the same rule stands there, or else the row's own.
 fn rule_row(rows: &[SheetRow], at: usize, tried: u32) -> u32
     requires at { at < length rows.now }
-    requires few { length rows.now ≤ 20000 }
+    requires few { length rows.now ≤ MOST_FARES }
     ensures { HasRuleOf rows.now at result }
 {
     let place = tried as usize;
@@ -131,6 +132,6 @@ fn rule_row(rows: &[SheetRow], at: usize, tried: u32) -> u32
 /// What offers are asked by: the legs of a component, and the sheet of a market.
 #[derive(Debug, Drop)]
 pub struct OfferKey {
-    pub legs: ArrayVec<Leg, 4>,
+    pub legs: ArrayVec<Leg, MOST_FLIGHTS_OF_A_COMPONENT>,
     pub sheet: Arc<MarketSheet>,
 }

@@ -1,4 +1,6 @@
 //! Requests.
+ghost use Rattle.std.specs.Prelude.{◌≡◌};
+
 use crate::{ArrayVec, MOST_SLICES, Place};
 
 /// One slice of a journey.
@@ -22,6 +24,20 @@ pub struct Request {
     /// How many tickets at most, 1 to 1,000.
     pub best: u16,
     pub slices: ArrayVec<Slice, MOST_SLICES>,
+}
+
+impl Request {
+    /// The same request.
+    pub fn copied(&self) -> Request
+        ensures { result ≡ self.now }
+    {
+        Request {
+            sale: self.sale,
+            party: self.party,
+            best: self.best,
+            slices: self.slices.copied(),
+        }
+    }
 }
 
 /// Why a request is refused; of several reasons the first that is listed here.

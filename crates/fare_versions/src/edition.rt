@@ -1,6 +1,7 @@
 //! Editions: books as they are published.
 ghost use Rattle.std.specs.Prelude.{◌≡◌, ◌≤◌, length, IfOk};
 ghost use Rattle.std.specs.Arc.{arc_value};
+ghost use Rattle.fare_law.specs.declared.limits.TheConstants.{MOST_ENTRIES};
 ghost use Rattle.fare_law.specs.Lists.{IsPrefix};
 ghost use Rattle.fare_versions.specs.Published.{history_of};
 
@@ -74,7 +75,7 @@ impl Edition {
     /// The number of its version.
     pub fn number(&self) -> u32
         ensures value { result ≡ length self.now.book.entries }
-        ensures few { result ≤ 1000000 }
+        ensures few { result ≤ MOST_ENTRIES }
     {
         self.book.number()
     }

@@ -1,6 +1,7 @@
 //! How a clerk and its watches begin.
 ghost use Rattle.std.specs.Prelude.{◌≡◌, ◌<◌, ◌≤◌, [], length, map, All, Some, IfOk, IfSome};
 ghost use Rattle.std.specs.Arc.{arc_value};
+ghost use Rattle.fare_law.specs.declared.limits.TheConstants.{MOST_ENTRIES};
 ghost use Rattle.fare_versions.specs.Seen.{HasSeen};
 ghost use Rattle.fare_versions.specs.Writing.{last_seen, pending, shown};
 
@@ -65,7 +66,7 @@ fn writer_of<R: Wait>(rt: &R, alloc: Global, edition: Edition) -> Result<Edition
 
 /// A new history of these entries.
 fn logged(entries: &[Arc<Filing>]) -> Option<FilingLog>
-    requires { length entries.now ≤ 1000000 }
+    requires { length entries.now ≤ MOST_ENTRIES }
     ensures { IfSome result (λ l. l.entries ≡ map arc_value entries.now) }
 {
     let mut log = FilingLog::open();

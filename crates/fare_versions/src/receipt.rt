@@ -1,5 +1,6 @@
 //! Receipts: what a clerk had published.
 ghost use Rattle.std.specs.Prelude.{◌≡◌, ◌≤◌, length};
+ghost use Rattle.fare_law.specs.declared.limits.TheConstants.{MOST_ENTRIES};
 
 use filing_log::Front;
 use std::marker::Model;
@@ -12,18 +13,19 @@ pub struct Receipt {
 
 impl Model for Receipt {
     ghost use Rattle.std.specs.Prelude.{◌≤◌, length};
+    ghost use Rattle.fare_law.specs.declared.limits.TheConstants.{MOST_ENTRIES};
     ghost use Rattle.filing_log.specs.Histories.{HouseHistory};
 
     ghost Value = { HouseHistory };
 
     ghost view = { λ r. r.front };
 
-    ghost invariant = { λ r. length r.front.entries ≤ 1000000 };
+    ghost invariant = { λ r. length r.front.entries ≤ MOST_ENTRIES };
 }
 
 impl Receipt {
     pub(crate) fn of(front: Front) -> Receipt
-        requires { length front.entries ≤ 1000000 }
+        requires { length front.entries ≤ MOST_ENTRIES }
         ensures { result ≡ front }
     {
         Receipt { front }
@@ -32,7 +34,7 @@ impl Receipt {
     /// The number of the version that it is for: how many filings it has.
     pub fn number(&self) -> u32
         ensures value { result ≡ length self.now.entries }
-        ensures few { result ≤ 1000000 }
+        ensures few { result ≤ MOST_ENTRIES }
     {
         self.front.count() as u32
     }
@@ -40,7 +42,7 @@ impl Receipt {
     /// What was filed.
     pub(crate) fn front(&self) -> &Front
         ensures value { result.now ≡ self.now }
-        ensures few { length self.now.entries ≤ 1000000 }
+        ensures few { length self.now.entries ≤ MOST_ENTRIES }
     {
         &self.front
     }

@@ -29,13 +29,14 @@ pub struct Watch {
 impl Model for Watch {
     ghost use Rattle.std.specs.Prelude.{◌≡◌, ◌≤◌, length, Some};
     ghost use Rattle.left_right.specs.Sides.{view as known};
+    ghost use Rattle.fare_law.specs.declared.limits.TheConstants.{MOST_ENTRIES};
     ghost use Rattle.fare_versions.specs.Seen.{Sight, seen_of, sight_of};
 
     ghost Value = { Sight };
 
     ghost view = { λ w. sight_of (known w.reader.place) w.told };
 
-    ghost invariant = { λ w. (known w.reader.place ≡ Some (seen_of (known w.reader.place))) × (w.told.house ≡ (seen_of (known w.reader.place)).house) × (w.number ≡ length (seen_of (known w.reader.place)).book.entries) × (length w.told.entries ≤ 1000000) };
+    ghost invariant = { λ w. (known w.reader.place ≡ Some (seen_of (known w.reader.place))) × (w.told.house ≡ (seen_of (known w.reader.place)).house) × (w.number ≡ length (seen_of (known w.reader.place)).book.entries) × (length w.told.entries ≤ MOST_ENTRIES) };
 }
 
 impl Watch {

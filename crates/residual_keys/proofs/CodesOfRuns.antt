@@ -1,6 +1,6 @@
 -- The code of a run from the root is the code of its moves: their flights are the timetable's, their slots 0 and 1, and their names those of live fares.
 use Rattle.std.proofs.Common.{◌≡◌, ℕ, ◌≤◌, ◌<◌, ◌^◌, List, [], ◌∷◌, length, set, length-set, length-append, Option, Some, None, refl, sym, subst, arith}
-use Rattle.schedule_book.specs.declared.limits.TheConstants.{MOST_DATED_FLIGHTS}
+use Rattle.fare_law.specs.declared.limits.TheConstants.{MOST_DATED_FLIGHTS}
 use Rattle.fare_law.specs.declared.flights.Flight.{Flight}
 use Rattle.fare_law.specs.declared.moves.Move.{Move}
 use Rattle.fare_law.specs.declared.moves.Role.{Role}

@@ -1,7 +1,7 @@
 -- The rows of a book's sheet: in a strict order, live, within limits, and the sheet is one. Given on to the crates above.
 use Rattle.std.proofs.Common.{◌≡◌, ◌≢◌, ◌⊎◌, ℕ, zero, suc, ◌+◌, ◌≤◌, ◌<◌, List, [], ◌∷◌, length, map, slice_get, Some, All, refl, sym, ap, subst, ◌∙◌, inl, inr, arith}
 use Rattle.fare_book.specs.Keeping.{IsLive, Limited}
-use Rattle.fare_book.specs.declared.limits.TheConstants.{MOST_FARES}
+use Rattle.fare_law.specs.declared.limits.TheConstants.{MOST_FARES}
 use Rattle.std.proofs.lemmas.List.Elements.{All-head, All-tail}
 use Rattle.fare_component.specs.Keys.{IsKey, IsLeg, IsRow}
 use Rattle.fare_law.specs.declared.flights.Flight.{Flight}

@@ -1,6 +1,6 @@
 -- What a search reaches has a text, and a run from the root has a code.
 use Rattle.std.specs.Prelude.{◌≡◌, ℕ, ◌≤◌, List, [], length, slice_get, Some, None}
-use Rattle.schedule_book.specs.declared.limits.TheConstants.{MOST_DATED_FLIGHTS}
+use Rattle.fare_law.specs.declared.limits.TheConstants.{MOST_DATED_FLIGHTS}
 use Rattle.fare_book.specs.Keeping.{Limited}
 use Rattle.fare_law.specs.declared.moves.Move.{Move}
 use Rattle.fare_law.specs.declared.requests.Request.{Request}

@@ -53,22 +53,10 @@ pub fn recorded(
     };
     Ok(Recorded {
         desk,
-        request: copied(request),
+        request: request.copied(),
         version: book.number(),
         outcome,
     })
-}
-
-/// The same request.
-fn copied(request: &Request) -> Request
-    ensures { result ≡ request.now }
-{
-    Request {
-        sale: request.sale,
-        party: request.party,
-        best: request.best,
-        slices: request.slices.copied(),
-    }
 }
 
 /// The node of a key.

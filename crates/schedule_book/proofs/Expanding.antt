@@ -15,7 +15,7 @@ use Rattle.schedule_book.specs.declared.dated.FlightName.{FlightName}
 use Rattle.schedule_book.specs.Days.{named_days}
 use Rattle.schedule_book.specs.Expansions.{AddsRow, Expands, RepeatsOne, Seen, number_of}
 use Rattle.schedule_book.specs.Faults.{HasFault, IsRepeated, NoOwnFault, OwnFault, RowCause, RowFault, RowsRight, SameDated, fault_number}
-use Rattle.schedule_book.specs.declared.limits.TheConstants.{MOST_DATED_FLIGHTS}
+use Rattle.fare_law.specs.declared.limits.TheConstants.{MOST_DATED_FLIGHTS}
 use Rattle.schedule_book.proofs.Numbers.{same, parts_differ}
 use Rattle.schedule_book.proofs.Rows.{split_push}
 use Rattle.schedule_book.proofs.SharedNames.{one_name}

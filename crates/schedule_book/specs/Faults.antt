@@ -9,7 +9,7 @@ use Rattle.fare_law.specs.Lists.{IsIn}
 use Rattle.schedule_book.specs.declared.faults.SchedFault.{SchedFault}
 use Rattle.schedule_book.specs.declared.faults.SchedFault.TheVariants.{PlaceTwice, UnknownPlace, SamePlace, BadPeriod, ArrivesBefore, Twice, TooMany, Mem}
 use Rattle.schedule_book.specs.Days.{named_days}
-use Rattle.schedule_book.specs.declared.limits.TheConstants.{MOST_DATED_FLIGHTS}
+use Rattle.fare_law.specs.declared.limits.TheConstants.{MOST_DATED_FLIGHTS}
 
 -- the place stands among these rows
 abbrev pub IsKnown : Place → List PlaceRow → Type 0

@@ -6,9 +6,8 @@ ghost use Rattle.fare_law.specs.Limits.{IsFlight};
 ghost use Rattle.fare_law.specs.Lists.{Each};
 ghost use Rattle.schedule_book.specs.Departures.{AreDepartures, Indexes, IsKey, origins, packed};
 
-use crate::MOST_DATED_FLIGHTS;
 use crate::parts::Parts;
-use fare_law::{Flight, Mem, Place};
+use fare_law::{Flight, MOST_DATED_FLIGHTS, Mem, Place};
 use std::alloc::Global;
 
 /// The origins of flights in order, each with the flight's number and packed with it into one

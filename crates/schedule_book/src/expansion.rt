@@ -10,8 +10,8 @@ use crate::dated::{DatedNumber, FlightName};
 use crate::places::Places;
 use crate::row_days::{flight_on, name_of, names, number_of};
 use crate::row_faults::own_fault;
-use crate::{MOST_DATED_FLIGHTS, SchedFault};
-use fare_law::{Flight, FlightRow};
+use crate::SchedFault;
+use fare_law::{Flight, FlightRow, MOST_DATED_FLIGHTS};
 use std::alloc::Global;
 use std::collections::HashSet;
 

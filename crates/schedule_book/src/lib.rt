@@ -8,7 +8,6 @@ mod expansion;
 mod faults;
 mod gathering;
 mod laws;
-mod limits;
 mod numbering;
 mod parts;
 mod places;
@@ -20,5 +19,4 @@ mod times;
 
 pub use faults::SchedFault;
 pub use laws::{one_fault_of_rows, one_list_of_flights, ordered_flights_ascend};
-pub use limits::MOST_DATED_FLIGHTS;
 pub use schedule::Schedule;

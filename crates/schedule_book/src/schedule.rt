@@ -14,8 +14,8 @@ use crate::expansion::expand;
 use crate::numbering::put_in_order;
 use crate::places::Places;
 use crate::times::Times;
-use crate::{MOST_DATED_FLIGHTS, SchedFault};
-use fare_law::{Flight, FlightRow, List, Place, PlaceRow};
+use crate::SchedFault;
+use fare_law::{Flight, FlightRow, List, MOST_DATED_FLIGHTS, Place, PlaceRow};
 use std::alloc::Global;
 use std::marker::Model;
 
@@ -37,7 +37,7 @@ impl Model for Schedule {
     ghost use Rattle.schedule_book.specs.Departures.{Indexes};
     ghost use Rattle.schedule_book.specs.LocalDays.{KeepsDay};
     ghost use Rattle.schedule_book.specs.Plan.{Plan};
-    ghost use Rattle.schedule_book.specs.declared.limits.TheConstants.{MOST_DATED_FLIGHTS};
+    ghost use Rattle.fare_law.specs.declared.limits.TheConstants.{MOST_DATED_FLIGHTS};
 
     ghost Value = { Plan };
 

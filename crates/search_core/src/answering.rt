@@ -35,7 +35,7 @@ pub fn answer_of(
     let number = book.number();
     let certificate = Certificate {
         number,
-        request: copied(request),
+        request: request.copied(),
         answers: runs,
         rows,
     };
@@ -54,16 +54,4 @@ pub fn answers_meet_checks(book: &Book, request: &Request)
     search_meets_checks();
     book.limits();
     schedule_of(book).flights();
-}
-
-/// The same request.
-fn copied(request: &Request) -> Request
-    ensures { result ≡ request.now }
-{
-    Request {
-        sale: request.sale,
-        party: request.party,
-        best: request.best,
-        slices: request.slices.copied(),
-    }
 }

@@ -34,21 +34,9 @@ pub fn settled_by(
     match answer {
         Ok(_) => Some(Settled {
             number,
-            request: copied(request),
+            request: request.copied(),
         }),
         Err(_) => None,
-    }
-}
-
-/// The same request.
-fn copied(request: &Request) -> Request
-    ensures { result ≡ request.now }
-{
-    Request {
-        sale: request.sale,
-        party: request.party,
-        best: request.best,
-        slices: request.slices.copied(),
     }
 }
 

@@ -11,7 +11,7 @@ use Rattle.fare_law.specs.declared.filings.SeatKey.{SeatKey}
 use Rattle.fare_law.specs.Book.{same_seat_key}
 use Rattle.fare_law.specs.Lists.{HasMany, AllDifferent, Each, IsIn}
 use Rattle.seat_classes.specs.Held.{Changes, Counts, HasNoRoom, HasRow, seats_at}
-use Rattle.seat_classes.specs.declared.limits.TheConstants.{MOST_SEAT_ROWS}
+use Rattle.fare_law.specs.declared.limits.TheConstants.{MOST_SEAT_ROWS}
 use Rattle.seat_classes.proofs.SeatKeys.{same_equivalence, same_flips, tests_agree}
 use Rattle.law_lemmas.proofs.EachOne.{each_from, member_holds}
 use Rattle.law_lemmas.proofs.Names.{same_seats_tell}

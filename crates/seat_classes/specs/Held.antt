@@ -1,7 +1,7 @@
 -- Seat rows that are held: each key that has a row, with its seats.
 use Rattle.std.specs.Prelude.{◌≡◌, ◌≤◌, ℕ, List, Option, Some, None, IsSome, slice_index, if◌then◌else◌}
 use Rattle.std.specs.Map.{lookup}
-use Rattle.seat_classes.specs.declared.limits.TheConstants.{MOST_SEAT_ROWS}
+use Rattle.fare_law.specs.declared.limits.TheConstants.{MOST_SEAT_ROWS}
 use Rattle.fare_law.specs.declared.filings.SeatKey.{SeatKey}
 use Rattle.fare_law.specs.declared.flights.Flight.{Flight}
 use Rattle.fare_law.specs.Book.{same_seat_key, or_else}

@@ -19,9 +19,9 @@ pub enum SeatFault {
 #[derive(Clone, Copy, PartialEq, Eq, Debug)]
 pub enum SeatPut {
     /// It would be a new row beside `MOST_SEAT_ROWS`.
-    Full,
+    Full = 1,
     /// Want of memory.
-    Mem,
+    Mem = 2,
 }
 
 impl From<AllocError> for SeatFault {

@@ -6,10 +6,8 @@
 mod faults;
 mod keys;
 mod laws;
-mod limits;
 mod seats;
 
 pub use faults::{SeatFault, SeatPut};
 pub use laws::{live_rows_seat_flights, rows_begin_a_book};
-pub use limits::MOST_SEAT_ROWS;
 pub use seats::Seats;

@@ -7,8 +7,8 @@ ghost use Rattle.seat_classes.specs.Held.{Changes, Counts, HasNoRoom, seats_at, 
 ghost use Rattle.seat_classes.specs.Given.{HasCause, rows_have};
 
 use crate::keys::{daily_key, dated_key, row_key};
-use crate::{MOST_SEAT_ROWS, SeatFault, SeatPut};
-use fare_law::{Class, Flight, SeatKey, SeatRow};
+use crate::{SeatFault, SeatPut};
+use fare_law::{Class, Flight, MOST_SEAT_ROWS, SeatKey, SeatRow};
 use lane_mask::at_least;
 use std::alloc::{AllocError, Global};
 use std::collections::HashMap;
@@ -24,7 +24,7 @@ pub struct Seats {
 impl Model for Seats {
     ghost use Rattle.std.specs.Prelude.{ℕ, ◌≤◌, length, List};
     ghost use Rattle.fare_law.specs.declared.filings.SeatKey.{SeatKey};
-    ghost use Rattle.seat_classes.specs.declared.limits.TheConstants.{MOST_SEAT_ROWS};
+    ghost use Rattle.fare_law.specs.declared.limits.TheConstants.{MOST_SEAT_ROWS};
 
     ghost Value = { List (SeatKey × List ℕ) };
 

@@ -11,8 +11,7 @@ use crate::histories::filed_version;
 use crate::rows::{opening_of, sections_in};
 use case_text::{CaseKind, CaseLine, MOST_FILINGS};
 use fare_book::Book;
-use fare_law::{FlightRow, List, PlaceRow, SeatRow, TextLine};
-use seat_classes::MOST_SEAT_ROWS;
+use fare_law::{FlightRow, List, MOST_SEAT_ROWS, PlaceRow, SeatRow, TextLine};
 use std::alloc::Global;
 
 /// The version of the book that a case is about, and the lines of its other sections.

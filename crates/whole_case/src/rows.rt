@@ -10,9 +10,9 @@ use crate::reasons::{of_form, of_rows, refused_at};
 use crate::{LoadFault, Reason};
 use case_text::{Case, CaseKind, sections};
 use fare_book::Book;
-use fare_law::{FlightRow, List, PlaceRow, SeatRow};
+use fare_law::{FlightRow, List, MOST_SEAT_ROWS, PlaceRow, SeatRow};
 use schedule_book::Schedule;
-use seat_classes::{MOST_SEAT_ROWS, SeatFault};
+use seat_classes::SeatFault;
 use std::alloc::Global;
 
 /// The sections of a case of this kind.

@@ -5,7 +5,7 @@ use Rattle.fare_book.specs.Keeping.{uses_at, uses_without}
 use Rattle.fare_book.specs.Keys.{same_rule}
 use Rattle.fare_book.specs.Tables.{Changes, rule_of}
 use Rattle.fare_book.specs.declared.keys.RuleKey.{RuleKey}
-use Rattle.fare_book.specs.declared.limits.TheConstants.{MOST_FARES}
+use Rattle.fare_law.specs.declared.limits.TheConstants.{MOST_FARES}
 use Rattle.fare_book.proofs.Assembled.{fares_alone}
 use Rattle.fare_book.proofs.FareKeeping.{clash, fares_new, fares_old, stand_put}
 use Rattle.fare_book.proofs.Following.{fare_put_after, rules_stay, seats_stay}

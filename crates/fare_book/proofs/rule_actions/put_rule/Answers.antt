@@ -1,5 +1,5 @@
 use Rattle.std.proofs.Common.{Some, refl, arith}
-use Rattle.fare_book.specs.declared.limits.TheConstants.{MOST_RULES}
+use Rattle.fare_law.specs.declared.limits.TheConstants.{MOST_RULES}
 use Rattle.fare_law.specs.declared.filings.Action.TheVariants.{PutRule}
 use Rattle.fare_law.specs.declared.filings.BookWhy.TheVariants.{Limit}
 use Rattle.fare_law.specs.Book.{live_fare, live_rule}

@@ -1,7 +1,7 @@
 use Rattle.std.proofs.Common.{◌≤◌, List, Option, IfSome, length, subst}
 use Rattle.fare_law.specs.declared.filings.Action.{Action}
 use Rattle.fare_filing.specs.Compact.{Ended}
-use Rattle.fare_filing.specs.declared.limits.TheConstants.{MOST_ACTIONS}
+use Rattle.fare_law.specs.declared.limits.TheConstants.{MOST_ACTIONS}
 use Rattle.fare_filing.proofs.ListLemmas.{filing_told}
 use Rattle.fare_filing.proofs.compact.compact_filing.Goals as goal
 

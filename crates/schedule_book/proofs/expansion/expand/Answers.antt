@@ -1,7 +1,7 @@
 use Rattle.std.proofs.Common.{◌+◌, take, drop, get_or, refl, subst, arith}
 use Rattle.std.proofs.lemmas.List.{take_all}
 use Rattle.schedule_book.specs.Faults.{RowsRight}
-use Rattle.schedule_book.specs.declared.limits.TheConstants.{MOST_DATED_FLIGHTS}
+use Rattle.fare_law.specs.declared.limits.TheConstants.{MOST_DATED_FLIGHTS}
 use Rattle.schedule_book.proofs.OwnFaults.{own_period}
 use Rattle.schedule_book.proofs.Expanding.{expanded_empty, seen_empty, own_cause, twice_cause, many_cause, expanded_next}
 use Rattle.schedule_book.proofs.SharedNames.{no_row, none_before}

@@ -1,4 +1,5 @@
 use Rattle.std.proofs.Common.{◌∙◌, ◌≤◌, ap, subst}
+use Rattle.fare_law.specs.declared.limits.TheConstants.{MOST_ENTRIES}
 use Rattle.fare_law.specs.Book.{Timetable}
 use Rattle.fare_law.specs.Flights.{Ascending}
 use Rattle.search_check.proofs.accepting.tell_kept.Goals as goal
@@ -6,4 +7,4 @@ use Rattle.search_check.proofs.accepting.tell_kept.Goals as goal
 pub returns : goal.returns
 returns c =
     let flights = ap (λ x. x.flights) c.schedule.ensures ∙ ap (λ (x : Timetable). x.flights) (c.deref.ensures ∙ c.timetable.ensures) in
-    record { limits = c.book_limits.ensures; ascending = subst Ascending flights c.flights.ensures.ascending; few = subst (λ n. n ≤ 1000000) c.number.ensures.value c.number.ensures.few }
+    record { limits = c.book_limits.ensures; ascending = subst Ascending flights c.flights.ensures.ascending; few = subst (λ n. n ≤ MOST_ENTRIES) c.number.ensures.value c.number.ensures.few }

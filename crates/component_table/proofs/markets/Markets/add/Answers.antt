@@ -1,6 +1,6 @@
 use Rattle.std.proofs.Common.{◌≡◌, ◌≤◌, [], ◌∷◌, ◌++◌, ap, length, slice_get, subst, sym, ◌∙◌, arith}
 use Rattle.std.specs.Arc.{arc_value}
-use Rattle.fare_book.specs.declared.limits.TheConstants.{MOST_FARES}
+use Rattle.fare_law.specs.declared.limits.TheConstants.{MOST_FARES}
 use Rattle.component_table.specs.declared.markets.Market.{Market}
 use Rattle.component_table.proofs.PathFacts.{own_sheet}
 use Rattle.fare_law.specs.Sheets.{Sheet}

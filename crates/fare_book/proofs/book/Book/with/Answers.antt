@@ -4,7 +4,7 @@ use Rattle.fare_law.specs.Book.{Book}
 use Rattle.fare_law.specs.Faults.{filed}
 use Rattle.fare_book.specs.Drafts.{Drafts}
 use Rattle.fare_book.specs.Taking.{NoneStops, StopsAt}
-use Rattle.fare_book.specs.declared.limits.TheConstants.{MOST_ENTRIES}
+use Rattle.fare_law.specs.declared.limits.TheConstants.{MOST_ENTRIES}
 use Rattle.fare_book.proofs.Causes.{cause_told}
 use Rattle.fare_book.proofs.TakingLemmas.{no_fault}
 use Rattle.law_lemmas.proofs.Lists.{map_length}

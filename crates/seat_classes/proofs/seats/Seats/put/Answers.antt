@@ -2,7 +2,7 @@ use Rattle.std.proofs.Common.{◌≡◌, Some, Result, Ok, Err, refl, sym, subst
 use Rattle.seat_classes.specs.Held.{Changes, HasNoRoom}
 use Rattle.seat_classes.specs.declared.faults.SeatPut.{SeatPut}
 use Rattle.seat_classes.specs.declared.faults.SeatPut.TheVariants.{Full, Mem}
-use Rattle.seat_classes.specs.declared.limits.TheConstants.{MOST_SEAT_ROWS}
+use Rattle.fare_law.specs.declared.limits.TheConstants.{MOST_SEAT_ROWS}
 use Rattle.seat_classes.proofs.HeldLemmas.{changes_from, no_room, room}
 use Rattle.seat_classes.proofs.seats.Seats.put.Goals as goal
 use Rattle.seat_classes.proofs.seats.Seats.put.Goals.{else-len-eq-MOST_SEAT_ROWS-via-then-len-eq-MOST_SEAT_ROWS+else-not-contains_key, else-len-eq-MOST_SEAT_ROWS-via-else-len-eq-MOST_SEAT_ROWS}

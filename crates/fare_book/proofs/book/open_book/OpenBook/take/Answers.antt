@@ -7,7 +7,7 @@ use Rattle.fare_book.specs.Drafts.{Drafts}
 use Rattle.fare_book.specs.Keeping.{History}
 use Rattle.fare_book.specs.Opened.{KeepsDraft}
 use Rattle.fare_book.specs.Taking.{NoneStops, StopsAt}
-use Rattle.fare_book.specs.declared.limits.TheConstants.{MOST_ENTRIES}
+use Rattle.fare_law.specs.declared.limits.TheConstants.{MOST_ENTRIES}
 use Rattle.fare_book.proofs.Causes.{cause_told}
 use Rattle.fare_book.proofs.OpenBooks.{entered}
 use Rattle.fare_book.proofs.TakingLemmas.{no_fault}
