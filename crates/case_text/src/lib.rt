@@ -1,9 +1,8 @@
 //! The text of a case: `sections` gives the rows and lines of each of its sections, or the first
 //! fault in the order of the lines. The lines of a text and the row of a single line are calls of
 //! their own.
-use crate::{MOST_FILINGS, MOST_FLIGHT_ROWS, MOST_PLACES, MOST_REQUESTS, MOST_SCRIPT_LINES};
-
 #![tactic(auto)]
+
 mod borrowed;
 mod contents;
 mod faults;
