@@ -23,7 +23,7 @@ Why b (DropFare key) NoFare = live_fare b key ≡ None
 Why b (PutRule carrier number rule) Limit = (live_rule b carrier number ≡ None) × HasMany MOST_RULES (λ (k : Carrier × ℕ). (k.1 ≢ 0) × IsSome (live_rule b k.0 k.1))
 Why b (DropRule carrier number) NoRule = live_rule b carrier number ≡ None
 Why b (DropRule carrier number) RuleInUse = (key : FareKey) × (fare : Fare) × (live_fare b key ≡ Some fare) × (key.carrier ≡ carrier) × (fare.rule ≡ number)
-Why b (PutSeats key seats) Limit = (live_seats b key ≡ None) × HasMany MOST_FARES0 (λ key. IsSome (live_seats b key))
+Why b (PutSeats key seats) Limit = (live_seats b key ≡ None) × HasMany MOST_SEAT_ROWS (λ key. IsSome (live_seats b key))
 Why b (DropSeats key) NoSeats = live_seats b key ≡ None
 Why b _ _ = ⊥
 
