@@ -13,10 +13,13 @@ ghost use Rattle.seat_classes.specs.Held.{seats_in};
 mod next;
 mod open_book;
 
+use crate::Timetable;
 use crate::keys::{Market, RuleKey};
 use crate::rows::row_of;
-use crate::Timetable;
-use fare_law::{FareKey, Filing, List, MOST_ENTRIES, MOST_SEAT_ROWS, MarketSheet, Place, Rule, SeatRow, Shared, SheetRow};
+use fare_law::{
+    FareKey, Filing, List, MOST_ENTRIES, MOST_SEAT_ROWS, MarketSheet, Place, Rule, SeatRow, Shared,
+    SheetRow,
+};
 pub use open_book::OpenBook;
 use schedule_book::Schedule;
 use seat_classes::{SeatFault, Seats, live_rows_seat_flights};

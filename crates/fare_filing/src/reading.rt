@@ -6,10 +6,10 @@ ghost use Rattle.fare_law.specs.Lists.{Each};
 ghost use Rattle.fare_filing.specs.Reading as Reading;
 ghost use Rattle.fare_filing.specs.Reading.{Tells};
 
+use crate::FilingFault;
 use crate::actions::read_action;
 use crate::compact::compact_filing;
 use crate::room::room_for;
-use crate::FilingFault;
 use fare_law::{Action, Filing, List, MOST_ACTIONS};
 use json_form::{has_members, items_at, read_value};
 use serde_json::Value;

@@ -9,7 +9,9 @@ use crate::TicketFault;
 use crate::forms::{FlightName, TicketLine};
 use crate::lines::line_of;
 use fare_book::Book;
-use fare_law::{ArrayVec, Component, Flight, MOST_DATED_FLIGHTS, MOST_FLIGHTS_OF_A_COMPONENT, TextLine, Ticket};
+use fare_law::{
+    ArrayVec, Component, Flight, MOST_DATED_FLIGHTS, MOST_FLIGHTS_OF_A_COMPONENT, TextLine, Ticket,
+};
 
 /// The number of a flight that isn't known.
 const UNKNOWN: u32 = 4_294_967_295;

@@ -6,11 +6,11 @@ ghost use Rattle.schedule_book.specs.declared.dated.DatedNumber.{DatedNumber as 
 ghost use Rattle.schedule_book.specs.Expansions.{AddsRow, AllDiffer, Expands, HasNone, HasShared, IsAmong, RepeatsOne, Seen, SeenAt, StillSeen, name_in, name_of, number_of};
 ghost use Rattle.schedule_book.specs.Faults.{RowCause, RowsRight};
 
+use crate::SchedFault;
 use crate::dated::{DatedNumber, FlightName};
 use crate::places::Places;
 use crate::row_days::{flight_on, name_of, names, number_of};
 use crate::row_faults::own_fault;
-use crate::SchedFault;
 use fare_law::{Flight, FlightRow, MOST_DATED_FLIGHTS};
 use std::alloc::Global;
 use std::collections::HashSet;

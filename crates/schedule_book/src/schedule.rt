@@ -9,12 +9,12 @@ ghost use Rattle.schedule_book.specs.Departures.{AreDepartures};
 ghost use Rattle.schedule_book.specs.Faults.{HasCause, IsKnown, PlacesDiffer, RowsRight};
 ghost use Rattle.schedule_book.specs.LocalDays.{KeepsDay};
 
+use crate::SchedFault;
 use crate::departures::Departures;
 use crate::expansion::expand;
 use crate::numbering::put_in_order;
 use crate::places::Places;
 use crate::times::Times;
-use crate::SchedFault;
 use fare_law::{Flight, FlightRow, List, MOST_DATED_FLIGHTS, Place, PlaceRow};
 use std::alloc::Global;
 use std::marker::Model;

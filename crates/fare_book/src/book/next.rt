@@ -8,10 +8,10 @@ ghost use Rattle.fare_book.specs.Drafts.{Drafts};
 ghost use Rattle.fare_book.specs.Taking.{HasCause, NoneStops};
 
 use super::Book;
+use crate::BookFault;
 use crate::draft::Draft;
 use crate::sheets::{place_tables, touch_stale};
 use crate::taking::take_actions;
-use crate::BookFault;
 use fare_law::{BookWhy, Filing, List, MOST_ENTRIES, Mem, Refused};
 use std::alloc::Global;
 use std::collections::{HashMap, HashSet};
