@@ -6,6 +6,7 @@ ghost use Rattle.certificate_check.specs.Tables.{HasRows, IsLater};
 ghost use Rattle.fare_law.specs.Limits.{IsRequest};
 ghost use Rattle.fare_law.specs.Lists.{AllDifferent, Each};
 ghost use Rattle.certificate.specs.declared.parts.CertAnswer.{CertAnswer as AnyAnswer};
+ghost use Rattle.fare_law.specs.declared.limits.TheConstants.{MOST_COMPONENTS};
 
 use crate::fronts::{Front, front_holds};
 use crate::stepping::{goes_on, move_price};
@@ -110,7 +111,7 @@ fn later_holds(
     requires there { i < length answers.now }
     requires before { Each (AnswerHolds steps.old.case.book.now steps.old.case.request.now table.now.rows.now answers.now) (take i answers.now) }
     requires some { 1 ≤ length front.now.moves.now }
-    requires short { length front.now.moves.now < 18 }
+    requires short { length front.now.moves.now < MOST_COMPONENTS }
     requires front { IsFront answers.now front.now.moves.now }
     requires leads { LeadsTo steps.old.case.book.now steps.old.case.request.now front.now.moves.now front.now.residual front.now.price }
     ensures holds { IfOk result (λ holds. MatchBool holds (FrontHolds steps.old.case.book.now steps.old.case.request.now table.now.rows.now answers.now front.now.moves.now)

@@ -7,12 +7,13 @@ ghost use Rattle.fare_law.specs.Best.{Before};
 ghost use Rattle.fare_law.specs.Codes.{run_code};
 ghost use Rattle.fare_law.specs.Limits.{IsRequest};
 ghost use Rattle.fare_law.specs.Lists.{AllDifferent};
+ghost use Rattle.fare_law.specs.declared.limits.TheConstants.{MOST_COMPONENTS};
 
 use crate::table::Table;
 use crate::taking::{count_beginning, is_taken};
 use certificate::CertAnswer;
 use fare_component::Plain;
-use fare_law::{ArrayVec, Mem, Move, Request};
+use fare_law::{ArrayVec, MOST_COMPONENTS, Mem, Move, Request};
 use residual_keys::{Residual, one_next};
 use residual_table::ResidualKey;
 use search_steps::{LeastMove, SearchSteps};
@@ -39,7 +40,7 @@ pub fn front_holds(
     requires request { IsRequest steps.old.case.request.now }
     requires differ { AllDifferent (map (λ row. row.residual) table.now.rows.now) }
     requires table { HasRows steps.old table.now.bounds table.now.rows.now }
-    requires short { length front.now.moves.now < 18 }
+    requires short { length front.now.moves.now < MOST_COMPONENTS }
     requires front { IsFront answers.now front.now.moves.now }
     requires leads { LeadsTo steps.old.case.book.now steps.old.case.request.now front.now.moves.now front.now.residual front.now.price }
     ensures holds { IfOk result (λ holds. MatchBool holds (FrontHolds steps.old.case.book.now steps.old.case.request.now table.now.rows.now answers.now front.now.moves.now)
@@ -81,7 +82,7 @@ fn comes_after(
     front: &Front,
     departing: &LeastMove<ResidualKey>,
 ) -> bool
-    requires { length front.now.moves.now < 18 }
+    requires { length front.now.moves.now < MOST_COMPONENTS }
     ensures { IsTrue result ↔ ComesAfter request.now answers.now (front.now.moves.now ++ departing.now.mv ∷ []) (front.now.price + departing.now.total) }
 {
     if answers.len() != request.best as usize {
@@ -95,7 +96,7 @@ fn comes_after(
 
 /// Whether an answer comes before a departure.
 fn is_before(last: &CertAnswer, front: &Front, departing: &LeastMove<ResidualKey>) -> bool
-    requires { length front.now.moves.now < 18 }
+    requires { length front.now.moves.now < MOST_COMPONENTS }
     ensures { IsTrue result ↔ Before last.now.price (run_code last.now.moves) (front.now.price + departing.now.total) (run_code (front.now.moves.now ++ departing.now.mv ∷ [])) }
 {
     let price = u128::from(last.price);
@@ -112,8 +113,8 @@ fn is_before(last: &CertAnswer, front: &Front, departing: &LeastMove<ResidualKey
 }
 
 /// The moves and one more.
-fn with_move(moves: &[Move], mv: &Move) -> ArrayVec<Move, 18>
-    requires { length moves.now < 18 }
+fn with_move(moves: &[Move], mv: &Move) -> ArrayVec<Move, MOST_COMPONENTS>
+    requires { length moves.now < MOST_COMPONENTS }
     ensures { result ≡ moves.now ++ mv.now ∷ [] }
 {
     let mut all = ArrayVec::new();

@@ -4,7 +4,7 @@ ghost use Rattle.fare_law.specs.Lists.{Each, Matched};
 ghost use Rattle.pricing_graph.specs.DrawnRuns.{HasMoves, IsReadAs};
 
 use best_k::Derivation;
-use fare_law::{ArrayVec, List, Mem, Move};
+use fare_law::{ArrayVec, List, MOST_COMPONENTS, Mem, Move};
 use std::alloc::Global;
 use ticket_order::moves_of_code;
 
@@ -12,7 +12,7 @@ use ticket_order::moves_of_code;
 #[derive(Debug, Drop)]
 pub struct DrawnRun {
     pub price: u64,
-    pub moves: ArrayVec<Move, 18>,
+    pub moves: ArrayVec<Move, MOST_COMPONENTS>,
 }
 
 /// Runs whose words are codes, with their moves.
