@@ -1,11 +1,12 @@
 #!/usr/bin/env bash
-# Changes the examples at random and compares the program with another one of the same formats, byte for byte and by status:
-# bench/fuzz.sh PEER FIRST COUNT. What was counted and the cases that differ are kept in the folder DONE, or in the one that it names.
+# Changes the examples at random and compares the program with the reference, or with another program of the same formats that PEER names,
+# byte for byte and by status: bench/fuzz.sh FIRST COUNT. What was counted and the cases that differ are kept in the folder that DONE names,
+# or in a new one.
 set -euo pipefail
 top=$(cd "$(dirname "$0")/.." && pwd)
 # shellcheck source=bench/survey/program.sh
 source "$top/bench/survey/program.sh"
-peer=$1 first=$2 count=$3
+first=$1 count=$2
 done=${DONE:-$(mktemp -d)}
 echo "how far the run came, and cases that differ: $done"
-survey fuzz/fuzz.py "$program" "$peer" "$first" "$count" "$done"
+survey fuzz/fuzz.py "$program" "${peer:?}" "$first" "$count" "$done"

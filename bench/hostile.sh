@@ -1,14 +1,15 @@
 #!/usr/bin/env bash
 # Runs all that is tried against the program, one part after the other, and prints the tables for docs/RELIABILITY.md:
-# bench/hostile.sh PEER DONE [CASES [PART ..]]. PEER is another program of the same formats, CASES how many random cases are compared
-# (100,000), and the parts are memory, streams, damage, limits, differ, fuzz, desks and memcheck. The folder DONE keeps how far each part came:
-# called again with it, a run that was cut off goes on, and what is done isn't done again. JOBS is how many runs there are at a time (1).
+# bench/hostile.sh DONE [CASES [PART ..]]. CASES says how many random cases are compared with the reference, or with another program of the
+# same formats that PEER names (100,000), and the parts are memory, streams, damage, limits, differ, fuzz, desks and memcheck. The folder DONE
+# keeps how far each part came: called again with it, a run that was cut off goes on, and what is done isn't done again. JOBS is how many runs
+# there are at a time (1).
 set -euo pipefail
 top=$(cd "$(dirname "$0")/.." && pwd)
 # shellcheck source=bench/survey/program.sh
 source "$top/bench/survey/program.sh"
-peer=$1 done=$2 cases=${3:-100000}
-parts=("${@:4}")
+done=$1 cases=${2:-100000}
+parts=("${@:3}")
 [ ${#parts[@]} -gt 0 ] || parts=(memory streams damage limits differ fuzz desks memcheck)
 export LOWFARE=$program DONE=$done
 
@@ -24,9 +25,8 @@ status=0
 for part in "${parts[@]}"; do
   echo "$(date -u +%H:%M:%S) $part"
   case $part in
-    memory | streams | memcheck) "$top/bench/$part.sh" "$done" ;;
-    damage | limits) "$top/bench/$part.sh" "$peer" "$done" ;;
-    differ | fuzz | desks) "$top/bench/$part.sh" "$peer" 1 "$cases" ;;
+    memory | streams | memcheck | damage | limits) "$top/bench/$part.sh" "$done" ;;
+    differ | fuzz | desks) "$top/bench/$part.sh" 1 "$cases" ;;
     *) echo "no such part: $part" >&2 && exit 2 ;;
   esac || status=1
 done

@@ -9,8 +9,9 @@ import random
 import sys
 
 from cases import request_of, slices_of
+from features import outcomes
 from filings import Filings
-from survey import Survey, ran, serves
+from survey import LATE, Survey, ran, serves
 from timetable import Timetable
 
 
@@ -58,6 +59,7 @@ class Judge:
 
     def __init__(self, peer, case, options):
         self.peer, self.case, self.options = peer, case, options
+        self.answers = {}
         self.accepted, self.history, self.refusals = list(case.filings), [], []
         self.floors = [len(case.filings)]
         for number, filing in enumerate(case.later, 1):
@@ -78,9 +80,17 @@ class Judge:
         return [f"history {len(self.accepted)}", *opening, *self.history, *self.refusals]
 
     def answer(self, request, version):
+        """The lines of the answer of a version, which is asked for once."""
+        if (request, version) not in self.answers:
+            self.answers[request, version] = self.asked(request, version)
+        return self.answers[request, version]
+
+    def asked(self, request, version):
         words = ["search", "--at", str(version), *self.options]
-        text, _ = ran(self.peer, words, self.case.search_text(self.accepted, self.case.requests[request - 1]))
-        lines = text.decode().splitlines()
+        told = ran(self.peer, words, self.case.search_text(self.accepted, self.case.requests[request - 1]))
+        if told == LATE:
+            raise TimeoutError
+        lines = told[0].decode().splitlines()
         if lines == ["too large"]:
             return lines
         return lines[1 : next(at for at, line in enumerate(lines) if line.startswith("certificate "))]
@@ -125,12 +135,17 @@ def main():
         if refused:
             # The line is another one, since later filings stand in between.
             right = status == 1 and text.split()[2:] in [other[0].split()[2:] for other in refused]
-            return ["refused"], None if right else (f"status {status} for a refusal", case.text())
+            return list(outcomes(["serve"], text, status)), None if right else (f"status {status} for a refusal", case.text())
         if status != 0:
             return ["wrong"], (f"status {status}", case.text())
         judged = Judge(peer, case, options)
-        wrong = judged.wrong(text.decode().splitlines())
-        names = [f"{min(case.desks, len(case.script))} desks", *(["a later filing refused"] if judged.refusals else [])]
+        try:
+            wrong = judged.wrong(text.decode().splitlines())
+        except TimeoutError:
+            return ["the other program took too long"], None
+        names = [f"serve, status {status}", f"{min(case.desks, len(case.script))} desks"]
+        names += [f"a later filing refused: {' '.join(line.split()[5:])}" for line in judged.refusals]
+        names += ["a reply too large"] * text.decode().count("too large")
         names += ["reply"] * text.decode().count("reply ")
         return names, (wrong, case.text()) if wrong else None
 

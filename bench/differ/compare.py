@@ -6,8 +6,8 @@ usage: compare.py PRODUCT PEER FIRST COUNT DONE [COMMAND ..]   (with commands: o
 import sys
 
 from cases import case_of
-from features import features
-from survey import Survey, ran
+from features import features, outcomes
+from survey import LATE, Survey, ran
 
 
 def main():
@@ -24,7 +24,9 @@ def main():
         if commands and command not in commands:
             return ["left out"], None
         ours, theirs = ran(product, words, case), ran(peer, words, case)
-        seen = [f"{command if command.isalpha() else 'other words'}, status {theirs[1]}", *set(features(words or [""], case, *theirs, answered))]
+        if theirs == LATE:
+            return ["the other program took too long"], None
+        seen = [*outcomes(words, *theirs), *set(features(words or [""], case, *theirs, answered))]
         if ours == theirs:
             return seen, None
         return [*seen, "differs"], (f"seed {seed}: {' '.join(words)}: status {ours[1]} and {theirs[1]}", case)

@@ -129,10 +129,20 @@ def of_search(words, case, out, answered):
             yield "a tie at the last place"
 
 
-def features(words, case, out, status, answered):
-    """Names of what the case of these words and this answer has; of a case that is refused the reason."""
+def outcomes(words, out, status):
+    """Names of what came: the command and the status, a refusal's reason, the check that fails, the breaches of a ticket."""
+    command = next((word for word in words if not word.startswith("-")), "")
+    yield f"{command if command.isalpha() else 'other words'}, status {status}"
     if status == 1:
         yield "refused " + " ".join(word for word in out.decode().split()[2:] if not word.isdigit())
+    elif command == "check" and status in (0, 7):
+        yield f"check {out.decode().split(' ')[1] if status else 'yes'}"
+    elif command == "verdict" and status == 0:
+        yield from sorted({f"breach {line.split(' ')[1]}" for line in out.decode().splitlines() if line.startswith("breach ")}) or ["a lawful ticket"]
+
+
+def features(words, case, out, status, answered):
+    """Names of what the case of these words and this answer has."""
     if status not in (0, 6, 7) or "make" in words:
         return
     sections = sections_of(case)
@@ -144,7 +154,3 @@ def features(words, case, out, status, answered):
         yield "an earlier version"
     if "search" in words:
         yield from of_search(words, case, out, answered)
-    elif "check" in words:
-        yield f"check {out.decode().split(' ')[1] if status else 'yes'}"
-    elif "verdict" in words:
-        yield from {f"breach {line.split(' ')[1]}" for line in out.decode().splitlines() if line.startswith("breach ")} or {"a lawful ticket"}

@@ -8,7 +8,8 @@ import random
 import re
 import sys
 
-from survey import Survey, ran
+from features import outcomes
+from survey import LATE, Survey, ran
 from worked import examples
 
 MOST_BYTES = 100000
@@ -95,8 +96,10 @@ def main():
         seed = int(first) + number
         words, case = case_of(seed, every, lawful)
         ours, theirs = ran(program, words, case), ran(peer, words, case)
+        if theirs == LATE:
+            return ["the other program took too long"], None
         if ours == theirs:
-            return [f"status {ours[1]}"], None
+            return list(outcomes(words, *theirs)), None
         return ["differs"], (f"seed {seed}: {' '.join(words)}: status {ours[1]} and {theirs[1]}", case)
 
     sys.exit(0 if Survey(done, f"fuzz-{first}").run(int(count), judge) else 1)

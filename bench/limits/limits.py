@@ -62,7 +62,7 @@ def main():
             json.dump({"|".join(key): value for key, value in figures.items()}, held, indent=1)
     wrong = [key for key, value in figures.items() if not value["right"]]
     with open(f"{done}/limits.md", "w") as held:
-        held.write("| Limit | At it | Past it | At it, lowfare | At it, plain Rust |\n|---|---|---|---|---|\n")
+        held.write("| Limit | At it | Past it | At it, lowfare | At it, the other program |\n|---|---|---|---|---|\n")
         for limit in dict.fromkeys(limit for limit, _ in figures):
             held.write(shown(limit, figures) + "\n")
     with open(f"{done}/limits.json", "w") as held:

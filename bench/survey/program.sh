@@ -11,6 +11,10 @@ if [ ! -x "$program" ]; then
   exit 1
 fi
 
+# The program to compare with: what PEER names, else the reference of this repository.
+# shellcheck disable=SC2034
+peer=${PEER:-$top/reference/run}
+
 # Runs one of the surveys.
 survey() {
   PYTHONPATH=$top/bench/survey:$top/bench/differ PYTHONDONTWRITEBYTECODE=1 python3 "$top/bench/$1" "${@:2}"

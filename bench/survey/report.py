@@ -47,12 +47,12 @@ def main():
             left = "" if reached == count else f" of {times(count)}"
             wrong = sum(len(one["found"]) for one in every[part])
             print(f"| {what} | {times(reached)}{left} | {wrong or 'none'} | {sum(one['seconds'] for one in every[part]):.0f} |")
-    for part in ("memory", "damage", "fuzz", "memcheck"):
+    for part in ("memory", "damage", "memcheck"):
         if every[part]:
             print(f"\n| {part} | Times | What came |\n|---|---|---|")
         for one in every[part]:
             print(f"| {one['name'].removeprefix(part + '-')} | {times(one['reached'])} | {listed(one['seen'])} |")
-    for part in ("streams", "differ", "desks"):
+    for part in ("streams", "differ", "fuzz", "desks"):
         seen = sum((collections.Counter(one["seen"]) for one in every[part]), collections.Counter())
         if seen:
             print(f"\n| {part} | Times |\n|---|---|")

@@ -3,16 +3,44 @@ import collections
 import json
 import multiprocessing
 import os
+import pathlib
+import signal
 import subprocess
+import sys
 import time
 
+TOP = pathlib.Path(__file__).resolve().parent.parent.parent
+REFERENCE = str(TOP / "reference" / "run")
+LATE = (b"", "late")
 MOST_SECONDS = 300
+MOST_SECONDS_OF_REFERENCE = 60
 CHUNK = 50
 PROGRESS_SECONDS = 10
 
 
+def told_by_reference(words, given):
+    """What the reference writes for these words and these bytes, and its status. It is called in this process, which spares its start."""
+    sys.path[:0] = [] if str(TOP) in sys.path else [str(TOP)]
+    from reference.program import answer
+
+    def stop(*_):
+        raise TimeoutError
+
+    signal.signal(signal.SIGALRM, stop)
+    signal.alarm(MOST_SECONDS_OF_REFERENCE)
+    try:
+        text, status = answer(list(words), lambda most: given[:most])
+    except TimeoutError:
+        return LATE
+    finally:
+        signal.alarm(0)
+    return text.encode(), status
+
+
 def ran(program, words, given, **more):
     """What a program writes for these words and these bytes, and its status; `late` where it doesn't end."""
+    if program == REFERENCE and not more:
+        return told_by_reference(words, given)
     file = os.memfd_create("case")
     try:
         with open(file, "wb", closefd=False) as held:
@@ -21,7 +49,7 @@ def ran(program, words, given, **more):
         more = {"stdout": subprocess.PIPE, "stderr": subprocess.DEVNULL, "timeout": MOST_SECONDS, **more}
         end = subprocess.run([program, *words], stdin=file, **more)
     except subprocess.TimeoutExpired:
-        return b"", "late"
+        return LATE
     finally:
         os.close(file)
     return end.stdout, end.returncode
