@@ -1,6 +1,7 @@
 -- What a board and a pass are to a contract.
-use Rattle.std.specs.Prelude.{◌≡◌, ℕ, List, [], ◌∷◌, Option, Some, None}
+use Rattle.std.specs.Prelude.{◌≡◌, ℕ, List, [], ◌∷◌, Option, Some, None, unwrap_or}
 use Rattle.atomic_table.specs.Seated.{TableId}
+use Rattle.board_slots.specs.declared.mark.Mark.{Mark}
 
 -- which board it is, and its number
 pub record BoardView : Type 0 where
@@ -11,6 +12,10 @@ pub record BoardView : Type 0 where
 pub record PassView : Type 0 where
   pub of : BoardView
   pub held : Option ℕ
+
+-- what a view shows; no pass has a view that shows nothing
+abbrev pub mark_of : Option Mark → Mark
+mark_of view = unwrap_or view (record { number = 0; held = None })
 
 module _ {S : Type 0} where
   -- the seat holds this slot and no other

@@ -3,8 +3,12 @@
 #![tactic(auto)]
 
 mod board;
+mod laws;
+mod mark;
 mod pass;
 mod rule;
 
 pub use board::SlotBoard;
+pub use laws::slots_are_apart;
+pub use mark::Mark;
 pub use pass::SlotPass;

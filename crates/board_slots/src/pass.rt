@@ -1,12 +1,14 @@
 //! Passes of a board.
 ghost use Rattle.std.specs.Prelude.{◌≡◌, ◌<◌, ℕ, [], Some, None, IfNone, IfSome};
+ghost use Rattle.board_slots.specs.Standing.{free};
 
 use crate::board::SlotBoard;
 use crate::rule::{GivesBack, Halves, Reads, SlotSeat, Takes};
 use std::marker::Model;
 
 /// One who takes values out of a board's slots and puts them back, one at a time. Contracts see its board
-/// and the slot that it holds. A slot stays out where a pass is dropped that holds it.
+/// and the slot that it holds, as its seat shows it at the board's table: so no two passes of a board hold one slot
+/// (`slots_are_apart`). A slot stays out where a pass is dropped that holds it.
 #[derive(Drop)]
 pub struct SlotPass<T> {
     seat: SlotSeat<T>,
@@ -14,20 +16,20 @@ pub struct SlotPass<T> {
 }
 
 impl<T> Model for SlotPass<T> {
-    ghost use Rattle.std.specs.Prelude.{◌≡◌, Some, unwrap_or};
-    ghost use Rattle.board_slots.specs.Holding.{Holds, PassView};
+    ghost use Rattle.std.specs.Prelude.{◌≡◌, Some};
+    ghost use Rattle.board_slots.specs.Holding.{Holds, PassView, mark_of};
 
     ghost Value = { PassView };
 
-    ghost view = { λ p. record { of = record { board = p.seat.table_id; number = unwrap_or p.seat.me.0 0 }; held = p.held } };
+    ghost view = { λ p. record { of = record { board = p.seat.table_id; number = (mark_of p.seat.me.0).number }; held = (mark_of p.seat.me.0).held } };
 
-    ghost invariant = { λ p. (p.seat.me.0 ≡ Some (unwrap_or p.seat.me.0 0)) × Holds p.held p.seat.me.1 };
+    ghost invariant = { λ p. (p.seat.me.0 ≡ Some (mark_of p.seat.me.0)) × (p.held ≡ (mark_of p.seat.me.0).held) × Holds p.held p.seat.me.1 };
 }
 
 impl<T: Drop> SlotPass<T> {
     pub(crate) fn new(seat: SlotSeat<T>) -> SlotPass<T>
-        requires { (n : ℕ) × (seat.me ≡ (Some n, [])) }
-        ensures { (result.of.board ≡ seat.table_id) × (Some result.of.number ≡ seat.me.0) × (result.held ≡ None) }
+        requires { (n : ℕ) × (seat.me ≡ (Some (free n), [])) }
+        ensures { (result.of.board ≡ seat.table_id) × (Some (free result.of.number) ≡ seat.me.0) × (result.held ≡ None) }
     {
         SlotPass { seat, held: None }
     }

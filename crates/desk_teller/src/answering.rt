@@ -1,10 +1,11 @@
 //! Answers to one ask.
 ghost use Rattle.std.specs.Prelude.{◌≡◌, ◌<◌, ◌≤◌, ◌-◌, length, slice_get, None, Some, IfOk, OnOk};
-ghost use Rattle.desk_teller.specs.Outcomes.{IsOutcome};
+ghost use Rattle.desk_teller.specs.Outcomes.{AnswersAsk};
 ghost use Rattle.fare_law.specs.Requests.{judged, known_places};
 ghost use Rattle.fare_versions.specs.Published.{Grows};
 ghost use Rattle.fare_versions.specs.Seen.{seen_by};
 ghost use Rattle.search_desk.specs.Desks.{Has};
+ghost use Rattle.serve_desks.specs.Wants.{CountsWants};
 
 use fare_book::Book;
 use fare_component::Plain;
@@ -23,6 +24,17 @@ pub(crate) fn ask_of(asks: &List<Ask>, request: u32) -> &Ask
     &asks.as_slice()[request as usize - 1]
 }
 
+/// How often memory was wanting, after this answer.
+pub(crate) fn counted<T>(wants: u32, answer: &Result<T, Mem>) -> u32
+    requires { wants ≡ 0 }
+    ensures { CountsWants wants result answer.now }
+{
+    match answer {
+        Ok(_) => wants,
+        Err(_) => wants + 1,
+    }
+}
+
 /// Looks once, and answers the ask from that version.
 pub(crate) fn reply_by<G: Gate>(
     alloc: Global,
@@ -38,7 +50,7 @@ pub(crate) fn reply_by<G: Gate>(
     ensures told { desk.new.sight.told ≡ desk.old.sight.told }
     ensures learnt { OnOk result (Has desk.old.sight.told desk.new.sight.book) }
     ensures number { IfOk result (λ r. r.number ≡ length desk.new.sight.book.entries) }
-    ensures outcome { IfOk result (λ r. IsOutcome ask.now desk.new.sight.book.timetable desk.new.sight.book.entries r.body) }
+    ensures outcome { IfOk result (λ r. AnswersAsk ask.now desk.new.sight.book.timetable desk.new.sight.book.entries r.body) }
 {
     match desk.search(alloc, store, &ask.request, ask.budget, gate) {
         Ok(answer) => Ok(Reply {
@@ -58,7 +70,7 @@ pub(crate) fn reply_by<G: Gate>(
 pub(crate) fn reply_from(alloc: Global, book: &Book, ask: &Ask) -> Result<Reply, Mem>
     requires { judged (known_places book.now) ask.now.request ≡ None }
     ensures number { IfOk result (λ r. r.number ≡ length book.now.entries) }
-    ensures outcome { IfOk result (λ r. IsOutcome ask.now book.now.timetable book.now.entries r.body) }
+    ensures outcome { IfOk result (λ r. AnswersAsk ask.now book.now.timetable book.now.entries r.body) }
 {
     match search(alloc, book, &ask.request, ask.budget, &mut Plain) {
         Ok(answer) => Ok(Reply {

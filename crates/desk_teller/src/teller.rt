@@ -2,7 +2,7 @@
 ghost use Rattle.std.specs.Prelude.{◌≡◌};
 ghost use Rattle.desk_teller.specs.Tellers.{AreAllowed};
 
-use crate::answering::{ask_of, reply_by, reply_from};
+use crate::answering::{ask_of, counted, reply_by, reply_from};
 use fare_book::Book;
 use fare_law::{Gate, List, Mem};
 use fare_versions::Receipt;
@@ -14,13 +14,15 @@ use std::marker::Model;
 use std::sync::Arc;
 
 /// A desk that answers asks, by a store of nodes that it shares with others. Contracts see what the desk saw and was
-/// told of, and the asks.
+/// told of, the asks, and at how many questions it wanted memory.
 #[derive(Drop)]
 pub struct DeskTeller<'a, G: Gate> {
     desk: Desk,
     store: &'a NodeStore,
     asks: &'a List<Ask>,
     gate: &'a G,
+    /// At how many questions it wanted memory.
+    wants: u32,
 }
 
 impl<'a, G: Gate> Model for DeskTeller<'a, G> {
@@ -29,7 +31,7 @@ impl<'a, G: Gate> Model for DeskTeller<'a, G> {
 
     ghost Value = { TellerView };
 
-    ghost view = { λ t. record { sight = t.desk.sight; asks = t.asks.now } };
+    ghost view = { λ t. record { sight = t.desk.sight; asks = t.asks.now; wants = t.wants } };
 
     ghost invariant = { λ t. (t.desk.pass.cells ≡ t.store.now) × AreAllowed t.desk.sight.book t.asks.now };
 }
@@ -44,19 +46,20 @@ impl<'a, G: Gate> DeskTeller<'a, G> {
     ) -> DeskTeller<'a, G>
         requires own { desk.pass.cells ≡ store.now }
         requires allowed { AreAllowed desk.sight.book asks.now }
-        ensures { result ≡ record { sight = desk.sight; asks = asks.now } }
+        ensures { result ≡ record { sight = desk.sight; asks = asks.now; wants = 0 } }
     {
         DeskTeller {
             desk,
             store,
             asks,
             gate,
+            wants: 0,
         }
     }
 }
 
 impl<'a, G: Gate> Teller for DeskTeller<'a, G> {
-    ghost use Rattle.desk_teller.specs.Outcomes.{IsOutcome};
+    ghost use Rattle.desk_teller.specs.Outcomes.{AnswersAsk};
 
     ghost house = { λ t. t.sight.house };
 
@@ -66,16 +69,22 @@ impl<'a, G: Gate> Teller for DeskTeller<'a, G> {
 
     ghost terms = { λ t. record { asks = t.asks; timetable = t.sight.book.timetable } };
 
-    ghost right = { IsOutcome };
+    ghost wants = { λ t. t.wants };
+
+    ghost right = { AnswersAsk };
 
     fn answer(&mut self, alloc: Global, request: u32) -> Result<Reply, Mem> {
         let ask = ask_of(self.asks, request);
-        reply_by(alloc, &mut self.desk, self.store, ask, self.gate)
+        let reply = reply_by(alloc, &mut self.desk, self.store, ask, self.gate);
+        self.wants = counted(self.wants, &reply);
+        reply
     }
 
     fn answer_from(&mut self, alloc: Global, book: &Arc<Book>, request: u32) -> Result<Reply, Mem> {
         let ask = ask_of(self.asks, request);
-        reply_from(alloc, book, ask)
+        let reply = reply_from(alloc, book, ask);
+        self.wants = counted(self.wants, &reply);
+        reply
     }
 
     fn learn(&mut self, receipt: &Receipt) {
@@ -84,6 +93,8 @@ impl<'a, G: Gate> Teller for DeskTeller<'a, G> {
 
     fn settle(&mut self, _alloc: Global, receipt: &Receipt) -> Result<u32, Mem> {
         self.desk.learn(receipt);
-        self.desk.look()
+        let number = self.desk.look();
+        self.wants = counted(self.wants, &number);
+        number
     }
 }

@@ -60,11 +60,7 @@ least_of b q price h = best_is_least b q h.ticket h.others price h.best h.costs
 
 pub cells_cost : (b : Book) (q : Request) (outs backs price : ℕ) → CellsLeast b q outs backs price → CellsCost b q outs backs price
 cells_cost b q outs backs price c = record {
-  out = c.out;
-  back = c.back;
-  out_within = c.out_within;
-  back_within = c.back_within;
-  some = λ none. none_lawful b (cell q c.out c.back) c.has.ticket (omega arith) none c.has.lawful;
+  cells = c;
   here = λ other first. least_one b (cell q c.out c.back) other price (least_of b _ other first) c.has;
   least = λ i j other oi bj first.
       let h = least_of b (cell q i j) other first in

@@ -1,6 +1,6 @@
 -- What the cells of a calendar have to do with the best tickets over all their days.
 use Rattle.std.specs.Prelude.{◌≡◌, ℕ, ◌≤◌, ◌<◌, List, [], ◌∷◌}
-use Rattle.calendar_law.specs.Cells.{cell}
+use Rattle.calendar_law.specs.Cells.{CellsLeast, cell}
 use Rattle.fare_law.specs.declared.requests.Request.{Request}
 use Rattle.fare_law.specs.declared.tickets.Ticket.{Ticket}
 use Rattle.fare_law.specs.Best.{Best, Costs}
@@ -13,14 +13,11 @@ pub record FirstCosts (b : Book) (q : Request) (price : ℕ) : Type 0 where
   pub best : Best b q (ticket ∷ others)
   pub costs : Costs ticket b q price
 
--- The least price of the cells' best tickets: some cell has one, at this price, and no cell's is cheaper.
+-- The least price of the cells' best tickets: some cell has a ticket, the cheapest of it is at this price, and no cell's
+-- is cheaper.
 pub record CellsCost (b : Book) (q : Request) (outs backs price : ℕ) : Type 0 where
-  pub out : ℕ
-  pub back : ℕ
-  pub out_within : out < outs
-  pub back_within : back < backs
-  pub some : Best b (cell q out back) [] → ⊥
-  pub here : (other : ℕ) → FirstCosts b (cell q out back) other → other ≡ price
+  pub cells : CellsLeast b q outs backs price
+  pub here : (other : ℕ) → FirstCosts b (cell q cells.out cells.back) other → other ≡ price
   pub least : (i j other : ℕ) → i < outs → j < backs → FirstCosts b (cell q i j) other → price ≤ other
 
 -- no cell has a best ticket

@@ -1,6 +1,7 @@
 -- What a watch is to a contract.
-use Rattle.std.specs.Prelude.{◌≡◌, List, [], Option, unwrap_or}
+use Rattle.std.specs.Prelude.{◌≡◌, ◌≤◌, List, [], length, Option, unwrap_or}
 use Rattle.fare_law.specs.Book.{Book}
+use Rattle.fare_law.specs.Lists.{IsPrefix}
 use Rattle.fare_law.specs.declared.filings.Filing.{Filing}
 use Rattle.filing_log.specs.Histories.{House, HouseHistory}
 use Rattle.fare_versions.specs.Published.{Published}
@@ -29,3 +30,10 @@ pub record HasSeen (p : Published) (w : Sight) : Type 0 where
   pub house : w.house ≡ p.house
   pub book : w.book ≡ p.book
   pub told : w.told ≡ p.book.entries
+
+-- Two versions of one history: the shorter begins the longer, and where they have as many filings they have the same, and
+-- over the same timetable they are equal.
+pub record SeeOneHistory (one other : Book) : Type 0 where
+  pub begins : length one.entries ≤ length other.entries → IsPrefix one.entries other.entries
+  pub entries : length one.entries ≡ length other.entries → one.entries ≡ other.entries
+  pub same : one.timetable ≡ other.timetable → length one.entries ≡ length other.entries → one ≡ other

@@ -2,14 +2,15 @@
 ghost use Rattle.std.specs.Prelude.{◌≡◌, ◌≤◌, [], length, IfErr, IfOk, OnErr, OnOk};
 ghost use Rattle.std.specs.Arc.{arc_value};
 ghost use Rattle.fare_law.specs.FilingLimits.{IsFiling};
-ghost use Rattle.fare_versions.specs.Filed.{HasCause, IsFaultless, book_with};
+ghost use Rattle.fare_versions.specs.Filed.{HasCause};
 ghost use Rattle.fare_versions.specs.Published.{Grows, history_of};
 ghost use Rattle.fare_versions.specs.Writing.{pending, shown};
+ghost use Rattle.filing_log.specs.Filings.{IsFaultless, book_with};
 
 use crate::edition::Edition;
 use crate::faults::FileFault;
 use crate::receipt::Receipt;
-use crate::store::{EditionWriter, publish};
+use crate::store::{EditionWriter, publish_at_last};
 use core::mem::replace_with;
 use fare_book::Book;
 use fare_law::Filing;
@@ -23,21 +24,18 @@ use std::sync::{Arc, Wait};
 pub struct Clerk {
     writer: EditionWriter,
     log: FilingLog,
-    /// Whether the log ends where the published book does. It doesn't where memory was wanting between the two,
-    /// and the clerk then takes no filing any more.
-    is_even: bool,
 }
 
 impl Model for Clerk {
-    ghost use Rattle.std.specs.Prelude.{◌≡◌, [], IsTrue};
-    ghost use Rattle.fare_versions.specs.Published.{Published};
+    ghost use Rattle.std.specs.Prelude.{◌≡◌, []};
+    ghost use Rattle.fare_versions.specs.Published.{Published, history_of};
     ghost use Rattle.fare_versions.specs.Writing.{pending, shown};
 
     ghost Value = { Published };
 
     ghost view = { λ c. shown c.writer };
 
-    ghost invariant = { λ c. (c.log.house ≡ (shown c.writer).house) × (IsTrue c.is_even → (c.log.entries ≡ (shown c.writer).book.entries) × (pending c.writer ≡ [])) };
+    ghost invariant = { λ c. (c.log ≡ history_of (shown c.writer)) × (pending c.writer ≡ []) };
 }
 
 impl Clerk {
@@ -46,11 +44,7 @@ impl Clerk {
         requires pending { pending writer ≡ [] }
         ensures { result ≡ shown writer }
     {
-        Clerk {
-            writer,
-            log,
-            is_even: true,
-        }
+        Clerk { writer, log }
     }
 
     /// The last published book.
@@ -69,8 +63,7 @@ impl Clerk {
     }
 
     /// Files, and publishes the book with this filing more; the receipt is for it. A filing with a fault is
-    /// refused whole. After either fault what is published is as it was. A publish that fails for want of
-    /// memory ends filing: each later call answers `Mem`.
+    /// refused whole. After either fault what is published is as it was, and the next filing is taken.
     pub fn file<R: Wait>(
         &mut self,
         rt: &R,
@@ -85,32 +78,22 @@ impl Clerk {
         ensures same { OnErr result (self.new ≡ self.old) }
         ensures refused { IfErr result (HasCause self.old.book (arc_value filing)) }
     {
-        if !self.is_even {
-            return Err(FileFault::Mem);
-        }
         let edition = next_edition(alloc, self.writer.published(), &mut self.log, filing)?;
         let receipt = edition.receipt();
-        self.is_even = replace_with(
+        replace_with(
             &mut self.writer,
             edition,
-            |writer: EditionWriter, edition: Edition| -> (EditionWriter, bool)
+            |writer: EditionWriter, edition: Edition| -> (EditionWriter, ())
                 requires empty { pending writer ≡ [] }
                 requires later { Grows (shown writer) edition }
-            { publish(rt, writer, edition) },
+            { (publish_at_last(rt, writer, edition), ()) },
         );
-        if !self.is_even {
-            return Err(FileFault::Mem);
-        }
         Ok(receipt)
     }
 
     /// Waits for those who are looking, and uses the clerk up. Watches see nothing any more.
     pub fn end<R: Wait>(self, rt: &R) {
-        let Clerk {
-            writer,
-            log: _,
-            is_even: _,
-        } = self;
+        let Clerk { writer, log: _ } = self;
         drop(writer.take(rt));
     }
 }

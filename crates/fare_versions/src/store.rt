@@ -1,11 +1,12 @@
 //! The store of versions: two copies of an edition under one rule. Readers take the one while the writer changes
 //! the other.
-ghost use Rattle.std.specs.Prelude.{◌≡◌, [], false, Some, IsTrue};
+ghost use Rattle.std.specs.Prelude.{◌≡◌, [], ◌∷◌, false, Some, IsTrue};
 ghost use Rattle.fare_versions.specs.Published.{Grows};
 ghost use Rattle.fare_versions.specs.Writing.{last_seen, pending, shown};
 
 use crate::edition::Edition;
 use atomic_table::{Join, Split};
+use crossbeam_utils::Backoff;
 use crossbeam_utils::rule::{Outcome, Protocol};
 use left_right::reader::Reader;
 use left_right::writer::Writer;
@@ -52,6 +53,44 @@ impl Join<Option<Edition>> for Shares {
 pub type EditionReader = Reader<Edition, Option<Edition>, Growing>;
 
 pub type EditionWriter = Writer<Edition, Edition, Option<Edition>, Growing>;
+
+/// Publishes an edition. Where memory is wanting it is tried again until there is some: what was filed stands in the
+/// history by then, and can't be taken back. Since `begin` made the room, the first try does it; no clause says so.
+pub fn publish_at_last<R: Wait>(rt: &R, writer: EditionWriter, edition: Edition) -> EditionWriter
+    requires empty { pending writer ≡ [] }
+    requires later { Grows (shown writer) edition }
+    ensures shown { shown result ≡ edition }
+    ensures pending { pending result ≡ [] }
+{
+    let mut writer = append(rt, writer, edition);
+    let backoff = Backoff::new();
+    for _ in rt.forever() {
+        let (next, answer) = writer.publish_as::<Sees, R>(rt);
+        writer = next;
+        if answer.is_ok() {
+            return writer;
+        }
+        backoff.snooze();
+    }
+    unreachable!()
+}
+
+/// Puts an edition behind what is published, likewise.
+fn append<R: Wait>(rt: &R, mut writer: EditionWriter, mut edition: Edition) -> EditionWriter
+    requires { pending writer ≡ [] }
+    ensures shown { shown result ≡ shown writer }
+    ensures pending { pending result ≡ edition ∷ [] }
+{
+    let backoff = Backoff::new();
+    for _ in rt.forever() {
+        match writer.append(edition) {
+            Ok(()) => return writer,
+            Err(back) => edition = back,
+        }
+        backoff.snooze();
+    }
+    unreachable!()
+}
 
 /// Publishes an edition, where there is memory for it, and says whether it did.
 pub fn publish<R: Wait>(

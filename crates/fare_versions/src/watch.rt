@@ -4,7 +4,7 @@ ghost use Rattle.std.specs.Arc.{arc_value};
 ghost use Rattle.left_right.specs.Sides.{view};
 ghost use Rattle.fare_law.specs.Lists.{IsPrefix};
 ghost use Rattle.fare_versions.specs.Published.{Grows};
-ghost use Rattle.fare_versions.specs.Seen.{HasSeen, seen_by};
+ghost use Rattle.fare_versions.specs.Seen.{HasSeen, SeeOneHistory, seen_by};
 
 use crate::edition::Edition;
 use crate::receipt::Receipt;
@@ -20,8 +20,8 @@ use std::sync::Arc;
 #[derive(Drop)]
 pub struct Watch {
     reader: EditionReader,
-    /// The number of the version that it saw last.
-    number: u32,
+    /// What was filed up to the version that it saw last.
+    seen: Front,
     /// The longest history that it was told of.
     told: Front,
 }
@@ -30,13 +30,14 @@ impl Model for Watch {
     ghost use Rattle.std.specs.Prelude.{◌≡◌, ◌≤◌, length, Some};
     ghost use Rattle.left_right.specs.Sides.{view as known};
     ghost use Rattle.fare_law.specs.declared.limits.TheConstants.{MOST_ENTRIES};
+    ghost use Rattle.fare_versions.specs.Published.{history_of};
     ghost use Rattle.fare_versions.specs.Seen.{Sight, seen_of, sight_of};
 
     ghost Value = { Sight };
 
     ghost view = { λ w. sight_of (known w.reader.place) w.told };
 
-    ghost invariant = { λ w. (known w.reader.place ≡ Some (seen_of (known w.reader.place))) × (w.told.house ≡ (seen_of (known w.reader.place)).house) × (w.number ≡ length (seen_of (known w.reader.place)).book.entries) × (length w.told.entries ≤ MOST_ENTRIES) };
+    ghost invariant = { λ w. (known w.reader.place ≡ Some (seen_of (known w.reader.place))) × (w.told.house ≡ (seen_of (known w.reader.place)).house) × (w.seen ≡ history_of (seen_of (known w.reader.place))) × (length w.seen.entries ≤ MOST_ENTRIES) × (length w.told.entries ≤ MOST_ENTRIES) };
 }
 
 impl Watch {
@@ -44,10 +45,10 @@ impl Watch {
         requires { view reader.place ≡ Some edition.now }
         ensures { HasSeen edition.now result }
     {
-        let number = edition.number();
+        let _number = edition.number();
         Watch {
             reader,
-            number,
+            seen: edition.front(),
             told: edition.front(),
         }
     }
@@ -74,32 +75,17 @@ impl Watch {
         ensures book { IfOk result.1 (λ b. arc_value b ≡ result.0.book) }
         ensures learnt { IfOk result.1 (λ b. IsPrefix self.told (arc_value b).entries) }
     {
-        let Watch {
-            reader,
-            number,
-            told,
-        } = self;
+        let Watch { reader, seen, told } = self;
         match reader.enter_as::<Sees>() {
             Ok(reading) => {
                 let edition = reading.get();
-                let number = edition.number();
+                let _number = edition.number();
+                let seen = edition.front();
                 let book = edition.book_after(&told);
                 let reader = reading.leave();
-                let watch = Watch {
-                    reader,
-                    number,
-                    told,
-                };
-                (watch, book)
+                (Watch { reader, seen, told }, book)
             }
-            Err(reader) => {
-                let watch = Watch {
-                    reader,
-                    number,
-                    told,
-                };
-                (watch, Err(Mem))
-            }
+            Err(reader) => (Watch { reader, seen, told }, Err(Mem)),
         }
     }
 
@@ -117,6 +103,15 @@ impl Watch {
     pub fn seen(&self) -> u32
         ensures { result ≡ max (length self.now.book.entries) (length self.now.told) }
     {
-        self.number.max(self.told.count() as u32)
+        self.seen.count().max(self.told.count()) as u32
+    }
+
+    /// Tells that two watches of one clerk see one history: of the versions that they saw last the shorter begins the
+    /// longer, and two of one number are equal.
+    pub fn tell_one_history(&self, other: &Watch)
+        requires { self.now.house ≡ other.now.house }
+        ensures { SeeOneHistory self.now.book other.now.book }
+    {
+        self.seen.tell_order(&other.seen);
     }
 }

@@ -1,2 +1,3 @@
+pub mod Filings
 pub mod Histories
 pub mod Steps

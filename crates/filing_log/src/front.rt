@@ -1,5 +1,5 @@
 //! Fronts: beginnings of a history.
-ghost use Rattle.std.specs.Prelude.{◌≡◌, ◌<◌, ◌⊎◌, length, MatchBool};
+ghost use Rattle.std.specs.Prelude.{◌≡◌, ◌<◌, ◌≤◌, ◌⊎◌, length, MatchBool};
 ghost use Rattle.fare_law.specs.Lists.{IsPrefix};
 
 use crate::rule::Counting;
@@ -51,6 +51,16 @@ impl Front {
         let mut both = self.seen.again();
         both.learn(&other.seen);
         self.count <= other.count
+    }
+
+    /// Tells that two fronts of the same history are beginnings of it: the shorter begins the longer, and those that are as
+    /// long as each other are equal.
+    pub fn tell_order(&self, other: &Front)
+        requires { self.now.house ≡ other.now.house }
+        ensures begins { length self.now.entries ≤ length other.now.entries → IsPrefix self.now.entries other.now.entries }
+        ensures equal { length self.now.entries ≡ length other.now.entries → self.now.entries ≡ other.now.entries }
+    {
+        let _begins = self.begins(other);
     }
 
     /// The longer of two fronts of the same history.

@@ -14,9 +14,9 @@ use Rattle.fare_law.specs.Lists.{Each}
 use Rattle.fare_law.specs.declared.requests.Request.{Request}
 use Rattle.fare_law.specs.declared.rows.PlaceRow.{PlaceRow}
 use Rattle.fare_law.specs.declared.tickets.Priced.{Priced}
-use Rattle.lowfare.specs.Searches.{IsAccepted, TellsBest}
+use Rattle.lowfare.specs.Searches.{IsAccepted, IsAcceptedByLines, TellsBest}
 use Rattle.residual_keys.specs.Searches.{ReachesMoreThan}
-use Rattle.search_check.specs.Accepted.{AddsText, with_certificate, IsAccepted as IsCaseAccepted}
+use Rattle.search_check.specs.Accepted.{AddsLines, AddsText, with_certificate, IsAccepted as IsCaseAccepted}
 use Rattle.search_core.specs.Answers.{IsAnswer}
 use Rattle.search_core.specs.declared.outcome.Answer.{Answer}
 use Rattle.whole_case.specs.declared.search.SearchCase.{SearchCase}
@@ -39,10 +39,17 @@ is_accepted found c budget law fits few made proof written = λ best at front sp
     (record { front = front; proof = proof; text = written; search = refl; check = refl }) in
     record { found = with_certificate found c; spelled = r.0; meets = r.1 }
 
+-- and by its lines
+pub is_accepted_by_lines : (found : SearchCase) (c : Certificate) (budget : ℕ) → IsCaseAccepted AddsLines found → budget < 2 ^ 32 → (ReachesMoreThan budget found.book found.request → ⊥) → CertOf found.book found.request c
+    → IsAcceptedByLines found c
+is_accepted_by_lines found c budget law fits few made = λ best at bytes added spelled adds.
+    let r = law best at budget bytes added c spelled fits few made adds in
+    record { found = with_certificate found c; spelled = r.0; meets = r.1 }
+
 pub tells_best : (found : SearchCase) (a : Answer) (head mid text : List ℕ) → IsAnswer found.book found.request a → Checks a.certificate found.book found.request → head ≡ codes "version " ++ (decimal a.number ++ codes "\n")
     → ((q : Request) → Each (IsRight found.book q) a.tickets → Adds (AnswerText found.book q (map (λ p. p.ticket) a.tickets)) head mid) → AddsCertText a.certificate mid text
-    → ((proof : List ℕ) → CertText a.certificate proof → IsAccepted found proof) → TellsBest found text
-tells_best found a head mid text is meets h told written accepted =
+    → ((proof : List ℕ) → CertText a.certificate proof → IsAccepted found proof) → IsAcceptedByLines found a.certificate → TellsBest found text
+tells_best found a head mid text is meets h told written accepted by_lines =
     let answer = told found.request (are_right found.book found.request a.tickets is.best.each is.prices) in
     record {
       tickets = map (λ p. p.ticket) a.tickets;
@@ -55,6 +62,7 @@ tells_best found a head mid text is meets h told written accepted =
       proof = written.added;
       written = written.is;
       accepted = accepted written.added written.is;
+      accepted_by_lines = by_lines;
       whole =
           joined (codes "version ") (decimal a.number) (codes "\n") answer.added written.added head mid text h answer.whole written.whole
           ∙ ap (λ n. codes "version " ++ (decimal n ++ (codes "\n" ++ (answer.added ++ written.added)))) is.number;

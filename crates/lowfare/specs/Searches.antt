@@ -9,6 +9,7 @@ use Rattle.fare_law.specs.Best.{Best}
 use Rattle.fare_law.specs.declared.tickets.Ticket.{Ticket}
 use Rattle.lowfare.specs.Cases.{ExceedsBudget, FitsBudget}
 use Rattle.lowfare.specs.Checked.{MeetsChecks}
+use Rattle.search_check.specs.Accepted.{AddsLines}
 use Rattle.whole_case.specs.Cases.{search_case}
 use Rattle.whole_case.specs.declared.search.SearchCase.{SearchCase}
 
@@ -17,8 +18,14 @@ abbrev pub IsAccepted : SearchCase → List ℕ → Type 0
 IsAccepted found proof =
     (best at : Option ℕ) (front : List ℕ) → search_case best at (front ++ codes "\n#end\n") (Ok found) → MeetsChecks best at (front ++ (codes "\n#certificate\n" ++ (proof ++ codes "#end\n")))
 
+-- So do whatever bytes have the sections of the case and, in that of the certificate, the lines of this one, however they are
+-- spelled otherwise.
+abbrev pub IsAcceptedByLines : SearchCase → Certificate → Type 0
+IsAcceptedByLines found certificate =
+    (best at : Option ℕ) (bytes added : List ℕ) → search_case best at bytes (Ok found) → AddsLines certificate bytes added → MeetsChecks best at added
+
 -- The text is the version, the answer of the best tickets of the case, and the certificate of the search, which meets the
--- checks: with its text added to it, the case is one that a check says yes to.
+-- checks: with its text or its lines added to it, the case is one that a check says yes to.
 pub record TellsBest (found : SearchCase) (text : List ℕ) : Type 0 where
   pub tickets : List Ticket
   pub best : Best found.book found.request tickets
@@ -30,6 +37,7 @@ pub record TellsBest (found : SearchCase) (text : List ℕ) : Type 0 where
   pub proof : List ℕ
   pub written : CertText certificate proof
   pub accepted : IsAccepted found proof
+  pub accepted_by_lines : IsAcceptedByLines found certificate
   pub whole : text ≡ codes "version " ++ (decimal (length found.book.entries) ++ (codes "\n" ++ (answer ++ proof)))
 
 -- The bytes spell a case within the budget, and the text tells its best tickets.

@@ -8,7 +8,8 @@ use Rattle.fare_law.specs.declared.requests.Request.{Request}
 use Rattle.fare_law.specs.Book.{Book}
 use Rattle.fare_law.specs.Lists.{Each}
 use Rattle.run_core.specs.Counting.{IsNoLower, NeverFall}
-use Rattle.run_core.specs.Worlds.{AnswersFrom, ComesOf, StepsTo, WorldView, opened, sight, with_filing}
+use Rattle.filing_log.specs.Filings.{book_with}
+use Rattle.run_core.specs.Worlds.{AnswersFrom, ComesOf, StepsTo, WorldView, opened, sight}
 use Rattle.run_core.specs.declared.events.Event.{Event}
 use Rattle.run_core.specs.declared.events.Event.TheVariants.{File, Look, Fetch, Keep, Answer}
 use Rattle.run_core.specs.declared.events.Recorded.{Recorded}
@@ -41,7 +42,7 @@ seen_after desks desk d x v less h = dite (ℕ_discrete d desk)
     (λ e. inl (e, sym (ap (λ (i : ℕ). get_or (set desks desk x) i None) e ∙ get_or-set_same desks desk x None less) ∙ h))
     (λ n. inr (n, sym (get_or-set_other desks desk d x None n) ∙ h))
 
-filed : (u : WorldView) (f : Filing) → Rises u → Rises (record u { book = with_filing u.book f })
+filed : (u : WorldView) (f : Filing) → Rises u → Rises (record u { book = book_with u.book f })
 filed u f h =
     let more = length-append u.book.entries (f ∷ []) in record {
       low = λ d v e. omega (arith, more, h.low d v e);

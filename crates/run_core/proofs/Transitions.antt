@@ -6,14 +6,15 @@ use Rattle.fare_law.specs.declared.requests.Request.{Request}
 use Rattle.fare_law.specs.Book.{Book}
 use Rattle.fare_law.specs.Requests.{judged, known_places}
 use Rattle.run_core.specs.Records.{Records}
-use Rattle.run_core.specs.Worlds.{AnswersFrom, Fetches, Files, IsFaultless, KeepsOffers, Sees, WorldView, with_filing}
+use Rattle.filing_log.specs.Filings.{IsFaultless, book_with}
+use Rattle.run_core.specs.Worlds.{AnswersFrom, Fetches, Files, KeepsOffers, Sees, WorldView}
 use Rattle.run_core.specs.declared.events.Recorded.{Recorded}
 use Rattle.run_core.proofs.ListEnds.{any_of_in, in_of_any}
 
-pub filed_by : (w : WorldView) (f : Filing) (b : Book) (v : WorldView) → b ≡ w.book → IsFaultless b f → v ≡ record w { book = with_filing b f } → Files w f v
+pub filed_by : (w : WorldView) (f : Filing) (b : Book) (v : WorldView) → b ≡ w.book → IsFaultless b f → v ≡ record w { book = book_with b f } → Files w f v
 filed_by w f b v same right next = record {
   right = subst (λ (x : Book). IsFaultless x f) same right;
-  next = next ∙ ap (λ (x : Book). record w { book = with_filing x f }) same;
+  next = next ∙ ap (λ (x : Book). record w { book = book_with x f }) same;
 }
 
 pub fetched : (w : WorldView) (desk : ℕ) (b : Book) → Sees w desk b → Fetches w desk w

@@ -7,8 +7,10 @@ use Rattle.fare_law.specs.declared.filings.Filing.{Filing}
 use Rattle.fare_law.specs.declared.requests.Request.{Request}
 use Rattle.fare_law.specs.Book.{Book}
 use Rattle.run_core.specs.Counting.{AreRecorded, IsRecordOf, askings, book_after, filed_at_look, filings}
-use Rattle.run_core.specs.Records.{IsOutcome, Records}
-use Rattle.run_core.specs.Worlds.{AnswersFrom, ComesOf, StepsTo, WorldView, opened, sight, with_filing}
+use Rattle.filing_log.specs.Filings.{book_with}
+use Rattle.run_core.specs.Outcomes.{IsOutcome}
+use Rattle.run_core.specs.Records.{Records, tickets_of}
+use Rattle.run_core.specs.Worlds.{AnswersFrom, ComesOf, StepsTo, WorldView, opened, sight}
 use Rattle.run_core.specs.declared.events.Event.{Event}
 use Rattle.run_core.specs.declared.events.Event.TheVariants.{File, Look, Fetch, Keep, Answer}
 use Rattle.run_core.specs.declared.events.Recorded.{Recorded}
@@ -48,7 +50,7 @@ recorded_of b past desk q budget v r came h = record {
   desk = h.desk_is;
   request = h.request_is;
   version = h.version_is ∙ ap (λ (x : Book). length x.entries) (sym came.gives) ∙ length-append b.entries came.from;
-  outcome = subst (λ (x : Book). IsOutcome x q budget r.outcome) (sym came.gives) h.outcome_is;
+  outcome = subst (λ (x : Book). IsOutcome x q budget (tickets_of r.outcome)) (sym came.gives) h.outcome_is;
 }
 
 answered : (b : Book) (past : List Event) (u : WorldView) (desk : ℕ) (q : Request) (budget : ℕ) (w : WorldView) → Follows b past u → AnswersFrom u desk q budget w → Follows b (Answer desk q budget ∷ past) w
@@ -62,7 +64,7 @@ answered b past u desk q budget w h s =
 
 follows_step : (b : Book) (past : List Event) (u : WorldView) (e : Event) (w : WorldView) → Follows b past u → StepsTo u e w → Follows b (e ∷ past) w
 follows_step b past u (File f) w h s = subst (Follows b (File f ∷ past)) (sym s.next) (record {
-  book = ap (λ (x : Book). with_filing x (arc_value f)) h.book ∙ ap (λ es. record { timetable = b.timetable; entries = es }) (append_assoc b.entries (filings past) (arc_value f ∷ []));
+  book = ap (λ (x : Book). book_with x (arc_value f)) h.book ∙ ap (λ es. record { timetable = b.timetable; entries = es }) (append_assoc b.entries (filings past) (arc_value f ∷ []));
   desks = h.desks;
   answers = h.answers;
 })

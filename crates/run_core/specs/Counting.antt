@@ -9,7 +9,8 @@ use Rattle.fare_law.specs.Lists.{AllDifferent, Each, IsIn, Matched}
 use Rattle.run_core.specs.declared.events.Event.{Event}
 use Rattle.run_core.specs.declared.events.Event.TheVariants.{File, Look, Fetch, Keep, Answer}
 use Rattle.run_core.specs.declared.events.Recorded.{Recorded}
-use Rattle.run_core.specs.Records.{IsOutcome}
+use Rattle.run_core.specs.Outcomes.{IsOutcome}
+use Rattle.run_core.specs.Records.{tickets_of}
 
 -- the filings, the first one first
 abbrev pub filings : List Event → List Filing
@@ -56,7 +57,7 @@ pub record IsRecordOf (opening : Book) (a : Asking) (r : Recorded) : Type 0 wher
   pub desk : r.desk ≡ a.desk
   pub request : r.request ≡ a.request
   pub version : r.version ≡ length opening.entries + length filed
-  pub outcome : IsOutcome (book_after opening filed) a.request a.budget r.outcome
+  pub outcome : IsOutcome (book_after opening filed) a.request a.budget (tickets_of r.outcome)
 
 -- the answers are the records of the Answer events, in order
 abbrev pub AreRecorded : Book → List Event → List Recorded → Type 0

@@ -1,4 +1,5 @@
 pub mod Causes
 pub mod Counting
+pub mod Outcomes
 pub mod Records
 pub mod Worlds

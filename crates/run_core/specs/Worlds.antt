@@ -2,14 +2,13 @@
 use Rattle.std.specs.Prelude.{◌≡◌, ◌⊎◌, ℕ, ◌<◌, List, [], ◌∷◌, ◌++◌, length, replicate, slice_index_or, slice_set, Option, Some, None}
 use Rattle.std.specs.Arc.{arc_value}
 use Rattle.fare_component.specs.Keys.{Asked, IsKey, asked}
-use Rattle.fare_law.specs.declared.filings.BookWhy.{BookWhy}
 use Rattle.fare_law.specs.declared.filings.Filing.{Filing}
 use Rattle.fare_law.specs.declared.requests.Request.{Request}
 use Rattle.fare_law.specs.Book.{Book}
-use Rattle.fare_law.specs.Faults.{Fault}
 use Rattle.fare_law.specs.FilingLimits.{IsFiling}
 use Rattle.fare_law.specs.Lists.{IsIn}
 use Rattle.fare_law.specs.Requests.{judged, known_places}
+use Rattle.filing_log.specs.Filings.{IsFaultless, book_with}
 use Rattle.run_core.specs.declared.events.Event.{Event}
 use Rattle.run_core.specs.declared.events.Event.TheVariants.{File, Look, Fetch, Keep, Answer}
 use Rattle.run_core.specs.declared.events.Recorded.{Recorded}
@@ -26,10 +25,6 @@ pub record WorldView : Type 0 where
 abbrev pub opened : Book → ℕ → WorldView
 opened b count = record { book = b; desks = replicate count None; kept = []; answers = [] }
 
--- the version with one filing more
-abbrev pub with_filing : Book → Filing → Book
-with_filing b filing = record b { entries = b.entries ++ filing ∷ [] }
-
 -- the version that the desk looked at since its last answer
 abbrev pub sight : WorldView → ℕ → Option Book
 sight w desk = slice_index_or w.desks desk None
@@ -43,14 +38,10 @@ pub record Sees (w : WorldView) (desk : ℕ) (b : Book) : Type 0 where
 abbrev pub Adds : {X : Type 0} → List X → X → List X → Type 0
 Adds xs x ys = (IsIn x xs × (ys ≡ xs)) ⊎ ((IsIn x xs → ⊥) × (ys ≡ xs ++ x ∷ []))
 
--- the filing has no fault in this version
-pub record IsFaultless (b : Book) (filing : Filing) : Type 0 where
-  pub none : (at : ℕ) (why : BookWhy) → Fault b filing at why → ⊥
-
 -- the filing, which has no fault, is the last entry
 pub record Files (w : WorldView) (filing : Filing) (v : WorldView) : Type 0 where
   pub right : IsFaultless w.book filing
-  pub next : v ≡ record w { book = with_filing w.book filing }
+  pub next : v ≡ record w { book = book_with w.book filing }
 
 -- the desk has looked at the last version
 pub record Looks (w : WorldView) (desk : ℕ) (v : WorldView) : Type 0 where

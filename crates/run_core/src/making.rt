@@ -4,9 +4,9 @@ ghost use Rattle.std.specs.Arc.{arc_value};
 ghost use Rattle.fare_component.specs.Keys.{IsKey, asked};
 ghost use Rattle.fare_law.specs.FilingLimits.{IsFiling};
 ghost use Rattle.fare_law.specs.Requests.{judged, known_places};
+ghost use Rattle.filing_log.specs.Filings.{IsFaultless, book_with};
 ghost use Rattle.run_core.specs.Causes.{IsRefusedFiling, IsRefusedSearch};
 ghost use Rattle.run_core.specs.Records.{Records};
-ghost use Rattle.run_core.specs.Worlds.{IsFaultless, with_filing};
 
 use crate::{Outcome, Recorded, StepFault};
 use fare_book::Book;
@@ -24,7 +24,7 @@ pub fn next_version(
     filing: &Arc<Filing>,
 ) -> Result<Shared<Book>, StepFault>
     requires { IsFiling (arc_value filing.now) }
-    ensures next { IfOk result (λ next. next ≡ with_filing book.now (arc_value filing.now)) }
+    ensures next { IfOk result (λ next. next ≡ book_with book.now (arc_value filing.now)) }
     ensures right { OnOk result (IsFaultless book.now (arc_value filing.now)) }
     ensures cause { IfErr result (IsRefusedFiling book.now (arc_value filing.now)) }
 {

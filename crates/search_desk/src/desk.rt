@@ -3,7 +3,7 @@ ghost use Rattle.std.specs.Prelude.{◌≡◌, length, max, IfErr, IfOk, OnOk};
 ghost use Rattle.certificate.specs.Checks.{Checks};
 ghost use Rattle.fare_law.specs.Lists.{IsPrefix};
 ghost use Rattle.fare_versions.specs.Published.{Grows};
-ghost use Rattle.fare_versions.specs.Seen.{seen_by};
+ghost use Rattle.fare_versions.specs.Seen.{SeeOneHistory, seen_by};
 ghost use Rattle.search_core.specs.Answers.{HasCause, IsAnswer, Searchable};
 ghost use Rattle.search_desk.specs.Desks.{AllPublished, Has, StaysSettled, UnlessMem};
 
@@ -81,6 +81,15 @@ impl Desk {
         ensures { result ≡ max (length self.now.sight.book.entries) (length self.now.sight.told) }
     {
         self.watch.seen()
+    }
+
+    /// Tells that two desks of one clerk see one history: of the versions that they saw last the shorter begins the longer,
+    /// and two of one number are equal.
+    pub fn tell_one_history(&self, other: &Desk)
+        requires { self.now.sight.house ≡ other.now.sight.house }
+        ensures { SeeOneHistory self.now.sight.book other.now.sight.book }
+    {
+        self.watch.tell_one_history(&other.watch);
     }
 
     /// Looks once, and searches the version that it sees: one of its house's history, with all that it had seen and

@@ -1,9 +1,8 @@
 -- Replies stay right when more was seen.
-use Rattle.std.proofs.Common.{Option, None, Some, IfSome, ◌≡◌, ℕ, ◌≤◌, List, [], ◌∷◌, ◌++◌, length, take, Bool, true, false, cond, refl, ap, sym, subst, ◌∙◌, arith, length-append}
+use Rattle.std.proofs.Common.{◌≡◌, ℕ, ◌≤◌, List, [], ◌∷◌, ◌++◌, length, take, refl, ap, sym, subst, ◌∙◌, arith, length-append}
 use Rattle.std.proofs.lemmas.List.{append-nil, take-append-le, take_all}
 use Rattle.fare_law.specs.Lists.{IsPrefix}
 use Rattle.fare_law.specs.declared.filings.Filing.{Filing}
-use Rattle.serve_desks.proofs.EachLemmas.{each_and}
 use Rattle.serve_desks.specs.Served.{AllName, Names}
 use Rattle.serve_desks.specs.Terms.{IsRight, Rightness, Terms}
 use Rattle.serve_desks.specs.declared.log.Entry.{Entry}
@@ -32,17 +31,7 @@ module _ (right : Rightness) (terms : Terms) where
   pub names_now : (seen : List Filing) (e : Entry) → e.reply.number ≡ length seen → IsRight right terms e.request seen e.reply.body → Names right terms seen e
   names_now seen e n h = (omega (arith, n), subst (λ l. IsRight right terms e.request l e.reply.body) (sym (take_all e.reply.number seen (omega (arith, n)))) h)
 
-  -- after a push, which may have failed
-  pub all_pushed : (seen : List Filing) (b : Bool) (es new : List Entry) (e : Entry) → new ≡ cond b (es ++ e ∷ []) es → AllName right terms seen es → Names right terms seen e → AllName right terms seen new
-  all_pushed seen true es new e is h n = subst (AllName right terms seen) (sym is) (each_and (Names right terms seen) es e h n)
-  all_pushed seen false es new e is h n = subst (AllName right terms seen) (sym is) h
-
   -- where the teller has the clerk's number, all that it had seen is a beginning of the clerk's history
   pub all_settled : (old new all : List Filing) (es : List Entry) (n last : ℕ) → IsPrefix old new → n ≡ length new → IsPrefix all new → last ≡ length all → n ≡ last → AllName right terms old es → AllName right terms all es
   all_settled old new all es n last x is y end same h =
       let whole : all ≡ new = extends_whole all new y (omega (arith, is, end, same)) in subst (λ l. AllName right terms l es) (sym whole) (all_more old new es x h)
-
-  -- the same of replies that may be none
-  pub replies_settled : {V : Type 0} (items : V → List Entry) (old new all : List Filing) (replies : Option V) (n last : ℕ) → IsPrefix old new → n ≡ length new → IsPrefix all new → last ≡ length all → n ≡ last → IfSome replies (λ v. AllName right terms old (items v)) → IfSome replies (λ v. AllName right terms all (items v))
-  replies_settled items old new all None n last x is y end same h = tt
-  replies_settled items old new all (Some v) n last x is y end same h = all_settled old new all (items v) n last x is y end same h

@@ -5,3 +5,4 @@ pub mod Logs
 pub mod Served
 pub mod Settled
 pub mod Terms
+pub mod Wants

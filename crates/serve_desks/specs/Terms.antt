@@ -23,6 +23,6 @@ Rightness = Ask → Timetable → List Filing → Body → Type 0
 abbrev pub IsRight : Rightness → Terms → ℕ → List Filing → Body → Type 0
 IsRight right terms request entries body = (ask : Ask) × (slice_get terms.asks (request - 1) ≡ Some ask) × right ask terms.timetable entries body
 
--- the teller follows this history, and is asked this
-abbrev pub IsOf : {T : Type 0} → (T → House) → (T → Terms) → House → Terms → T → Type 0
-IsOf house terms name all t = (house t ≡ name) × (terms t ≡ all)
+-- the teller follows this history, is asked this, and wanted no memory so far
+abbrev pub IsOf : {T : Type 0} → (T → House) → (T → Terms) → (T → ℕ) → House → Terms → T → Type 0
+IsOf house terms wants name all t = (house t ≡ name) × (terms t ≡ all) × (wants t ≡ 0)

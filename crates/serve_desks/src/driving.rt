@@ -1,5 +1,5 @@
 //! A run from its beginning to its log.
-ghost use Rattle.std.specs.Prelude.{◌≡◌, ◌<◌, length, All, IfOk};
+ghost use Rattle.std.specs.Prelude.{◌≡◌, ◌<◌, length, All, IfOk, vec_len};
 ghost use Rattle.std.specs.Arc.{arc_value};
 ghost use Rattle.fare_law.specs.FilingLimits.{IsFiling};
 ghost use Rattle.fare_law.specs.Lists.{Each};
@@ -27,8 +27,10 @@ use std::thread::Threads;
 /// Each teller follows the clerk's history, over its timetable, and is asked what the work says. Where it has seen what
 /// isn't of that history, none of its replies stands, and each is made anew from the clerk's last book.
 ///
-/// `Mem` also where the clerk or a teller wants memory: no teller then waits any longer. No clause says that anything
-/// is done in several threads, nor that the call returns.
+/// Where a filing or a teller wants memory the run stops: no teller waits any longer, nothing more is filed or searched
+/// but what is under way, and the answer is `Mem`. So no reply is made in the place of one that a teller wanted memory
+/// for; that a teller is asked nothing more is a condition of its calls. No clause says that anything is done in several
+/// threads, nor that the call returns.
 pub fn drive<T, G, R>(
     rt: &R,
     alloc: Global,
@@ -41,7 +43,7 @@ where
     T: Teller + Send,
     G: Gate + Sync,
     R: Threads + Wait + Sync,
-    requires tellers { Each (IsOf T.house T.terms clerk.house (terms_of work.now.asks clerk.book)) tellers }
+    requires tellers { Each (IsOf T.house T.terms T.wants clerk.house (terms_of work.now.asks clerk.book)) tellers }
     requires some { 0 < length tellers }
     requires later { All (λ f. IsFiling (arc_value f)) work.now.later }
     requires script { IsScript (length work.now.later) (length work.now.asks) work.now.script }
@@ -69,7 +71,7 @@ where
     R: Threads + Wait + Sync,
     requires house { clerk.old.house ≡ H.name }
     requires terms { H.terms ≡ terms_of work.now.asks clerk.old.book }
-    requires tellers { Each (IsOf T.house T.terms H.name H.terms) tellers }
+    requires tellers { Each (IsOf T.house T.terms T.wants H.name H.terms) tellers }
     requires some { 0 < length tellers }
     requires later { All (λ f. IsFiling (arc_value f)) work.now.later }
     requires script { IsScript (length work.now.later) (length work.now.asks) work.now.script }
@@ -79,13 +81,9 @@ where
     let _opening = clerk.book().number();
     let jobs = jobs_of::<T, H>(alloc, tellers)?;
     let board = Board::<H>::new(alloc);
-    let (filings, served) = run_both::<T, H, G, R>(rt, clerk, jobs, work, &board, gate)?;
+    let (filings, ended) = run_both::<T, H, G, R>(rt, clerk, jobs, work, &board, gate)?;
     let lines = work.script.lines.len();
-    let settled = settle_all::<T, H>(alloc, served, lines, &filings)?;
-    // There is one for each teller; no clause of the call that gave each a thread says how many.
-    if settled.tellers.is_empty() {
-        return Err(Mem);
-    }
+    let settled = settle_all::<T, H>(alloc, ended, lines, &filings)?;
     let replies = replies_of::<T, H>(alloc, &work.script, &filings, settled)?;
     let Filings { filed, .. } = filings;
     Ok(Log { filed, replies })
@@ -93,7 +91,8 @@ where
 
 /// The tellers with their places.
 fn jobs_of<T: Teller, H: House>(alloc: Global, tellers: List<T>) -> Result<Vec<Job<T, H>>, Mem>
-    requires { Each (IsOf T.house T.terms H.name H.terms) tellers }
+    requires { Each (IsOf T.house T.terms T.wants H.name H.terms) tellers }
+    ensures { IfOk result (λ v. vec_len v ≡ length tellers) }
 {
     let count = tellers.len();
     let mut left = tellers.into_vec();
@@ -107,7 +106,7 @@ fn jobs_of<T: Teller, H: House>(alloc: Global, tellers: List<T>) -> Result<Vec<J
 
 /// A teller at its place.
 fn job_of<T: Teller, H: House>(teller: T, place: usize, tellers: usize) -> Job<T, H>
-    requires of { IsOf T.house T.terms H.name H.terms teller }
+    requires of { IsOf T.house T.terms T.wants H.name H.terms teller }
     requires some { 0 < tellers }
 {
     Job {

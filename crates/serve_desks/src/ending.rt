@@ -35,7 +35,7 @@ pub(crate) fn replies_of<T: Teller, H: House>(
     requires book { (arc_value filings.now.book).entries ≡ filings.now.receipt.entries }
     requires timetable { (arc_value filings.now.book).timetable ≡ H.terms.timetable }
     requires some { 0 < vec_len settled.tellers }
-    requires tellers { AllAsked T.terms H.terms settled.tellers.items }
+    requires tellers { AllAsked T.terms T.wants H.terms settled.tellers.items }
     requires given { AreGiven T.right H.terms filings.now.receipt.entries settled.given.items }
     requires lines { vec_len settled.given ≡ length script.now.lines }
     ensures { IfOk result (Replies T.right H.terms filings.now.opening filings.now.filed filings.now.receipt.entries (replicate script.now.desks filings.now.opening) script.now.lines) }
@@ -70,10 +70,10 @@ fn take_line<T: Teller, H: House>(
     requires book { (arc_value filings.now.book).entries ≡ filings.now.receipt.entries }
     requires timetable { (arc_value filings.now.book).timetable ≡ H.terms.timetable }
     requires some { 0 < vec_len settled.old.tellers }
-    requires tellers { AllAsked T.terms H.terms settled.old.tellers.items }
+    requires tellers { AllAsked T.terms T.wants H.terms settled.old.tellers.items }
     requires given { AreGiven T.right H.terms filings.now.receipt.entries settled.old.given.items }
     ensures some { vec_len settled.new.tellers ≡ vec_len settled.old.tellers }
-    ensures tellers { AllAsked T.terms H.terms settled.new.tellers.items }
+    ensures tellers { OnOk result (AllAsked T.terms T.wants H.terms settled.new.tellers.items) }
     ensures given { AreGiven T.right H.terms filings.now.receipt.entries settled.new.given.items }
     ensures lines { vec_len settled.new.given ≡ vec_len settled.old.given }
     ensures desks { length replied.new.floors.items ≡ length replied.old.floors.items }

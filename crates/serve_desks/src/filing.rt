@@ -11,7 +11,8 @@ use fare_versions::{Clerk, FileFault};
 use std::alloc::Global;
 use std::sync::{Arc, Wait};
 
-/// Files each in turn, after the gate lets it pass, and tells the others how it was judged.
+/// Files each in turn, after the gate lets it pass, and tells the others how it was judged. `Mem` also where the run
+/// stops, and then no more is filed.
 pub(crate) fn file_all<H: House, G: Gate, R: Wait>(
     rt: &R,
     clerk: &mut Clerk,
@@ -27,20 +28,19 @@ pub(crate) fn file_all<H: House, G: Gate, R: Wait>(
 {
     let mut filed = List::new(board.alloc);
     for filing in later {
-        gate.pass(0);
-        let Ok((how, slip)) = file_one::<H, R>(board.alloc, rt, clerk, filing) else {
-            board.stop(rt);
-            return Err(Mem);
-        };
-        let Ok(()) = filed.push(how) else {
-            board.stop(rt);
-            return Err(Mem);
-        };
-        if !board.post(rt, slip) {
-            return Err(Mem);
-        }
+        pass(rt, board, gate)?;
+        let (how, slip) = file_one::<H, R>(board.alloc, rt, clerk, filing)?;
+        filed.push(how)?;
+        board.post(rt, slip)?;
     }
     Ok(filed)
+}
+
+/// Waits until the gate lets the next filing pass; `Mem` where the run stops before or meanwhile.
+fn pass<H: House, G: Gate, R: Wait>(rt: &R, board: &Board<H>, gate: &G) -> Result<(), Mem> {
+    board.go_on(rt)?;
+    gate.pass(0);
+    board.go_on(rt)
 }
 
 /// Files one.
@@ -56,10 +56,7 @@ fn file_one<H: House, R: Wait>(
     ensures timetable { clerk.new.book.timetable ≡ clerk.old.book.timetable }
     ensures judged { IfOk result (λ t. OneJudged clerk.old.book.timetable clerk.old.book.entries (arc_value filing.now) t.0 clerk.new.book.entries) }
 {
-    let Ok(filing) = Arc::try_clone(filing) else {
-        return Err(Mem);
-    };
-    match clerk.file(rt, alloc, filing) {
+    match clerk.file(rt, alloc, Arc::try_clone(filing)?) {
         Ok(receipt) => {
             let number = receipt.number();
             Ok((Filed::Accepted { number }, Slip::<H>::accepted(receipt)))

@@ -2,6 +2,7 @@
 ghost use Rattle.std.specs.Prelude.{◌≡◌};
 ghost use Rattle.std.specs.Option.{ForSome};
 
+use fare_law::Mem;
 use fare_versions::Receipt;
 use std::alloc::Global;
 use std::marker::{Brand, PhantomData};
@@ -84,16 +85,18 @@ impl<H: House> Board<H> {
         self.news.notify_all();
     }
 
-    /// Adds a slip; false where memory is wanting, and the run stops then.
-    pub fn post<R: Wait>(&self, rt: &R, slip: Slip<H>) -> bool {
-        let mut guard = self.minutes.lock(rt);
-        let minutes = &mut *guard;
-        let is_posted = minutes.slips.push(slip).is_ok();
-        if !is_posted {
-            minutes.is_stopped = true;
+    /// `Mem` where the run stops.
+    pub fn go_on<R: Wait>(&self, rt: &R) -> Result<(), Mem> {
+        if self.minutes.lock(rt).is_stopped {
+            return Err(Mem);
         }
-        drop(guard);
+        Ok(())
+    }
+
+    /// Adds a slip.
+    pub fn post<R: Wait>(&self, rt: &R, slip: Slip<H>) -> Result<(), Mem> {
+        let posted = self.minutes.lock(rt).slips.push(slip);
         self.news.notify_all();
-        is_posted
+        Ok(posted?)
     }
 }

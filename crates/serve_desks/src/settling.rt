@@ -1,11 +1,11 @@
 //! After the work: what each teller saw is compared with what was filed.
-ghost use Rattle.std.specs.Prelude.{◌≡◌, ◌≤◌, ◌<◌, length, slice_set, take, vec_len, IfOk, IfSome, Some};
+ghost use Rattle.std.specs.Prelude.{◌≡◌, ◌≤◌, ◌<◌, ◌+◌, length, slice_set, take, vec_len, IfOk, IfSome, OnOk, Some};
 ghost use Rattle.std.specs.Arc.{arc_value};
-ghost use Rattle.serve_desks.specs.Served.{AllName, AllServed, Names};
+ghost use Rattle.serve_desks.specs.Served.{AllName, AllServed, IsServed, Names};
 ghost use Rattle.serve_desks.specs.Settled.{AllAsked, AreGiven};
 ghost use Rattle.serve_desks.specs.Terms.{IsRight};
 
-use crate::beside::Filings;
+use crate::beside::{Ended, Filings};
 use crate::log::Entry;
 use crate::minutes::House;
 use crate::serving::Served;
@@ -21,29 +21,55 @@ pub(crate) struct Settled<T: Teller> {
     pub given: Vec<Option<Entry>>,
 }
 
-/// Settles each teller.
+/// Settles each teller. `Mem` where one of them didn't come to its end.
 pub(crate) fn settle_all<T: Teller, H: House>(
     alloc: Global,
-    mut served: Vec<Served<T>>,
+    mut ended: Vec<Ended<T>>,
     lines: usize,
     filings: &Filings,
 ) -> Result<Settled<T>, Mem>
     requires house { filings.now.receipt.house ≡ H.name }
-    requires served { AllServed T.house T.terms T.seen T.right H.name H.terms served.items }
-    ensures tellers { IfOk result (λ s. AllAsked T.terms H.terms s.tellers.items) }
+    requires ended { AllServed T.house T.terms T.seen T.wants T.right H.name H.terms ended.items }
+    ensures tellers { IfOk result (λ s. AllAsked T.terms T.wants H.terms s.tellers.items) }
     ensures given { IfOk result (λ s. AreGiven T.right H.terms filings.now.receipt.entries s.given.items) }
     ensures lines { IfOk result (λ s. vec_len s.given ≡ lines) }
+    ensures count { IfOk result (λ s. vec_len s.tellers ≡ vec_len ended) }
 {
-    let mut tellers = Vec::new(alloc);
-    let mut given = no_replies::<T, H>(alloc, lines, filings)?;
-    while let Some(one) = served.pop() {
-        let Served { teller, replies } = settle_one::<T, H>(alloc, one, filings)?;
-        if let Some(replies) = replies {
-            place_all::<T, H>(replies, &mut given, filings);
-        }
-        tellers.push(teller)?;
+    if ended.iter().any(|one| one.is_err()) {
+        return Err(Mem);
     }
-    Ok(Settled { tellers, given })
+    let mut settled = Settled {
+        tellers: Vec::new(alloc),
+        given: no_replies::<T, H>(alloc, lines, filings)?,
+    };
+    while let Some(one) = ended.pop() {
+        add_settled::<T, H>(alloc, one?, &mut settled, filings)?;
+    }
+    Ok(settled)
+}
+
+/// Settles a teller, and adds it with the replies that stand.
+fn add_settled<T: Teller, H: House>(
+    alloc: Global,
+    served: Served<T>,
+    settled: &mut Settled<T>,
+    filings: &Filings,
+) -> Result<(), Mem>
+    requires house { filings.now.receipt.house ≡ H.name }
+    requires served { IsServed T.house T.terms T.seen T.wants T.right H.name H.terms served }
+    requires tellers { AllAsked T.terms T.wants H.terms settled.old.tellers.items }
+    requires given { AreGiven T.right H.terms filings.now.receipt.entries settled.old.given.items }
+    ensures tellers { OnOk result (AllAsked T.terms T.wants H.terms settled.new.tellers.items) }
+    ensures given { OnOk result (AreGiven T.right H.terms filings.now.receipt.entries settled.new.given.items) }
+    ensures lines { OnOk result (vec_len settled.new.given ≡ vec_len settled.old.given) }
+    ensures count { OnOk result (vec_len settled.new.tellers ≡ vec_len settled.old.tellers + 1) }
+{
+    let (teller, replies) = settle_one::<T, H>(alloc, served, filings)?;
+    if let Some(replies) = replies {
+        place_all::<T, H>(replies, &mut settled.given, filings);
+    }
+    settled.tellers.push(teller)?;
+    Ok(())
 }
 
 /// A line each, with no reply yet.
@@ -69,12 +95,11 @@ fn settle_one<T: Teller, H: House>(
     alloc: Global,
     served: Served<T>,
     filings: &Filings,
-) -> Result<Served<T>, Mem>
-    requires house { T.house served.teller ≡ filings.now.receipt.house }
-    requires terms { T.terms served.teller ≡ H.terms }
-    requires right { IfSome served.replies (λ v. AllName T.right H.terms (T.seen served.teller) v.items) }
-    ensures terms { IfOk result (λ s. T.terms s.teller ≡ H.terms) }
-    ensures right { IfOk result (λ s. IfSome s.replies (λ v. AllName T.right H.terms filings.now.receipt.entries v.items)) }
+) -> Result<(T, Option<Vec<Entry>>), Mem>
+    requires house { filings.now.receipt.house ≡ H.name }
+    requires served { IsServed T.house T.terms T.seen T.wants T.right H.name H.terms served }
+    ensures teller { IfOk result (λ t. (T.terms t.0 ≡ H.terms) × (T.wants t.0 ≡ 0)) }
+    ensures right { IfOk result (λ t. IfSome t.1 (λ v. AllName T.right H.terms filings.now.receipt.entries v.items)) }
 {
     let Served {
         mut teller,
@@ -83,12 +108,9 @@ fn settle_one<T: Teller, H: House>(
     let last = filings.receipt.number();
     let number = teller.settle(alloc, &filings.receipt)?;
     if number == last {
-        return Ok(Served { teller, replies });
+        return Ok((teller, Some(replies)));
     }
-    Ok(Served {
-        teller,
-        replies: None,
-    })
+    Ok((teller, None))
 }
 
 /// Puts each reply at its line.
@@ -132,11 +154,13 @@ pub(crate) fn reply_to<T: Teller, H: House>(
 ) -> Result<Reply, Mem>
     requires request { (0 < request) × (request ≤ length H.terms.asks) }
     requires terms { T.terms teller.old ≡ H.terms }
+    requires ample { T.wants teller.old ≡ 0 }
     requires timetable { (arc_value filings.now.book).timetable ≡ H.terms.timetable }
     requires book { (arc_value filings.now.book).entries ≡ filings.now.receipt.entries }
     requires given { IfSome given (Names T.right H.terms filings.now.receipt.entries) }
     requires floor { floor ≤ length filings.now.receipt.entries }
     ensures terms { T.terms teller.new ≡ H.terms }
+    ensures ample { OnOk result (T.wants teller.new ≡ 0) }
     ensures number { IfOk result (λ r. (floor ≤ r.number) × (r.number ≤ length filings.now.receipt.entries)) }
     ensures right { IfOk result (λ r. IsRight T.right H.terms request (take r.number filings.now.receipt.entries) r.body) }
 {

@@ -1,3 +1,4 @@
+pub mod CoreReplies
 pub mod FilingSteps
 pub mod LineSteps
 pub mod Replays

@@ -2,7 +2,7 @@
 use Rattle.std.proofs.Common.{◌≡◌, ◌<◌, ◌≤◌, ◌+◌, ◌-◌, ◌∙◌, ℕ, zero, suc, max, List, [], ◌∷◌, ◌++◌, length, map, replicate, take, slice_index, slice_set, codes, refl, sym, subst, append_assoc, arith}
 use Rattle.std.proofs.lemmas.List.{length-replicate, length-set}
 use Rattle.answer_text.specs.Answer.{AnswerText, IsRight as IsRightTicket}
-use Rattle.desk_teller.specs.Outcomes.{IsOutcome, version_of}
+use Rattle.desk_teller.specs.Outcomes.{AnswersAsk, version_of}
 use Rattle.fare_law.specs.Best.{Costs}
 use Rattle.fare_law.specs.Book.{Book, Timetable}
 use Rattle.fare_law.specs.Lawful.{Lawful}
@@ -46,11 +46,11 @@ set_from least (x ∷ xs) (suc at) floor from h (suc i) less = set_from least xs
 pub record Answered (terms : Terms) (opening : ℕ) (filings : List Filing) (s : SearchLine) (r : Reply) : Type 0 where
   pub late : opening ≤ r.number
   pub known : r.number ≤ length filings
-  pub right : IsRight IsOutcome terms s.request (take r.number filings) r.body
+  pub right : IsRight AnswersAsk terms s.request (take r.number filings) r.body
 
 module _ (terms : Terms) (opening : ℕ) (filed : List Filed) (filings : List Filing) (desks later asks : ℕ) where
   replies_answer : (line : ℕ) (floors : List ℕ) (lines : List ScriptLine) (rs : List Reply) → length floors ≡ desks → AreFrom opening floors → Each (IsWithin (counts desks later asks)) lines
-      → Replies IsOutcome terms opening filed filings floors lines rs → Matched (Answered terms opening filings) (searches_from line lines) rs
+      → Replies AnswersAsk terms opening filed filings floors lines rs → Matched (Answered terms opening filings) (searches_from line lines) rs
   replies_answer line floors [] [] many from within h = tt
   replies_answer line floors [] (r ∷ rs) many from within h = absurd h
   replies_answer line floors (Search desk request ∷ lines) [] many from within h = absurd h
@@ -70,7 +70,7 @@ module _ (terms : Terms) (opening : ℕ) (filed : List Filed) (filings : List Fi
       replies_answer (line + 1) (with_floor floors desk (max (floor_of floors desk) (waited_for opening filed count))) lines rs (length-set floors (desk - 1) _ ∙ many) (set_from opening floors (desk - 1) _ from raised) within.1 h
 
   pub all_answered : (lines : List ScriptLine) (rs : List Reply) → Each (IsWithin (counts desks later asks)) lines
-      → Replies IsOutcome terms opening filed filings (replicate desks opening) lines rs → Matched (Answered terms opening filings) (searches_from 1 lines) rs
+      → Replies AnswersAsk terms opening filed filings (replicate desks opening) lines rs → Matched (Answered terms opening filings) (searches_from 1 lines) rs
   all_answered lines rs within h = replies_answer 1 (replicate desks opening) lines rs (length-replicate desks opening) (all_from opening desks) within h
 
 -- lawful tickets at their prices are right
@@ -78,7 +78,7 @@ are_right : (b : Book) (q : Request) (tickets : List Priced) → Each (λ t. Law
 are_right b q [] lawful costs = tt
 are_right b q (t ∷ ts) lawful costs = ((lawful.0, costs.0), are_right b q ts lawful.1 costs.1)
 
-right_body : (ask : Ask) (t : Timetable) (filings : List Filing) (body : Body) → IsOutcome ask t filings body → IsRightBody (version_of t filings) ask.request body
+right_body : (ask : Ask) (t : Timetable) (filings : List Filing) (body : Body) → AnswersAsk ask t filings body → IsRightBody (version_of t filings) ask.request body
 right_body ask t filings (Tickets tickets) h = are_right (version_of t filings) ask.request tickets h.best.each h.prices
 right_body ask t filings TooLarge h = tt
 

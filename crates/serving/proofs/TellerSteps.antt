@@ -15,6 +15,6 @@ pub allowed_of : (p : Published) (w : Sight) (asks : List Ask) → HasSeen p w �
 allowed_of p w asks seen allowed = subst (λ (b : Book). AreAllowed b asks) (sym seen.book) allowed
 
 -- the teller of a watch is of the history that the watch has seen, and is asked these over its timetable
-pub of_watch : (p : Published) (w : Sight) (asks : List Ask) (t : TellerView) → HasSeen p w → t ≡ record { sight = w; asks = asks }
-    → IsOf (λ (v : TellerView). v.sight.house) (λ (v : TellerView). record { asks = v.asks; timetable = v.sight.book.timetable }) p.house (terms_of asks p.book) t
-of_watch p w asks t seen is = (ap (λ (v : TellerView). v.sight.house) is ∙ seen.house, ap asked_of is ∙ ap (terms_of asks) seen.book)
+pub of_watch : (p : Published) (w : Sight) (asks : List Ask) (t : TellerView) → HasSeen p w → t ≡ record { sight = w; asks = asks; wants = 0 }
+    → IsOf (λ (v : TellerView). v.sight.house) (λ (v : TellerView). record { asks = v.asks; timetable = v.sight.book.timetable }) (λ (v : TellerView). v.wants) p.house (terms_of asks p.book) t
+of_watch p w asks t seen is = (ap (λ (v : TellerView). v.sight.house) is ∙ seen.house, ap asked_of is ∙ ap (terms_of asks) seen.book, ap (λ (v : TellerView). v.wants) is)

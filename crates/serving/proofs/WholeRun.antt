@@ -1,6 +1,6 @@
 -- The whole text of a run: for `serve_text`.
 use Rattle.std.proofs.Common.{◌≡◌, ◌∙◌, ◌+◌, ℕ, List, [], ◌++◌, length, map, ap, sym, subst}
-use Rattle.desk_teller.specs.Outcomes.{IsOutcome}
+use Rattle.desk_teller.specs.Outcomes.{AnswersAsk}
 use Rattle.fare_law.specs.Book.{Book, Timetable}
 use Rattle.fare_law.specs.declared.filings.Filing.{Filing}
 use Rattle.script_text.specs.Script.{IsScript}
@@ -32,7 +32,7 @@ module _ {X : Type 0} (value : X → Filing) (t : Timetable) (start : List Filin
   slices_judged h = subst (Judged t start (map value slice) told) (slices_after h) (judged_of_slices h)
 
 -- there is a reply for each search
-pub as_many_replies : (start : Book) (work : Workload) (log : Log) (searches : List SearchLine) (replies : List Reply) → IsScript (length work.later) (length work.asks) work.script → Logged IsOutcome start work log
+pub as_many_replies : (start : Book) (work : Workload) (log : Log) (searches : List SearchLine) (replies : List Reply) → IsScript (length work.later) (length work.asks) work.script → Logged AnswersAsk start work log
     → searches ≡ searches_from 1 work.script.lines → replies ≡ log.replies → length replies ≡ length searches
 as_many_replies start work log searches replies script logged ss rs =
     let opening = length start.entries in
@@ -40,7 +40,7 @@ as_many_replies start work log searches replies script logged ss rs =
     ap length rs ∙ matched_long _ (searches_from 1 work.script.lines) log.replies answered ∙ sym (ap length ss)
 
 -- the history and then the replies are the text of the run
-pub serves : (start : Book) (work : Workload) (log : Log) (logged : Logged IsOutcome start work log) (history : List Filing) (searches : List SearchLine) (filed : List Filed) (replies : List Reply) (texts items : List (List ℕ)) (opening count : ℕ)
+pub serves : (start : Book) (work : Workload) (log : Log) (logged : Logged AnswersAsk start work log) (history : List Filing) (searches : List SearchLine) (filed : List Filed) (replies : List Reply) (texts items : List (List ℕ)) (opening count : ℕ)
     (first mid after text : List ℕ) → IsScript (length work.later) (length work.asks) work.script
     → logged.filings ≡ history → searches ≡ searches_from 1 work.script.lines → filed ≡ log.filed → replies ≡ log.replies → texts ≡ items → opening ≡ length start.entries → count ≡ length history
     → length items ≡ length replies → HasTextsBetween start.timetable history (length start.entries) (count + 1) replies items

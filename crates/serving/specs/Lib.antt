@@ -1,5 +1,6 @@
 pub mod Bodies
 pub mod Lines
+pub mod Recorded
 pub mod Replaying
 pub mod Replies
 pub mod Serves

@@ -1,6 +1,6 @@
 -- What a serving run writes.
 use Rattle.std.specs.Prelude.{◌≡◌, ℕ, List, ◌++◌, length}
-use Rattle.desk_teller.specs.Outcomes.{IsOutcome}
+use Rattle.desk_teller.specs.Outcomes.{AnswersAsk}
 use Rattle.fare_law.specs.Book.{Book}
 use Rattle.serve_desks.specs.Logs.{Logged}
 use Rattle.serve_desks.specs.Terms.{terms_of}
@@ -15,7 +15,7 @@ use Rattle.serving.specs.Replies.{RepliesText, searches_from}
 -- script's order.
 pub record Serves (start : Book) (work : Workload) (text : List ℕ) : Type 0 where
   pub log : Log
-  pub logged : Logged IsOutcome start work log
+  pub logged : Logged AnswersAsk start work log
   pub replies : List ℕ
   pub told : RepliesText (terms_of work.asks start) logged.filings (searches_from 1 work.script.lines) log.replies replies
   pub whole : text ≡ history_text (length start.entries) log.filed (length logged.filings) ++ replies

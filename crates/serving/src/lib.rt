@@ -5,6 +5,7 @@
 
 mod bodies;
 mod headings;
+mod laws;
 mod lines;
 mod listing;
 mod replies;
@@ -14,5 +15,6 @@ mod tellers;
 mod text;
 mod versions;
 
+pub use laws::logs_are_recorded;
 pub use running::served;
 pub use text::serve_text;

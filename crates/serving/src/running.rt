@@ -77,7 +77,7 @@ fn prepare<'a, G: Gate>(
     requires some { (0 < length watches) × (length watches ≤ 8) }
     requires asks { AreAllowed clerk.now.book work.now.asks }
     ensures opening { IfOk result (λ r. arc_value r.opening ≡ clerk.now.book) }
-    ensures tellers { IfOk result (λ r. Each (IsOf (λ t. t.sight.house) (λ t. record { asks = t.asks; timetable = t.sight.book.timetable }) clerk.now.house (terms_of work.now.asks clerk.now.book)) r.tellers) }
+    ensures tellers { IfOk result (λ r. Each (IsOf (λ t. t.sight.house) (λ t. record { asks = t.asks; timetable = t.sight.book.timetable }) (λ t. t.wants) clerk.now.house (terms_of work.now.asks clerk.now.book)) r.tellers) }
     ensures some { IfOk result (λ r. 0 < length r.tellers) }
 {
     let opening = Arc::try_clone(clerk.book())?;

@@ -25,7 +25,7 @@ pub(crate) fn tellers_of<'a, G: Gate>(
     requires watches { All (HasSeen clerk.now) watches }
     requires few { length watches ≤ 8 }
     requires asks { AreAllowed clerk.now.book asks.now }
-    ensures tellers { IfOk result (Each (IsOf (λ t. t.sight.house) (λ t. record { asks = t.asks; timetable = t.sight.book.timetable }) clerk.now.house (terms_of asks.now clerk.now.book))) }
+    ensures tellers { IfOk result (Each (IsOf (λ t. t.sight.house) (λ t. record { asks = t.asks; timetable = t.sight.book.timetable }) (λ t. t.wants) clerk.now.house (terms_of asks.now clerk.now.book))) }
     ensures count { IfOk result (λ l. length l ≡ length watches) }
 {
     let _clerk = clerk;
@@ -49,7 +49,7 @@ fn teller_of<'a, G: Gate>(
     gate: &'a G,
 ) -> Result<DeskTeller<'a, G>, Mem>
     requires { AreAllowed watch.book asks.now }
-    ensures { IfOk result (λ t. t ≡ record { sight = watch; asks = asks.now }) }
+    ensures { IfOk result (λ t. t ≡ record { sight = watch; asks = asks.now; wants = 0 }) }
 {
     let desk = Desk::new(watch, store.pass(alloc)?, number);
     Ok(DeskTeller::new(desk, store, asks, gate))

@@ -1,7 +1,7 @@
 //! The text of a serving run.
 ghost use Rattle.std.specs.Prelude.{All, IfOk, length};
 ghost use Rattle.std.specs.Arc.{arc_value};
-ghost use Rattle.desk_teller.specs.Outcomes.{IsOutcome};
+ghost use Rattle.desk_teller.specs.Outcomes.{AnswersAsk};
 ghost use Rattle.fare_law.specs.FilingLimits.{IsFiling};
 ghost use Rattle.script_text.specs.Script.{IsScript};
 ghost use Rattle.serve_desks.specs.Logs.{Logged};
@@ -31,7 +31,7 @@ pub fn serve_text(
 ) -> Result<List<u8>, Mem>
     requires later { All (λ f. IsFiling (arc_value f)) work.now.later }
     requires script { IsScript (length work.now.later) (length work.now.asks) work.now.script }
-    requires logged { Logged IsOutcome (arc_value opening.now) work.now log.now }
+    requires logged { Logged AnswersAsk (arc_value opening.now) work.now log.now }
     ensures { IfOk result (Serves (arc_value opening.now) work.now) }
 {
     let searches = searches_of(alloc, work.script.lines.as_slice())?;

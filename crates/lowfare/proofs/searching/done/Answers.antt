@@ -5,7 +5,7 @@ use Rattle.certificate_text.specs.CertText.{AddsCertText}
 use Rattle.fare_law.specs.Lists.{Each}
 use Rattle.fare_law.specs.declared.requests.Request.{Request}
 use Rattle.fare_law.specs.declared.tickets.Priced.{Priced}
-use Rattle.lowfare.proofs.Telling.{is_accepted, tells_best}
+use Rattle.lowfare.proofs.Telling.{is_accepted, is_accepted_by_lines, tells_best}
 use Rattle.lowfare.proofs.searching.done.Goals as goal
 
 pub returns-clause-text : goal.returns-clause-text
@@ -19,3 +19,4 @@ returns-clause-text c =
     (subst (λ (ts : List Priced). (q : Request) → Each (IsRight found.book q) ts → Adds (AnswerText found.book q (map (λ (p : Priced). p.ticket) ts)) head mid) c.as_slice.ensures c.in_ok-push_answer_text.ensures)
     (subst (AddsCertText a.certificate mid) (sym c.from_vec.ensures) c.in_ok-push_cert_text.ensures)
     (is_accepted found a.certificate c.args.budget c.search_is_accepted.ensures.text c.requires.fits c.requires.answer.few c.requires.answer.is.certificate)
+    (is_accepted_by_lines found a.certificate c.args.budget c.search_is_accepted.ensures.lines c.requires.fits c.requires.answer.few c.requires.answer.is.certificate)

@@ -11,6 +11,6 @@ invariant-loop-line g l =
     let terms = g.H.House.terms in
     let told = Replies right terms l.filings.opening l.filings.filed filings in
     (length l.replied.floors.items ≡ l.script.desks) × AreLow (length filings) l.replied.floors.items
-    × (vec_len l.settled.tellers ≡ vec_len l.initial.settled.tellers) × AllAsked g.T.Teller.terms terms l.settled.tellers.items
+    × (vec_len l.settled.tellers ≡ vec_len l.initial.settled.tellers) × AllAsked g.T.Teller.terms g.T.Teller.wants terms l.settled.tellers.items
     × (vec_len l.settled.given ≡ length l.script.lines) × AreGiven right terms filings l.settled.given.items
     × (l.number ≡ l.line-index) × ((rest : List Reply) → told l.replied.floors.items (drop l.line-index l.script.lines) rest → told l.initial.replied.floors.items l.script.lines (l.replied.replies ++ rest))

@@ -25,8 +25,8 @@ loop-watch-preserved g c =
     let pushed = c.in_ok-push.ensures.items in
     let popped = All-pop (HasSeen clerk) c.loop-watch.left.items c.pop.new.self.items (Some c.in-Some.watch) c.in-Some.ensures.items so_far.0 in
     let one = of_watch clerk c.in-Some.watch asks teller popped.1 c.in_ok-teller.ensures in
-    let more = each_more (IsOf {T = DeskTeller g.row.G.Denot} (λ t. t.sight.house) (λ t. record { asks = t.asks; timetable = t.sight.book.timetable }) clerk.house (terms_of asks clerk.book)) tellers teller so_far.1 one in (
+    let more = each_more (IsOf {T = DeskTeller g.row.G.Denot} (λ t. t.sight.house) (λ t. record { asks = t.asks; timetable = t.sight.book.timetable }) (λ t. t.wants) clerk.house (terms_of asks clerk.book)) tellers teller so_far.1 one in (
       popped.0,
-      subst (Each (IsOf {T = DeskTeller g.row.G.Denot} (λ t. t.sight.house) (λ t. record { asks = t.asks; timetable = t.sight.book.timetable }) clerk.house (terms_of asks clerk.book))) (sym pushed) more,
+      subst (Each (IsOf {T = DeskTeller g.row.G.Denot} (λ t. t.sight.house) (λ t. record { asks = t.asks; timetable = t.sight.book.timetable }) (λ t. t.wants) clerk.house (terms_of asks clerk.book))) (sym pushed) more,
       omega (arith, so_far.2, ap length pushed, length_push tellers teller, c.in-Some.ensures.len),
     )

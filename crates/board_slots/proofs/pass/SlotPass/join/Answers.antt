@@ -8,10 +8,10 @@ pub join_seat-requires : goal.join_seat-requires
 join_seat-requires g c =
     let mine = ap (λ (v : PassView). v.of.board) c.self.view_is ∙ (ap (λ (z : BoardView). z.board) c.requires.0 ∙ sym c.shared.ensures.same.0) in
     let words : c.shared.result.now.table_id.words ≡ c.args.board.now.board.slots + 1 = ap (λ (z : TableId). z.words) c.shared.ensures.same.0 ∙ c.shared.ensures.sizes.0 in
-    let none : c.other.inside.held ≡ None = ap (λ (v : PassView). v.held) c.other.view_is ∙ c.requires.2 in (
+    let none : c.other.inside.held ≡ None = c.other.invariant.1 ∙ (ap (λ (v : PassView). v.held) c.other.view_is ∙ c.requires.2) in (
       mine,
       ap (λ (v : PassView). v.of.board) c.other.view_is ∙ (ap (λ (z : BoardView). z.board) c.requires.1 ∙ sym c.shared.ensures.same.0),
-      subst (λ (h : Option ℕ). Holds h c.other.inside.seat.me.1) none c.other.invariant.1,
+      subst (λ (h : Option ℕ). Holds h c.other.inside.seat.me.1) none c.other.invariant.2,
       omega (arith, words),
       joins_it _ _ _ _ _,
     )

@@ -1,0 +1,6 @@
+use Rattle.std.proofs.Common.{◌≡◌}
+use Rattle.fare_versions.specs.Writing.{pending, shown}
+use Rattle.fare_versions.proofs.store.publish_at_last.Given as goal
+
+abbrev pub invariant-loop : goal.invariant-loop
+invariant-loop g l = (pending l.writer ≡ pending l.initial.writer) × (shown l.writer ≡ shown l.initial.writer)
