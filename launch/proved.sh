@@ -39,7 +39,8 @@ program_crates() {
 # The checksum of all that the program is proved and built of: the sources, and the kit that proves and builds them.
 source_sum() {
   local kit crate part parts=()
-  kit=$(rt version) && [ -n "$kit" ] || return
+  # The input is the program's, and may be a folder.
+  kit=$(rt version </dev/null) && [ -n "$kit" ] || return
   for crate in $(program_crates); do
     for part in src specs proofs; do
       if [ -d "$top/crates/$crate/$part" ]; then parts+=("crates/$crate/$part"); fi

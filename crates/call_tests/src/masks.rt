@@ -21,3 +21,11 @@ fn marks_each_length(rt: HostRuntime) {
         }
     }
 }
+
+// A row of each end is marked anew, and where there is no row nothing is written.
+#[test]
+fn marks_the_rows_of_a_minute(rt: HostRuntime) {
+    let mut marks = [false, false, true];
+    between(&[0, 300, 1000], &[1439, 1320, 1100], 600, &mut marks);
+    assert_eq!(rt; marks, [true, true, false]);
+}

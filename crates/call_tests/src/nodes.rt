@@ -73,10 +73,10 @@ fn price(node: &Node) -> Option<u64> {
     node.offers.rows.as_slice().first().map(|offer| offer.price)
 }
 
-/// The price of what was kept, or `None` for `NoRoom`.
-fn kept(kept: Kept) -> Option<u64> {
+/// What was kept, or `None` for `NoRoom`.
+fn kept(kept: Kept<'_>) -> Option<&Node> {
     match kept {
-        Kept::Here(node) => price(node),
+        Kept::Here(node) => Some(node),
         Kept::NoRoom => None,
     }
 }
@@ -93,7 +93,7 @@ fn keep(
     ensures { pass.new.cells ≡ pass.old.cells }
 {
     let node = node(alloc, amount)?;
-    Ok(kept(store.keep(alloc, pass, &node)?))
+    Ok(kept(store.keep(alloc, pass, &node)?).and_then(price))
 }
 
 /// The price of what a pass finds by that key.
@@ -128,76 +128,78 @@ fn tells_keys(rt: HostRuntime) {
     assert_eq!(rt; same(rt.alloc()), Ok([true, true, false]));
 }
 
-/// What a pass finds in one empty cell and keeps there, and then what a second one keeps and finds.
-fn in_one_cell(alloc: Global, store: &NodeStore) -> Result<[Option<u64>; 4], Mem> {
+/// What a pass finds in one empty cell and keeps there, what a second one keeps by the same key and by another one, and what a
+/// third one finds by both.
+fn in_one_cell(alloc: Global, store: &NodeStore) -> Result<[Option<u64>; 6], Mem> {
     let mut first = store.pass(alloc)?;
     let none = find(alloc, store, &mut first, 20000)?;
     let kept = keep(alloc, store, &mut first, 20000)?;
     let mut second = store.pass(alloc)?;
     let same = keep(alloc, store, &mut second, 20000)?;
-    let found = find(alloc, store, &mut second, 20000)?;
-    Ok([none, kept, same, found])
+    let other = keep(alloc, store, &mut second, 15000)?;
+    let mut third = store.pass(alloc)?;
+    let found = find(alloc, store, &mut third, 20000)?;
+    let lost = find(alloc, store, &mut third, 15000)?;
+    Ok([none, kept, same, other, found, lost])
 }
 
 #[test]
 fn keeps_in_one_cell(rt: HostRuntime) -> Result<(), Fail> {
     let store = NodeStore::new(rt.alloc(), 1)?;
-    let expected = [None, Some(20000), Some(20000), Some(20000)];
+    let expected = [None, Some(20000), Some(20000), None, Some(20000), None];
     assert_eq!(rt; in_one_cell(rt.alloc(), &store), Ok(expected));
     Ok(())
 }
 
-/// What a pass keeps in one cell, and then, by another key, keeps twice and finds.
-fn beside_another(alloc: Global, store: &NodeStore) -> Result<[Option<u64>; 4], Mem> {
-    let mut pass = store.pass(alloc)?;
-    Ok([
-        keep(alloc, store, &mut pass, 20000)?,
-        keep(alloc, store, &mut pass, 15000)?,
-        keep(alloc, store, &mut pass, 15000)?,
-        find(alloc, store, &mut pass, 15000)?,
-    ])
-}
-
-#[test]
-fn has_no_room_for_another(rt: HostRuntime) -> Result<(), Fail> {
-    let store = NodeStore::new(rt.alloc(), 1)?;
-    let expected = [Some(20000), None, None, None];
-    assert_eq!(rt; beside_another(rt.alloc(), &store), Ok(expected));
-    Ok(())
-}
-
-/// What each of two passes keeps by one key.
-fn by_two(alloc: Global, store: &NodeStore) -> Result<[Option<u64>; 2], Mem> {
+/// Whether two nodes that two passes built of one key, each before either was kept, are both kept, with the same key and offers.
+fn by_two(alloc: Global, store: &NodeStore) -> Result<bool, Mem> {
     let mut first = store.pass(alloc)?;
     let mut second = store.pass(alloc)?;
-    Ok([
-        keep(alloc, store, &mut first, 20000)?,
-        keep(alloc, store, &mut second, 20000)?,
-    ])
+    let one = node(alloc, 20000)?;
+    let other = node(alloc, 20000)?;
+    let here = kept(store.keep(alloc, &mut first, &one)?);
+    let there = kept(store.keep(alloc, &mut second, &other)?);
+    Ok(are_one(here, there))
+}
+
+/// Whether both are there, with the same key and offers.
+fn are_one(one: Option<&Node>, other: Option<&Node>) -> bool {
+    match (one, other) {
+        (Some(one), Some(other)) => {
+            asks_same(&one.key, &other.key)
+                && one.offers.rows.as_slice() == other.offers.rows.as_slice()
+        }
+        _ => false,
+    }
 }
 
 #[test]
 fn keeps_what_two_passes_built(rt: HostRuntime) -> Result<(), Fail> {
     let store = NodeStore::new(rt.alloc(), 16)?;
-    assert_eq!(rt; by_two(rt.alloc(), &store), Ok([Some(20000); 2]));
+    assert_eq!(rt; by_two(rt.alloc(), &store), Ok(true));
     Ok(())
 }
 
-/// What a pass keeps by nine keys of one home.
-fn of_one_home(alloc: Global, store: &NodeStore) -> Result<[Option<u64>; 9], Mem> {
+/// What a pass that knows nothing keeps, or finds, by nine keys of one home.
+fn of_one_home(alloc: Global, store: &NodeStore, keeps: bool) -> Result<[Option<u64>; 9], Mem> {
     let mut pass = store.pass(alloc)?;
-    let mut found = [None; 9];
+    let mut told = [None; 9];
     for amount in 0..9 {
-        found[amount as usize] = keep(alloc, store, &mut pass, amount)?;
+        told[amount as usize] = if keeps {
+            keep(alloc, store, &mut pass, amount)?
+        } else {
+            find(alloc, store, &mut pass, amount)?
+        };
     }
-    Ok(found)
+    Ok(told)
 }
 
-/// The ninth key of one home finds no room in a store of many cells.
+/// The ninth key of one home finds no room in a store of many cells; the others are found in each of its eight home cells, by a pass
+/// that kept none of them. It fails where only the first home cell is read.
 #[test]
 fn fills_eight_cells(rt: HostRuntime) -> Result<(), Fail> {
     let store = NodeStore::new(rt.alloc(), 16)?;
-    let kept = [
+    let eight = [
         Some(0),
         Some(1),
         Some(2),
@@ -208,6 +210,8 @@ fn fills_eight_cells(rt: HostRuntime) -> Result<(), Fail> {
         Some(7),
         None,
     ];
-    assert_eq!(rt; of_one_home(rt.alloc(), &store), Ok(kept));
+    let kept = of_one_home(rt.alloc(), &store, true);
+    let found = of_one_home(rt.alloc(), &store, false);
+    assert_eq!(rt; [kept, found], [Ok(eight), Ok(eight)]);
     Ok(())
 }

@@ -1,30 +1,16 @@
 //! Passes of one board.
 ghost use Rattle.std.specs.Prelude.{◌≡◌, ◌≤◌, None, IfOk};
 
+use crate::counting::Counting;
 use crate::{round_trip, two_carriers};
 use fare_book::Book;
-use fare_law::{Gate, Mem, NoGate, Request, Why};
+use fare_law::{NoGate, Request, Why};
 use search_core::{Answer, SearchFault};
 use shared_board::{Board, BoardPass};
 use std::alloc::Global;
 use std::sync::Arc;
-use std::sync::atomic::{AtomicU64, Ordering};
 use std::test::Fail;
 use std::thread::{Threads, map_vec};
-
-/// Counts the nodes that are built for an answer.
-#[derive(Drop)]
-struct Counting {
-    built: AtomicU64,
-}
-
-impl Gate for Counting {
-    fn pass(&self, _desk: u32) {
-        self.built.fetch_add(1, Ordering::SeqCst);
-    }
-
-    fn done(&self, _desk: u32) {}
-}
 
 /// The board of the case of two carriers for a party of two, with its number 7, and a pass.
 fn open(alloc: Global, slots: u32) -> Result<(Board, BoardPass), Fail>
@@ -69,13 +55,11 @@ fn built_for_best(alloc: Global, board: &Board, pass: &mut BoardPass) -> Result<
     requires { (pass.old.of ≡ board.now.slots) × (pass.old.held ≡ None) }
     ensures { pass.new ≡ pass.old }
 {
-    let gate = Counting {
-        built: AtomicU64::new(0),
-    };
+    let gate = Counting::new();
     if !answers_best(alloc, board, pass, &gate)? {
         return Err(Fail::new("another answer"));
     }
-    Ok(gate.built.load(Ordering::SeqCst))
+    Ok(gate.get())
 }
 
 /// How many nodes two passes built: each in turn for the work, and then each for its answer.
@@ -162,12 +146,21 @@ fn hold_out(alloc: Global) -> Result<(u32, u64, bool), Fail> {
     beside_a_held_node(alloc, &board, &mut first, &mut second)
 }
 
-/// While a pass has the one slot out, another finds nothing there, builds for itself and answers the same.
+/// How many nodes the second pass builds where the first has worked and holds none.
+fn beside_no_held_node(alloc: Global) -> Result<u64, Fail> {
+    let (board, mut first) = open(alloc, 1)?;
+    let mut second = first.split(&board)?;
+    first.work(alloc, &board)?;
+    built_for_best(alloc, &board, &mut second)
+}
+
+/// While a pass has the one slot out, another finds nothing there, builds for itself what it would have found, and answers the same.
 #[test]
 fn answers_without_a_held_node(rt: HostRuntime) -> Result<(), Fail> {
     let (worked, built, is_back) = hold_out(rt.alloc())?;
+    let found = beside_no_held_node(rt.alloc())?;
     assert!(rt; worked > 0);
-    assert!(rt; built > 0);
+    assert!(rt; built > found);
     assert!(rt; is_back);
     Ok(())
 }
@@ -206,7 +199,7 @@ fn refuses_a_party_of_none(rt: HostRuntime) -> Result<(), Fail> {
     Ok(())
 }
 
-/// A pass that works in a thread of its own.
+/// A pass that works and answers in a thread of its own.
 #[derive(Drop)]
 struct Worker<'a> {
     board: &'a Board,
@@ -214,55 +207,67 @@ struct Worker<'a> {
     ghost own: { (pass.of ≡ board.now.slots) × (pass.held ≡ None) },
 }
 
-/// How many nodes the worker built.
-fn worked(alloc: Global, worker: Worker) -> Result<u32, Mem> {
+/// How many nodes the worker built for its work, where it then answers right.
+fn worked(alloc: Global, worker: Worker) -> Option<u32> {
     let Worker { board, pass } = worker;
     let mut pass = pass;
-    pass.work(alloc, board)
+    let built = pass.work(alloc, board).ok()?;
+    let gate = Counting::new();
+    match answers_best(alloc, board, &mut pass, &gate) {
+        Ok(true) => Some(built),
+        _ => None,
+    }
 }
 
-/// How many nodes four passes built that worked at once, all of them together.
+/// How many nodes so many passes built that worked and answered at once, all of them together.
 fn built_together<R: Threads + Sync>(
     rt: &R,
     alloc: Global,
     board: &Board,
     pass: &mut BoardPass,
+    count: u32,
 ) -> Result<u64, Fail>
     requires { (pass.old.of ≡ board.now.slots) × (pass.old.held ≡ None) }
     ensures { pass.new ≡ pass.old }
 {
     let mut workers = Vec::new(alloc);
-    for _ in 0..4 {
+    for _ in 0..count {
         let pass = pass.split(board)?;
         workers.push(Worker { board, pass })?;
     }
     let counts = map_vec(rt, workers, &|worker: Worker| worked(alloc, worker))?;
     let mut built: u64 = 0;
     for count in counts {
-        built = built.saturating_add(u64::from(count?));
+        let Some(count) = count else {
+            return Err(Fail::new("another answer of a thread"));
+        };
+        built = built.saturating_add(u64::from(count));
     }
     Ok(built)
 }
 
 /// How many nodes a pass needs that works alone.
 fn needed(alloc: Global) -> Result<u64, Fail> {
-    let (board, mut pass) = open(alloc, 64)?;
+    let (board, mut pass) = open(alloc, 1024)?;
     Ok(u64::from(pass.work(alloc, &board)?))
 }
 
-/// How many nodes four passes of one board built together, after which a fifth answers.
-fn answer_after<R: Threads + Sync>(rt: &R, alloc: Global) -> Result<u64, Fail> {
-    let (board, mut pass) = open(alloc, 64)?;
-    let built = built_together(rt, alloc, &board, &mut pass)?;
-    built_for_best(alloc, &board, &mut pass)?;
-    Ok(built)
+/// How many nodes so many passes of one board built together, and how many one more then builds for its answer.
+fn built_after<R: Threads + Sync>(rt: &R, alloc: Global, count: u32) -> Result<(u64, u64), Fail> {
+    let (board, mut pass) = open(alloc, 1024)?;
+    let built = built_together(rt, alloc, &board, &mut pass, count)?;
+    Ok((built, built_for_best(alloc, &board, &mut pass)?))
 }
 
-/// Each node that a pass needs was built by one of four that worked at once, at least, and a fifth answers the same.
+/// Two and four passes work and answer at once: each answers right, all that a pass needs was built by one of them at least, and
+/// one more finds it all.
 #[test]
-fn answers_after_four_threads(rt: HostRuntime) -> Result<(), Fail> {
+fn answers_from_several_threads(rt: HostRuntime) -> Result<(), Fail> {
     let needed = needed(rt.alloc())?;
-    let built = answer_after(&rt, rt.alloc())?;
-    assert!(rt; built >= needed);
+    for count in [2, 4] {
+        let (built, last) = built_after(&rt, rt.alloc(), count)?;
+        assert!(rt; built >= needed, "{count} passes");
+        assert_eq!(rt; last, 0, "{count} passes");
+    }
     Ok(())
 }

@@ -25,8 +25,8 @@ const PLACES: [PlaceRow; 2] = [
     },
 ];
 
-/// From London to New York on a Monday.
-const FLIGHT: FlightRow = FlightRow {
+/// From London to New York on Monday 2031-03-03, from 11:00 to 14:00.
+pub const FLIGHT: FlightRow = FlightRow {
     line: 5,
     carrier: QX,
     number: 1,

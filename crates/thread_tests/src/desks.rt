@@ -3,30 +3,18 @@ ghost use Rattle.std.specs.Prelude.{◌≡◌, ◌<◌, ◌≤◌, All, IfOk};
 ghost use Rattle.fare_law.specs.FilingLimits.{IsAction};
 ghost use Rattle.fare_versions.specs.Seen.{HasSeen};
 
-use crate::books::{file, key_back, key_out, opening, put_at, request};
-use fare_law::{Action, Gate, List, Mem};
+use crate::books::{file, key_back, key_out, put_at};
+use crate::cases::{Case, book_of, request_of};
+use crate::counting::Counting;
+use crate::filings::{QX, fare_key};
+use fare_law::{Action, Gate, List, Mem, Place, Priced, Request};
 use fare_versions::{Clerk, FileFault, Watch, begin};
 use node_publish::NodeStore;
 use search_core::SearchFault;
 use search_desk::Desk;
 use std::alloc::Global;
 use std::sync::Wait;
-use std::sync::atomic::{AtomicU64, Ordering};
 use std::test::Fail;
-
-/// Counts the nodes that are built.
-#[derive(Drop)]
-struct Counting {
-    built: AtomicU64,
-}
-
-impl Gate for Counting {
-    fn pass(&self, _desk: u32) {
-        self.built.fetch_add(1, Ordering::SeqCst);
-    }
-
-    fn done(&self, _desk: u32) {}
-}
 
 /// A fare that the clerk files.
 #[derive(Clone, Copy)]
@@ -37,6 +25,8 @@ enum Offer {
     Cheaper,
     /// From New York to London at 15000.
     Back,
+    /// From Paris to Rome at 15000.
+    Elsewhere,
 }
 
 /// What is done at a desk.
@@ -46,12 +36,16 @@ enum Step {
     File(Offer),
     /// The desk learns of all that was filed.
     Learn,
-    Search,
+    /// It searches, and is to find this version and these prices, and to build a node or not.
+    Search(u32, [u64; 3], bool),
 }
 
-/// What is done at one desk and then at another of one house and one store.
+/// What is done at one desk and then at another of one house and one store of so many cells.
 #[derive(Clone, Copy)]
 struct Turns {
+    name: &'static str,
+    case: Case,
+    cells: u32,
     first: &'static [Step],
     /// Whether the first desk is still there at the other's turn.
     stays: bool,
@@ -66,42 +60,64 @@ fn put_of(offer: Offer) -> Action
         Offer::First => put_at(key_out(b'Y'), 20000),
         Offer::Cheaper => put_at(key_out(b'B'), 15000),
         Offer::Back => put_at(key_back(b'Y'), 15000),
+        Offer::Elsewhere => put_at(fare_key(QX, Place(*b"PAR"), Place(*b"ROM"), b'Y'), 15000),
     }
 }
 
-/// What a search found: the version, how many tickets, the least price, and how many nodes were built for it.
+/// What a search found: the version, the prices of its tickets, three at most and 0 where there is none, and whether a node was
+/// built for it.
 #[derive(Clone, Copy, PartialEq, Debug)]
-struct Found {
-    number: u32,
-    tickets: usize,
-    cheapest: Option<u64>,
-    built: u64,
+pub struct Found {
+    pub number: u32,
+    pub prices: [u64; 3],
+    pub is_built: bool,
 }
 
-fn a_search(number: u32, tickets: usize, cheapest: Option<u64>, built: u64) -> Found {
+pub fn a_search(number: u32, prices: [u64; 3], is_built: bool) -> Found {
     Found {
         number,
-        tickets,
-        cheapest,
-        built,
+        prices,
+        is_built,
     }
 }
 
-fn find(alloc: Global, desk: &mut Desk, store: &NodeStore) -> Result<Found, SearchFault>
+/// The price of the ticket at this place.
+fn price(tickets: &[Priced], at: usize) -> u64 {
+    tickets.get(at).map_or(0, |ticket| ticket.price)
+}
+
+/// What a desk finds, by this gate; whether a node is built for it the gate tells.
+pub fn found_by<G: Gate>(
+    alloc: Global,
+    desk: &mut Desk,
+    store: &NodeStore,
+    request: &Request,
+    gate: &G,
+) -> Result<Found, SearchFault>
     requires { desk.old.pass.cells ≡ store.now }
     ensures cells { desk.new.pass.cells ≡ desk.old.pass.cells }
     ensures house { desk.new.sight.house ≡ desk.old.sight.house }
 {
-    let gate = Counting {
-        built: AtomicU64::new(0),
-    };
-    let answer = desk.search(alloc, store, &request(), 1000, &gate)?;
-    Ok(Found {
-        number: answer.number,
-        tickets: answer.tickets.len(),
-        cheapest: answer.tickets.as_slice().first().map(|ticket| ticket.price),
-        built: gate.built.load(Ordering::SeqCst),
-    })
+    let answer = desk.search(alloc, store, request, 1000, gate)?;
+    let tickets = answer.tickets.as_slice();
+    let prices = [price(tickets, 0), price(tickets, 1), price(tickets, 2)];
+    Ok(a_search(answer.number, prices, false))
+}
+
+pub fn find(
+    alloc: Global,
+    desk: &mut Desk,
+    store: &NodeStore,
+    request: &Request,
+) -> Result<Found, SearchFault>
+    requires { desk.old.pass.cells ≡ store.now }
+    ensures cells { desk.new.pass.cells ≡ desk.old.pass.cells }
+    ensures house { desk.new.sight.house ≡ desk.old.sight.house }
+{
+    let gate = Counting::new();
+    let found = found_by(alloc, desk, store, request, &gate)?;
+    let is_built = gate.get() > 0;
+    Ok(Found { is_built, ..found })
 }
 
 /// The clerk files the fare, and the desk learns of it.
@@ -122,32 +138,37 @@ fn learn_of<R: Wait>(
     Ok(())
 }
 
-/// What a desk finds at its turn.
+/// What a desk is the first to find at its turn that isn't as it is to be.
 fn follow<R: Wait>(
     rt: &R,
     alloc: Global,
     clerk: &mut Clerk,
     desk: &mut Desk,
     store: &NodeStore,
-    steps: &[Step],
-) -> Result<Vec<Found>, Fail>
+    turn: (&Request, &[Step]),
+) -> Result<Option<Found>, Fail>
     requires cells { desk.old.pass.cells ≡ store.now }
     requires house { desk.old.sight.house ≡ clerk.old.house }
     ensures { clerk.new.house ≡ clerk.old.house }
 {
-    let mut found = Vec::new(alloc);
+    let (request, steps) = turn;
     for step in steps {
         match *step {
             Step::File(offer) => learn_of(rt, alloc, clerk, desk, offer)?,
             Step::Learn => desk.learn(&clerk.tell()),
-            Step::Search => found.push(find(alloc, desk, store)?)?,
+            Step::Search(number, prices, is_built) => {
+                let found = find(alloc, desk, store, request)?;
+                if found != a_search(number, prices, is_built) {
+                    return Ok(Some(found));
+                }
+            }
         }
     }
-    Ok(found)
+    Ok(None)
 }
 
 /// A desk of the clerk's house with a pass of the store.
-fn desk_of(clerk: &Clerk, watch: Watch, store: &NodeStore, alloc: Global) -> Result<Desk, Mem>
+pub fn desk_of(clerk: &Clerk, watch: Watch, store: &NodeStore, alloc: Global) -> Result<Desk, Mem>
     requires { HasSeen clerk.now watch }
     ensures house { IfOk result (λ d. d.sight.house ≡ clerk.now.house) }
     ensures cells { IfOk result (λ d. d.pass.cells ≡ store.now) }
@@ -176,7 +197,7 @@ fn desks_of(
     Ok((first, second))
 }
 
-/// What the two desks find, one after the other.
+/// What each of the two desks, one after the other, is the first to find that isn't as it is to be.
 fn in_turn<R: Wait>(
     rt: &R,
     alloc: Global,
@@ -184,140 +205,112 @@ fn in_turn<R: Wait>(
     watches: List<Watch>,
     store: &NodeStore,
     turns: &Turns,
-) -> Result<(Vec<Found>, Vec<Found>), Fail>
+) -> Result<[Option<Found>; 2], Fail>
     requires { All (HasSeen clerk.old) watches }
 {
+    let request = request_of(turns.case);
     let (mut first, mut second) = desks_of(clerk, watches, store, alloc)?;
-    let before = follow(rt, alloc, clerk, &mut first, store, turns.first)?;
+    let one = follow(rt, alloc, clerk, &mut first, store, (&request, turns.first))?;
     let _first = turns.stays.then_some(first);
-    let after = follow(rt, alloc, clerk, &mut second, store, turns.second)?;
-    Ok((before, after))
+    let turn = (&request, turns.second);
+    let other = follow(rt, alloc, clerk, &mut second, store, turn)?;
+    Ok([one, other])
 }
 
-/// What two desks of a house of their own find, with this store.
-fn play_with<R: Wait>(
-    rt: &R,
-    alloc: Global,
-    store: &NodeStore,
-    turns: &Turns,
-) -> Result<(Vec<Found>, Vec<Found>), Fail> {
-    let (mut clerk, watches) = begin(rt, alloc, opening(alloc)?, 2)?;
-    let found = in_turn(rt, alloc, &mut clerk, watches, store, turns);
+/// The same of two desks of a house of their own.
+fn play<R: Wait>(rt: &R, alloc: Global, turns: &Turns) -> Result<[Option<Found>; 2], Fail> {
+    if turns.cells == 0 || turns.cells > 65_536 {
+        return Err(Fail::new("no such store"));
+    }
+    let store = NodeStore::new(alloc, turns.cells)?;
+    let book = book_of(alloc, turns.case)?;
+    let (mut clerk, watches) = begin(rt, alloc, book, 2)?;
+    let found = in_turn(rt, alloc, &mut clerk, watches, &store, turns);
     clerk.end(rt);
     found
 }
 
-/// The same with a store of so many cells.
-fn play<R: Wait>(
-    rt: &R,
-    alloc: Global,
-    cells: u32,
-    turns: &Turns,
-) -> Result<(Vec<Found>, Vec<Found>), Fail>
-    requires { (0 < cells) × (cells ≤ 65536) }
-{
-    let store = NodeStore::new(alloc, cells)?;
-    play_with(rt, alloc, &store, turns)
-}
+const NONE: [u64; 3] = [0; 3];
 
-const ONE_DESK: Turns = Turns {
-    first: &[
-        Step::Search,
-        Step::File(Offer::First),
-        Step::Search,
-        Step::File(Offer::Cheaper),
-        Step::Search,
-        Step::Search,
-    ],
-    stays: true,
-    second: &[],
-};
+/// The first fare, and the cheaper one before it.
+const ONE: [u64; 3] = [20000, 0, 0];
 
-/// Each version has a sheet of its own, so each but the first builds a node, and the last search finds it.
+const TWO: [u64; 3] = [15000, 20000, 0];
+
+/// The tickets of the case of two carriers.
+pub const THREE: [u64; 3] = [36000, 48000, 48000];
+
+const TURNS: [Turns; 5] = [
+    // Each version has a sheet of its own, so each but the first builds a node, and the last search finds it.
+    Turns {
+        name: "one desk",
+        case: Case::OneFlight,
+        cells: 64,
+        first: &[
+            Step::Search(0, NONE, false),
+            Step::File(Offer::First),
+            Step::Search(1, ONE, true),
+            Step::File(Offer::Cheaper),
+            Step::Search(2, TWO, true),
+            Step::Search(2, TWO, false),
+        ],
+        stays: true,
+        second: &[],
+    },
+    Turns {
+        name: "another market's filing leaves the nodes as they are",
+        case: Case::TwoCarriers,
+        cells: 65_536,
+        first: &[
+            Step::Search(1, THREE, true),
+            Step::File(Offer::Elsewhere),
+            Step::Search(2, THREE, false),
+        ],
+        stays: true,
+        second: &[],
+    },
+    // The second desk finds the node that the first one built, and then the one cell has a node of another version's sheet.
+    Turns {
+        name: "one cell and one key a version",
+        case: Case::OneFlight,
+        cells: 1,
+        first: &[Step::File(Offer::First), Step::Search(1, ONE, true)],
+        stays: true,
+        second: &[
+            Step::Learn,
+            Step::Search(1, ONE, false),
+            Step::File(Offer::Cheaper),
+            Step::Search(2, TWO, true),
+        ],
+    },
+    Turns {
+        name: "one cell and many keys",
+        case: Case::TwoCarriers,
+        cells: 1,
+        first: &[Step::Search(1, THREE, true)],
+        stays: true,
+        second: &[Step::Search(1, THREE, true)],
+    },
+    // No flight is of the carrier whose fare is filed.
+    Turns {
+        name: "what a desk built that is gone",
+        case: Case::TwoCarriers,
+        cells: 65_536,
+        first: &[Step::File(Offer::Back), Step::Search(2, THREE, true)],
+        stays: false,
+        second: &[Step::Learn, Step::Search(2, THREE, false)],
+    },
+];
+
 #[test]
 fn searches_what_it_learnt(rt: HostRuntime) -> Result<(), Fail> {
-    let (alone, _none) = play(&rt, rt.alloc(), 64, &ONE_DESK)?;
-    let expected = [
-        a_search(0, 0, None, 0),
-        a_search(1, 1, Some(20000), 1),
-        a_search(2, 2, Some(15000), 1),
-        a_search(2, 2, Some(15000), 0),
-    ];
-    assert_eq!(rt; alone.as_slice(), expected.as_slice());
-    Ok(())
-}
-
-/// The desks find what is kept in one cell; of a further version the second desk builds for itself.
-const BESIDE: Turns = Turns {
-    first: &[Step::File(Offer::First), Step::Search],
-    stays: true,
-    second: &[
-        Step::Learn,
-        Step::Search,
-        Step::File(Offer::Cheaper),
-        Step::Search,
-    ],
-};
-
-#[test]
-fn shares_one_cell(rt: HostRuntime) -> Result<(), Fail> {
-    let (first, second) = play(&rt, rt.alloc(), 1, &BESIDE)?;
-    assert_eq!(rt;
-        first.as_slice(),
-        [a_search(1, 1, Some(20000), 1)].as_slice()
-    );
-    // The second desk finds the node that the first one built, and then the one cell has a node of another version's sheet.
-    let built = second.last().map_or(0, |last| last.built);
-    let expected = [
-        a_search(1, 1, Some(20000), 0),
-        a_search(2, 2, Some(15000), built),
-    ];
-    assert_eq!(rt; second.as_slice(), expected.as_slice());
-    assert!(rt; built > 0);
-    Ok(())
-}
-
-/// The same, and the first desk is gone at the other's turn.
-const AFTER: Turns = Turns {
-    stays: false,
-    ..BESIDE
-};
-
-#[test]
-fn keeps_what_a_dropped_desk_built(rt: HostRuntime) -> Result<(), Fail> {
-    let (first, second) = play(&rt, rt.alloc(), 64, &AFTER)?;
-    assert_eq!(rt;
-        first.as_slice(),
-        [a_search(1, 1, Some(20000), 1)].as_slice()
-    );
-    let expected = [
-        a_search(1, 1, Some(20000), 0),
-        a_search(2, 2, Some(15000), 1),
-    ];
-    assert_eq!(rt; second.as_slice(), expected.as_slice());
-    Ok(())
-}
-
-/// A filing for another market comes between two searches.
-const AROUND: Turns = Turns {
-    first: &[
-        Step::File(Offer::First),
-        Step::Search,
-        Step::File(Offer::Back),
-        Step::Search,
-    ],
-    stays: true,
-    second: &[],
-};
-
-/// What another market's filing leaves as it was is found and not built again.
-#[test]
-fn builds_nothing_for_another_market(rt: HostRuntime) -> Result<(), Fail> {
-    let (alone, _none) = play(&rt, rt.alloc(), 64, &AROUND)?;
-    let expected = [
-        a_search(1, 1, Some(20000), 1),
-        a_search(2, 1, Some(20000), 0),
-    ];
-    assert_eq!(rt; alone.as_slice(), expected.as_slice());
+    for turns in &TURNS {
+        assert_eq!(rt;
+            play(&rt, rt.alloc(), turns)?,
+            [None, None],
+            "{}",
+            turns.name
+        );
+    }
     Ok(())
 }

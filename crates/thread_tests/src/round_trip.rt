@@ -87,6 +87,11 @@ fn fares(alloc: Global) -> Result<Arc<Filing>, Mem>
 
 /// There and back for so many, and four tickets at most.
 pub fn request(party: u8) -> Request {
+    there_and_back(22348, 22311, party, 4)
+}
+
+/// To New York on one Monday and back on a day, sold on a day, for so many and with so many tickets at most.
+pub fn there_and_back(back: i32, sale: i32, party: u8, best: u16) -> Request {
     let mut slices = ArrayVec::new();
     slices.push(Slice {
         from: LON,
@@ -97,13 +102,13 @@ pub fn request(party: u8) -> Request {
     slices.push(Slice {
         from: NYC,
         to: LON,
-        first: 22348,
+        first: back,
         days: 1,
     });
     Request {
-        sale: 22311,
+        sale,
         party,
-        best: 4,
+        best,
         slices,
     }
 }

@@ -5,12 +5,13 @@ ghost use Rattle.std.specs.Arc.{arc_value};
 ghost use Rattle.fare_law.specs.FilingLimits.{IsFiling};
 ghost use Rattle.fare_law.specs.RuleLimits.{IsRule};
 
+use crate::books::FLIGHT;
 use crate::filings::{LON, NYC, Y, fare_key, filing, put, seats};
+use crate::round_trip::there_and_back;
 use fare_book::Book;
 use fare_law::{
     Action, ArrayVec, Carrier, CombineRule, EndOnEnd, FareKind, Filing, FlightRow, List, Mem,
-    MinStay, Partners, Place, PlaceRow, Request, Rule, SeatRow, Shared, Slice, TransferRule,
-    UnitKind,
+    MinStay, Partners, Place, PlaceRow, Request, Rule, SeatRow, Shared, TransferRule, UnitKind,
 };
 use schedule_book::Schedule;
 use std::alloc::Global;
@@ -21,7 +22,7 @@ const DUB: Place = Place(*b"DUB");
 
 const BX: Carrier = Carrier(*b"BX");
 
-const EX: Carrier = Carrier(*b"EX");
+pub const EX: Carrier = Carrier(*b"EX");
 
 /// The class Q.
 const Q: u8 = 16;
@@ -49,16 +50,7 @@ const THERE: FlightRow = FlightRow {
     line: 1,
     carrier: BX,
     number: 11,
-    from: LON,
-    to: NYC,
-    dep: 660,
-    dep_offset: 0,
-    arr: 840,
-    arr_offset: -300,
-    shift: 0,
-    first: 22341,
-    last: 22341,
-    days: 1,
+    ..FLIGHT
 };
 
 /// On Wednesday 2031-03-12 from 19:00 to 6:30 of the day after.
@@ -199,23 +191,5 @@ fn online() -> Rule
 
 /// There and back for so many, and three tickets at most.
 pub fn request(party: u8) -> Request {
-    let mut slices = ArrayVec::new();
-    slices.push(Slice {
-        from: LON,
-        to: NYC,
-        first: 22341,
-        days: 1,
-    });
-    slices.push(Slice {
-        from: NYC,
-        to: LON,
-        first: 22350,
-        days: 1,
-    });
-    Request {
-        sale: 22320,
-        party,
-        best: 3,
-        slices,
-    }
+    there_and_back(22350, 22320, party, 3)
 }

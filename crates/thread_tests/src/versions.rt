@@ -1,10 +1,10 @@
 //! What a watch sees of a filing that is taken and of one that is refused, and once its clerk has ended.
-ghost use Rattle.std.specs.Prelude.{◌≡◌, All, IfSome};
+ghost use Rattle.std.specs.Prelude.{◌≡◌, All, IfOk, IfSome};
 ghost use Rattle.fare_versions.specs.Seen.{HasSeen};
 
 use crate::books::{file, key_out, opening, put_at};
 use fare_law::{Action, BookWhy, List, Mem, Refused};
-use fare_versions::{Clerk, FileFault, Watch, begin};
+use fare_versions::{Clerk, FileFault, Receipt, Watch, begin};
 use std::alloc::Global;
 use std::sync::Wait;
 use std::test::Fail;
@@ -30,6 +30,17 @@ fn look(watch: &mut Watch) -> Result<u32, Mem>
     Ok(watch.look()?.number())
 }
 
+/// Files a fare, and once more where memory was wanting for it.
+fn file_at_last<R: Wait>(rt: &R, alloc: Global, clerk: &mut Clerk) -> Result<Receipt, FileFault>
+    ensures house { clerk.new.house ≡ clerk.old.house }
+    ensures receipt { IfOk result (λ r. r.house ≡ clerk.new.house) }
+{
+    match file(rt, alloc, clerk, put_at(key_out(b'Y'), 20000)) {
+        Err(FileFault::Mem) => file(rt, alloc, clerk, put_at(key_out(b'Y'), 20000)),
+        told => told,
+    }
+}
+
 /// A fare is put, and then another dropped that isn't there.
 fn ask_all<R: Wait>(
     rt: &R,
@@ -41,7 +52,7 @@ fn ask_all<R: Wait>(
     ensures { watch.new.house ≡ clerk.new.house }
 {
     let first = look(watch)?;
-    let filed = file(rt, alloc, clerk, put_at(key_out(b'Y'), 20000))?.number();
+    let filed = file_at_last(rt, alloc, clerk)?.number();
     let second = look(watch)?;
     watch.learn(&clerk.tell());
     let third = look(watch)?;
@@ -56,13 +67,13 @@ fn ask_all<R: Wait>(
     })
 }
 
-/// What they answered, and then, once the clerk has ended, which version the watch sees, if it may, and of which it knows.
+/// What they answered, and then, once the clerk has ended, what the watch sees, and which version it knows of.
 fn outlive<R: Wait>(
     rt: &R,
     alloc: Global,
     clerk: Clerk,
     watch: Watch,
-) -> Result<(Answers, [u32; 2]), Fail>
+) -> Result<(Answers, Result<u32, Mem>, u32), Fail>
     requires { HasSeen clerk watch }
 {
     let mut clerk = clerk;
@@ -71,9 +82,8 @@ fn outlive<R: Wait>(
     let receipt = clerk.tell();
     clerk.end(rt);
     watch.learn(&receipt);
-    let answers = answers?;
-    let after = look(&mut watch).unwrap_or(answers.known);
-    Ok((answers, [after, watch.seen()]))
+    let after = look(&mut watch);
+    Ok((answers?, after, watch.seen()))
 }
 
 /// A watch of the clerk's house.
@@ -87,18 +97,21 @@ fn one_watch(clerk: &Clerk, watches: List<Watch>) -> Option<Watch>
 }
 
 /// The same in a house of two watches, and how many there were.
-fn publish<R: Wait>(rt: &R, alloc: Global) -> Result<(Answers, [u32; 2], usize), Fail> {
+fn publish<R: Wait>(
+    rt: &R,
+    alloc: Global,
+) -> Result<(Answers, Result<u32, Mem>, [usize; 2]), Fail> {
     let (clerk, watches) = begin(rt, alloc, opening(alloc)?, 2)?;
     let count = watches.len();
     let Some(watch) = one_watch(&clerk, watches) else {
         clerk.end(rt);
         return Err(Fail::new("no watch"));
     };
-    let (answers, after) = outlive(rt, alloc, clerk, watch)?;
-    Ok((answers, after, count))
+    let (answers, after, known) = outlive(rt, alloc, clerk, watch)?;
+    Ok((answers, after, [known as usize, count]))
 }
 
-/// A watch sees what its clerk files, and lives on when the clerk has ended. It may see nothing any more, but knows what it saw.
+/// A watch sees what its clerk files, and lives on when the clerk has ended. It sees nothing any more, but knows what it saw.
 #[test]
 fn publishes_what_is_filed(rt: HostRuntime) -> Result<(), Fail> {
     let no_fare = Refused {
@@ -113,6 +126,6 @@ fn publishes_what_is_filed(rt: HostRuntime) -> Result<(), Fail> {
         last: [1, 1],
     };
     let told = publish(&rt, rt.alloc())?;
-    assert_eq!(rt; told, (expected, [1, 1], 2));
+    assert_eq!(rt; told, (expected, Err(Mem), [1, 2]));
     Ok(())
 }

@@ -126,13 +126,12 @@ fn follow_all(alloc: Global, world: &mut World, lists: &[&[Step]]) -> Result<Vec
     Ok(ran)
 }
 
-/// Two desks look, one before a filing and one after it, keep the offers of a key, and answer.
+/// Two desks look, one before a filing and one after it, the one keeps the offers of a key, the other reads them, and both answer.
 const BEFORE_AND_AFTER: [&[Step]; 1] = [&[
     Step::Look(0),
     Step::FileCheaper,
     Step::Look(1),
     Step::Keep(0),
-    Step::Keep(1),
     Step::Fetch(1),
     Step::Answer(0, 1, 3),
     Step::Answer(1, 1, 3),
