@@ -27,7 +27,7 @@ entries_same : (t : Tables) (ns : List NumberedRow) → rows_of (residual_at t) 
 entries_same t [] = refl
 entries_same t (n ∷ ns) = ap (λ z. (residual_at t (key_of n), bound_of n) ∷ z) (entries_same t ns)
 
-pub entries_have : {O : Type 0} (s : SearchSteps O) (t : Tables) (ns : List NumberedRow) (rows : List CertRow) → s.case.numbers ≡ t → Numbered.AreLive t ns → Numbered.rows_of t ns ≡ rows → HasRows s (entries_of ns) rows
+pub entries_have : (s : SearchSteps) (t : Tables) (ns : List NumberedRow) (rows : List CertRow) → s.case.numbers ≡ t → Numbered.AreLive t ns → Numbered.rows_of t ns ≡ rows → HasRows s (entries_of ns) rows
 entries_have s t ns rows e l r = record {
   live = subst (λ z. AreLive (IsLive z) (entries_of ns)) (sym e) (entries_live t ns l);
   same = subst (λ z. rows_of (residual_at z) (entries_of ns) ≡ map row_as rows) (sym e) (entries_same t ns ∙ ap (map row_as) r);

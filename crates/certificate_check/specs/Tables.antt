@@ -26,12 +26,11 @@ abbrev pub row_as : CertRow → State × Option ℕ
 row_as row = (row.residual, row.bound)
 
 -- The keys of these entries stand for the residuals of the rows, in order, and have their bounds.
-pub record HasRows {O : Type 0} (steps : SearchSteps O) (entries : List (ResidualKey × Option ℕ)) (rows : List CertRow) : Type 0 where
+pub record HasRows (steps : SearchSteps) (entries : List (ResidualKey × Option ℕ)) (rows : List CertRow) : Type 0 where
   pub live : AreLive (live steps) entries
   pub same : rows_of (state steps) entries ≡ map row_as rows
 
 -- What stays of steps that were asked: book and request, and what keys stand for.
-pub record IsLater {O : Type 0} (s t : SearchSteps O) : Type 0 where
+pub record IsLater (s t : SearchSteps) : Type 0 where
   pub case : IsSameCase s t
   pub keeps : KeepsStates (live s) (live t) (state s) (state t)
-  pub same_offers : t.offers.ghost_name ≡ s.offers.ghost_name

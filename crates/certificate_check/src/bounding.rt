@@ -10,7 +10,6 @@ ghost use Rattle.search_steps.specs.Keys.{live, state};
 
 use crate::table::Table;
 use certificate::CertRow;
-use fare_component::Plain;
 use fare_law::Mem;
 use graph_walk::Outcome;
 use residual_table::ResidualKey;
@@ -20,7 +19,7 @@ use std::alloc::Global;
 /// The place where the bound check fails, if it does.
 pub fn bounds_fail(
     alloc: Global,
-    steps: &mut SearchSteps<Plain>,
+    steps: &mut SearchSteps,
     table: &Table,
 ) -> Result<Option<u32>, Mem>
     requires request { IsRequest steps.old.case.request.now }
@@ -42,7 +41,7 @@ pub fn bounds_fail(
 /// Whether whatever a move of a row leaves allows its bound. The key stands for the row's residual.
 fn is_right(
     alloc: Global,
-    steps: &mut SearchSteps<Plain>,
+    steps: &mut SearchSteps,
     table: &Table,
     row: &CertRow,
     key: ResidualKey,
@@ -63,7 +62,7 @@ fn is_right(
 
 /// Whether each outcome allows a row's bound.
 fn all_allow(
-    steps: &SearchSteps<Plain>,
+    steps: &SearchSteps,
     table: &Table,
     row: &CertRow,
     outcomes: &[Outcome<ResidualKey>],
@@ -82,12 +81,7 @@ fn all_allow(
 }
 
 /// Whether an outcome allows a row's bound.
-fn allows(
-    steps: &SearchSteps<Plain>,
-    table: &Table,
-    row: &CertRow,
-    outcome: &Outcome<ResidualKey>,
-) -> bool
+fn allows(steps: &SearchSteps, table: &Table, row: &CertRow, outcome: &Outcome<ResidualKey>) -> bool
     requires differ { AllDifferent (map (λ row. row.residual) table.now.rows.now) }
     requires table { HasRows steps.now table.now.bounds table.now.rows.now }
     requires live { IfSome outcome.now.next (live steps.now) }

@@ -14,7 +14,6 @@ use crate::rows::rows_fail;
 use crate::table::table_of;
 use certificate::{Certificate, NumberedRow, RowNumbers};
 use fare_book::Book;
-use fare_component::Plain;
 use fare_law::{Mem, Request};
 use residual_keys::residual_order;
 use search_steps::SearchSteps;
@@ -37,9 +36,8 @@ pub fn check(
     if let Some(place) = rows_fail(alloc, book, request, &certificate.rows)? {
         return Ok(Verdict::No { rule: 1, place });
     }
-    let mut offers = Plain;
     let RowNumbers { parts, rows } = certificate.rows.by_number();
-    let mut steps = SearchSteps::over(alloc, book, request, &mut offers, parts.copied()?);
+    let mut steps = SearchSteps::over(alloc, book, request, parts.copied()?);
     check_by(alloc, book, request, certificate, rows, &mut steps)
 }
 
@@ -50,7 +48,7 @@ fn check_by(
     request: &Request,
     certificate: &Certificate,
     numbered: &[NumberedRow],
-    steps: &mut SearchSteps<Plain>,
+    steps: &mut SearchSteps,
 ) -> Result<Verdict, Mem>
     requires request { IsRequest request.now }
     requires rows { length certificate.now.rows < 2 ^ 32 }

@@ -13,7 +13,6 @@ use crate::stepping::{goes_on, move_price};
 use crate::table::Table;
 use crate::taking::begins_with;
 use certificate::CertAnswer;
-use fare_component::Plain;
 use fare_law::{Mem, Move};
 use residual_keys::root;
 use search_steps::SearchSteps;
@@ -22,7 +21,7 @@ use std::alloc::Global;
 /// The place where the departure check fails, if it does.
 pub fn departures_fail(
     alloc: Global,
-    steps: &mut SearchSteps<Plain>,
+    steps: &mut SearchSteps,
     table: &Table,
     answers: &[CertAnswer],
 ) -> Result<Option<u32>, Mem>
@@ -55,7 +54,7 @@ pub fn departures_fail(
 /// Whether the fronts of an answer hold, but for that of no move, where those of all answers before it do.
 fn answer_holds(
     alloc: Global,
-    steps: &mut SearchSteps<Plain>,
+    steps: &mut SearchSteps,
     table: &Table,
     answers: &[CertAnswer],
     i: usize,
@@ -99,7 +98,7 @@ fn answer_holds(
 /// Whether a front of some move holds, where those of all answers before the answer at this place do.
 fn later_holds(
     alloc: Global,
-    steps: &mut SearchSteps<Plain>,
+    steps: &mut SearchSteps,
     table: &Table,
     answers: &[CertAnswer],
     i: usize,

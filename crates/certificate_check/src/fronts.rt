@@ -12,7 +12,6 @@ ghost use Rattle.fare_law.specs.declared.limits.TheConstants.{MOST_COMPONENTS};
 use crate::table::Table;
 use crate::taking::{count_beginning, is_taken};
 use certificate::CertAnswer;
-use fare_component::Plain;
 use fare_law::{ArrayVec, MOST_COMPONENTS, Mem, Move, Request};
 use residual_keys::{Residual, one_next};
 use residual_table::ResidualKey;
@@ -32,7 +31,7 @@ pub struct Front<'c> {
 /// Whether each departure at a front comes after the last answer.
 pub fn front_holds(
     alloc: Global,
-    steps: &mut SearchSteps<Plain>,
+    steps: &mut SearchSteps,
     table: &Table,
     answers: &[CertAnswer],
     front: &Front,

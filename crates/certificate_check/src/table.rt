@@ -5,7 +5,6 @@ ghost use Rattle.fare_law.specs.Lists.{AllDifferent};
 
 use crate::bounds::RowBounds;
 use certificate::{CertRows, NumberedRow};
-use fare_component::Plain;
 use fare_law::Mem;
 use search_steps::SearchSteps;
 use std::alloc::Global;
@@ -20,7 +19,7 @@ pub struct Table<'c> {
 /// The table of rows whose residuals differ, of which the steps have the numbers.
 pub fn table_of<'c>(
     alloc: Global,
-    steps: &SearchSteps<Plain>,
+    steps: &SearchSteps,
     rows: &'c CertRows,
     numbered: &'c [NumberedRow],
 ) -> Result<Table<'c>, Mem>

@@ -1,6 +1,8 @@
 -- The first things within a limit are the first of all. Given on to the crates above.
 use Rattle.std.proofs.Common.{◌≡◌, ℕ, ◌+◌, ◌≤◌, ◌<◌, List, [], ◌∷◌, length, Option, Some, None, unwrap_or, sym, ap, subst, inl, inr, arith}
-use Rattle.cheap_moves.specs.Within.{FirstAreFirst, IsMoveWithin, IsSooner, rest_of, total_of}
+use Rattle.cheap_moves.specs.declared.least.CountedMove.{CountedMove}
+use Rattle.cheap_moves.specs.LeastMoves.{AreLeastMoves, Counts, IsSooner}
+use Rattle.cheap_moves.specs.Within.{CountsWithin, IsWithin, rest_of, total_of}
 use Rattle.fare_law.specs.declared.requests.Request.{Request}
 use Rattle.fare_law.specs.Book.{Book}
 use Rattle.fare_law.specs.Lists.{Each, KLeast}
@@ -19,7 +21,7 @@ module _ {X : Type 0} (total : X → ℕ) (Below : X → X → Type 0) (lower : 
   beyond_all x far (y ∷ xs) h = (lower y x (lower_than (total y) (total x) limit h.0 far), beyond_all x far xs h.1)
 
   -- so many of the first within it are the first of all
-  pub first_within : ((x : X) → Near x → Has x) → ((x : X) → Near x → total x ≤ limit) → ((x : X) → Has x → total x ≤ limit → Near x)
+  first_within : ((x : X) → Near x → Has x) → ((x : X) → Near x → total x ≤ limit) → ((x : X) → Has x → total x ≤ limit → Near x)
       → (wanted : ℕ) (xs : List X) → KLeast Near Below wanted xs → length xs ≡ wanted → KLeast Has Below wanted xs
   first_within has within near wanted xs h long = record {
     ascending = h.ascending;
@@ -35,24 +37,24 @@ module _ {X : Type 0} (total : X → ℕ) (Below : X → X → Type 0) (lower : 
 pub first_same : {X : Type 0} (Has Near : X → Type 0) (Below : X → X → Type 0) → ((x : X) → Near x → Has x) → ((x : X) → Has x → Near x) → (wanted : ℕ) (xs : List X) → KLeast Near Below wanted xs → KLeast Has Below wanted xs
 first_same Has Near Below has near wanted xs h = record { ascending = h.ascending; each = each_weaker Near Has has xs h.each; few = h.few; rest = λ x i out. h.rest x (near x i) out }
 
--- a total that is within a limit
-total_is : (bound : State → Option ℕ) (c : Chosen) (rest : ℕ) → rest_of bound c.next ≡ Some rest → c.price + rest ≡ total_of bound c
-total_is bound c rest e = ap (λ o. c.price + unwrap_or o 0) (sym e)
-
 module _ (b : Book) (q : Request) (r : State) (bound : State → Option ℕ) where
-  freed : (limit : Option ℕ) (c : Chosen) → IsMoveWithin b q r bound limit c → IsMoveWithin b q r bound None c
-  freed limit c h = (h.0, record { rest = h.1.rest; rest_is = h.1.rest_is; within = tt })
+  -- a total that is within a limit
+  pub total_is : (c : Chosen) (rest : ℕ) → rest_of bound c.next ≡ Some rest → c.price + rest ≡ total_of bound c
+  total_is c rest e = ap (λ o. c.price + unwrap_or o 0) (sym e)
 
-  near_is : (limit : ℕ) (c : Chosen) → IsMoveWithin b q r bound (Some limit) c → total_of bound c ≤ limit
-  near_is limit c h = subst (λ n. n ≤ limit) (total_is bound c h.1.rest h.1.rest_is) h.1.within
+  pub within_is : (limit : Option ℕ) (c : Chosen) → CountsWithin bound limit c → IsWithin limit (total_of bound c)
+  within_is limit c h = subst (IsWithin limit) (total_is c h.rest h.rest_is) h.within
 
-  near_had : (limit : ℕ) (c : Chosen) → IsMoveWithin b q r bound None c → total_of bound c ≤ limit → IsMoveWithin b q r bound (Some limit) c
-  near_had limit c h le = (h.0, record { rest = h.1.rest; rest_is = h.1.rest_is; within = subst (λ n. n ≤ limit) (sym (total_is bound c h.1.rest h.1.rest_is)) le })
+  pub counts_with : (limit limit' : Option ℕ) (c : Chosen) → CountsWithin bound limit c → IsWithin limit' (total_of bound c) → CountsWithin bound limit' c
+  counts_with limit limit' c h w = record { rest = h.rest; rest_is = h.rest_is; within = subst (IsWithin limit') (sym (total_is c h.rest h.rest_is)) w }
 
-pub first_are_first : FirstAreFirst
-first_are_first b q r bound None wanted chosen h enough = h
-first_are_first b q r bound (Some limit) wanted chosen h (inl long) =
-    first_within (total_of bound) (IsSooner bound) (λ x y lt. inl lt) (IsMoveWithin b q r bound None) (IsMoveWithin b q r bound (Some limit)) limit
-    (freed b q r bound (Some limit)) (near_is b q r bound limit) (near_had b q r bound limit) wanted chosen h long
-first_are_first b q r bound (Some limit) wanted chosen h (inr all) =
-    first_same (IsMoveWithin b q r bound None) (IsMoveWithin b q r bound (Some limit)) (IsSooner bound) (freed b q r bound (Some limit)) all wanted chosen h
+  -- so many of the first within a limit are the first of all
+  first_of_all : (limit : ℕ) (wanted : ℕ) (ms : List CountedMove) → KLeast (Counts b q r bound (Some limit)) IsSooner wanted ms → length ms ≡ wanted → AreLeastMoves b q r bound wanted ms
+  first_of_all limit wanted ms h long =
+      first_within (λ (m : CountedMove). m.total) IsSooner (λ x y lt. inl lt) (Counts b q r bound None) (Counts b q r bound (Some limit)) limit
+      (λ m k. ((k.0.0, counts_with (Some limit) None m.chosen k.0.1 tt), k.1)) (λ m k. subst (λ n. n ≤ limit) (sym k.1) (within_is (Some limit) m.chosen k.0.1))
+      (λ m k le. ((k.0.0, counts_with None (Some limit) m.chosen k.0.1 (subst (λ n. n ≤ limit) k.1 le)), k.1)) wanted ms h long
+
+  pub enough : (limit : Option ℕ) (wanted : ℕ) (ms : List CountedMove) → KLeast (Counts b q r bound limit) IsSooner wanted ms → length ms ≡ wanted → AreLeastMoves b q r bound wanted ms
+  enough None wanted ms h long = h
+  enough (Some limit) wanted ms h long = first_of_all limit wanted ms h long

@@ -1,4 +1,6 @@
+pub mod FirstOnes
 pub mod LeastWithin
+pub mod Sooner
 pub mod Looking
 pub mod Joining
 pub mod FareMoves
@@ -7,6 +9,8 @@ pub mod GroupMoves
 pub mod ProspectMoves
 pub mod MarketMoves
 pub mod PathMoves
+pub mod Cutting
+pub mod Keeping
 pub mod LeadMoves
 pub mod Hoped
 pub mod Suiting

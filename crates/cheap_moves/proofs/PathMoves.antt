@@ -1,10 +1,10 @@
 -- The moves of a residual, path by path.
-use Rattle.std.proofs.Common.{◌≡◌, ◌⊎◌, ℕ, ◌+◌, ◌≤◌, ◌<◌, Bool, true, false, List, [], length, take, get_or, slice_get, Option, Some, refl, sym, ap, subst, ◌∙◌, inl, inr, arith}
+use Rattle.std.proofs.Common.{◌≡◌, ◌≢◌, ◌⊎◌, ℕ, ◌<◌, Bool, true, false, List, [], length, take, get_or, slice_get, Option, Some, refl, sym, ap, subst, ◌∙◌, inl, inr}
 use Rattle.cheap_moves.specs.declared.component.Flown.{Flown}
 use Rattle.cheap_moves.specs.Making.{IsFlown, IsOver, IsWithinFiled, IsWithinOn, Of}
 use Rattle.cheap_moves.specs.Sought.{AreSought, StartWanted}
 use Rattle.cheap_moves.specs.Within.{CountsWithin, IsMoveWithin}
-use Rattle.cheap_moves.proofs.Joining.{differs_before, of_more, same_map}
+use Rattle.cheap_moves.proofs.Joining.{differs_before, same_map, taken_in}
 use Rattle.component_table.specs.declared.markets.Market.{Market}
 use Rattle.component_table.specs.declared.markets.MarketKey.{MarketKey}
 use Rattle.component_table.specs.Markets.{AreMarkets, IsMarket, StandsAt}
@@ -25,10 +25,9 @@ use Rattle.residual_keys.specs.declared.residual.Chosen.{Chosen}
 use Rattle.residual_keys.specs.Gathered.{Adds, IsPathOf}
 use Rattle.residual_keys.specs.Residuals.{State, UnitStep, closes}
 use Rattle.residual_keys.specs.Steps.{IsChosen, MarketOver}
-use Rattle.residual_keys.proofs.Adding.{adds_like, adds_none, adds_then}
+use Rattle.residual_keys.proofs.Adding.{adds_like, adds_then}
 use Rattle.residual_keys.proofs.OneNext.{flies_one}
 use Rattle.residual_keys.proofs.Runs.{flies_numbers}
-use Rattle.residual_keys.proofs.StepTaken.{slice_known, whole}
 use Rattle.law_lemmas.proofs.EachOne.{each_in}
 use Rattle.law_lemmas.proofs.LawFacts.{numbers_one}
 use Rattle.law_lemmas.proofs.Members.{got_in, read_in}
@@ -74,30 +73,21 @@ path_one b q r p p' fs gs h k e =
     let after = flies_one b q.slices (Some r.at) p'.flights gs p.after p'.after (subst (λ xs. Flies b q.slices (Some r.at) p'.flights xs p.after) same flies) k.flies in
     λ i. record { flights = e i; after = after i }
 
-module _ (b : Book) (q : Request) (r : State) (bound : State → Option ℕ) (limit : Option ℕ) (begun : Flight → Bool) (wanted : Place → Bool) (paths : List Path) (are : AreSought b q.slices r.at begun wanted paths) where
-  pub paths_more : (i : ℕ) (d p : Path) (a m c : List Chosen) → i < length paths → p ≡ get_or paths i d → ((y : Path) → IsIn y (take i paths) → IsIn y paths)
-      → Adds (Of (IsWithinOn b q r bound limit) (take i paths)) a m → Adds (IsWithinOn b q r bound limit p) m c → Adds (Of (IsWithinOn b q r bound limit) (take (i + 1) paths)) a c
-  paths_more i d p a m c lt e in_all h one = of_more (IsWithinOn b q r bound limit) paths i d p a m c lt e apart h one
-    where
-      apart : (y : Path) → IsIn y (take i paths) → (u v : Chosen) → IsWithinOn b q r bound limit y u → IsWithinOn b q r bound limit p v → u.mv ≡ v.mv → ⊥
-      apart y j u v x z s =
-          let k = are.each y (in_all y j) in
-          let l = are.each p (read_in paths i d p lt e) in
-          differs_before (λ (w : Path). w) paths i d p y (subst AllDifferent (same_map paths) are.once) lt e j
-          (path_one b q r y p k.0 l.0 k.1 l.1 (sym x.0.1 ∙ ap (λ (w : Move). w.flights) s ∙ z.0.1))
+module _ (b : Book) (q : Request) (r : State) (bound : State → Option ℕ) (begun : Flight → Bool) (wanted : Place → Bool) (paths : List Path) (are : AreSought b q.slices r.at begun wanted paths) where
+  -- moves on different paths differ
+  pub paths_apart : (limit limit' : Option ℕ) (i : ℕ) (d p y : Path) → i < length paths → p ≡ get_or paths i d → IsIn y (take i paths) → (u v : Chosen) → IsWithinOn b q r bound limit y u → IsWithinOn b q r bound limit' p v → u.mv ≢ v.mv
+  paths_apart limit limit' i d p y lt e j u v x z s =
+      let k = are.each y (taken_in y i paths j) in
+      let l = are.each p (read_in paths i d p lt e) in
+      differs_before (λ (w : Path). w) paths i d p y (subst AllDifferent (same_map paths) are.once) lt e j
+      (path_one b q r y p k.0 l.0 k.1 l.1 (sym x.0.1 ∙ ap (λ (w : Move). w.flights) s ∙ z.0.1))
 
   -- all paths that were seen have all moves, where each move begins and ends as it is wanted
-  pub all_paths : ((c : Chosen) (k : IsChosen b q r c) → CountsWithin bound limit c → StartWanted begun k.flights) → ((c : Chosen) (k : IsChosen b q r c) → CountsWithin bound limit c → EndWanted wanted k.flights) → (old new : List Chosen) → Adds (Of (IsWithinOn b q r bound limit) paths) old new → Adds (IsMoveWithin b q r bound limit) old new
-  all_paths starts ends old new h = adds_like (Of (IsWithinOn b q r bound limit) paths) (IsMoveWithin b q r bound limit) old new h (λ c. (λ u. (u.2.0.0, u.2.1), λ k. back c k))
-    where
-      back : (c : Chosen) → IsMoveWithin b q r bound limit c → Of (IsWithinOn b q r bound limit) paths c
-      back c k =
-          let p : Path = record { flights = c.mv.flights; after = k.0.after } in
-          (p, are.all p k.0.flights k.0.moves.path (starts c k.0 k.1) (ends c k.0 k.1), ((k.0, refl), k.1))
-
--- a residual past the last slice has no move
-pub no_slice : (b : Book) (q : Request) (r : State) (bound : State → Option ℕ) (limit : Option ℕ) (old : List Chosen) → length q.slices ≤ r.at.slice → Adds (IsMoveWithin b q r bound limit) old old
-no_slice b q r bound limit old le = adds_none (IsMoveWithin b q r bound limit) old (λ c h. absurd (let lt = slice_known b q r c.mv c.next (c.price, (whole b q r c).0 h.0) in omega (arith, lt, le)))
+  pub on_paths : (limit : Option ℕ) → ((c : Chosen) (k : IsChosen b q r c) → CountsWithin bound limit c → StartWanted begun k.flights) → ((c : Chosen) (k : IsChosen b q r c) → CountsWithin bound limit c → EndWanted wanted k.flights)
+      → (c : Chosen) → IsMoveWithin b q r bound limit c → Of (IsWithinOn b q r bound limit) paths c
+  on_paths limit starts ends c k =
+      let p : Path = record { flights = c.mv.flights; after = k.0.after } in
+      (p, are.all p k.0.flights k.0.moves.path (starts c k.0 k.1) (ends c k.0 k.1), ((k.0, refl), k.1))
 
 -- the market that was found
 pub market_over : (b : Book) (q : Request) (r : State) (flown : Flown) (reverse : Bool) (key : MarketKey) (ms : List Market) (n : ℕ) (m : Market) → IsFlown b q r flown → MarketOver reverse flown.way.flights key.from key.to → Limited b → AreMarkets b ms → StandsAt ms key n → slice_get ms n ≡ Some m → IsOver b q r flown reverse m

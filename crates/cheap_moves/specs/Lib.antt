@@ -5,3 +5,4 @@ pub mod Leads
 pub mod Hopes
 pub mod Sought
 pub mod Prospects
+pub mod LeastMoves

@@ -1,10 +1,7 @@
 -- The moves of a residual whose totals are within a limit.
-use Rattle.std.specs.Prelude.{◌≡◌, ◌⊎◌, ◌↔◌, ℕ, ◌+◌, ◌≤◌, List, length, Option, Some, None, unwrap_or}
+use Rattle.std.specs.Prelude.{◌≡◌, ℕ, ◌+◌, ◌≤◌, Option, Some, None, unwrap_or}
 use Rattle.fare_law.specs.declared.requests.Request.{Request}
-use Rattle.fare_law.specs.Best.{Before}
 use Rattle.fare_law.specs.Book.{Book}
-use Rattle.fare_law.specs.Codes.{move_code}
-use Rattle.fare_law.specs.Lists.{EachPair, IsIn, KLeast, Less}
 use Rattle.residual_keys.specs.declared.residual.Chosen.{Chosen}
 use Rattle.residual_keys.specs.declared.residual.Next.{Next}
 use Rattle.residual_keys.specs.declared.residual.Next.TheVariants.{At, Done}
@@ -31,20 +28,6 @@ pub record CountsWithin (bound : State → Option ℕ) (limit : Option ℕ) (c :
 abbrev pub IsMoveWithin : Book → Request → State → (State → Option ℕ) → Option ℕ → Chosen → Type 0
 IsMoveWithin b q r bound limit c = IsChosen b q r c × CountsWithin bound limit c
 
--- These are the moves of the residual that count within the limit, each once, ascending by code.
-pub record AreMovesWithin (b : Book) (q : Request) (r : State) (bound : State → Option ℕ) (limit : Option ℕ) (chosen : List Chosen) : Type 0 where
-  pub ascending : EachPair (λ c d. Less (move_code c.mv) (move_code d.mv)) chosen
-  pub are : (c : Chosen) → IsIn c chosen ↔ IsMoveWithin b q r bound limit c
-
 -- the price of a move and what a run costs at least after it
 abbrev pub total_of : (State → Option ℕ) → Chosen → ℕ
 total_of bound c = c.price + unwrap_or (rest_of bound c.next) 0
-
--- less in total, or as much with a smaller code
-abbrev pub IsSooner : (State → Option ℕ) → Chosen → Chosen → Type 0
-IsSooner bound c d = Before (total_of bound c) (move_code c.mv) (total_of bound d) (move_code d.mv)
-
--- The first moves within a limit, as many as are wanted, are the first of all that count: if there are so many, or if none that counts is beyond the limit.
-abbrev pub FirstAreFirst : Type 0
-FirstAreFirst = (b : Book) (q : Request) (r : State) (bound : State → Option ℕ) (limit : Option ℕ) (wanted : ℕ) (chosen : List Chosen) → KLeast (IsMoveWithin b q r bound limit) (IsSooner bound) wanted chosen
-    → (length chosen ≡ wanted) ⊎ ((c : Chosen) → IsMoveWithin b q r bound None c → IsMoveWithin b q r bound limit c) → KLeast (IsMoveWithin b q r bound None) (IsSooner bound) wanted chosen

@@ -10,5 +10,5 @@ pub mod KnownGraph
 pub mod RunsRead
 pub mod RootNode
 pub mod Answered
-pub mod SettledNodes
+pub mod AskedNodes
 pub mod SameNodes

@@ -35,7 +35,7 @@ root_found b q live state same tells es key is l h graph =
     (p.0, p.1, (state key, p.2, is))
 
 -- the node of a key of the root, after steps that keep what keys stand for
-pub root_there : {O : Type 0} (old new : SearchSteps O) (b : Book) (q : Request) (same : ResidualKey → ResidualKey → Bool) (es : List (ResidualKey × Option ℕ)) (key : ResidualKey) (root : State) → b ≡ old.case.book.now → q ≡ old.case.request.now → IsSameCase old new
+pub root_there : (old new : SearchSteps) (b : Book) (q : Request) (same : ResidualKey → ResidualKey → Bool) (es : List (ResidualKey × Option ℕ)) (key : ResidualKey) (root : State) → b ≡ old.case.book.now → q ≡ old.case.request.now → IsSameCase old new
     → KeepsStates (live old) (live new) (state old) (state new) → IsRequest old.case.request.now → AreLive (live old) es → IsGraph old.case.book.now old.case.request.now (rows_of (state old) es)
     → ((at : Position) → before_slice b 0 (slice_get q.slices 0) None ≡ Some at → root ≡ record { at = at; units = []; part = no_part }) → live new key → state new key ≡ root → TellsStates (live new) (state new) same
     → (n : ℕ) × (position (same key) (keys_of es) ≡ Some n) × IsRootNode new.case.book.now new.case.request.now (rows_of (state new) es) n

@@ -8,7 +8,7 @@ use Rattle.pricing_graph.specs.Graphs.{IsGraph}
 use Rattle.residual_table.specs.Keys.{IsLive, residual_at}
 use Rattle.search_steps.specs.Numbers.{Numbered}
 
-pub still_ready : {O : Type 0} (s t : NodeSteps O) → t.steps.now.case ≡ s.steps.now.case → t.graph.now.rows.entries ≡ s.graph.now.rows.entries → IsReady s → IsReady t
+pub still_ready : (s t : NodeSteps) → t.steps.now.case ≡ s.steps.now.case → t.graph.now.rows.entries ≡ s.graph.now.rows.entries → IsReady s → IsReady t
 still_ready s t same rows r = record {
   request = subst (λ (k : Numbered). IsRequest k.request.now) (sym same) r.request;
   alive = subst (λ es. AreLive (IsLive t.steps.now.case.numbers) es) (sym rows) (subst (λ (k : Numbered). AreLive (IsLive k.numbers) s.graph.now.rows.entries) (sym same) r.alive);

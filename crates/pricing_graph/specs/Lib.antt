@@ -3,4 +3,3 @@ pub mod NodeSteps
 pub mod DrawnRuns
 pub mod NodesHold
 pub mod Givers
-pub mod Settled

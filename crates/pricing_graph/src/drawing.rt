@@ -1,6 +1,5 @@
 //! The least runs of a graph.
-ghost use Rattle.std.specs.Prelude.{◌≡◌, ◌<◌, length, map, IfOk, OnOk};
-ghost use Rattle.fare_component.specs.Keys.{Asked};
+ghost use Rattle.std.specs.Prelude.{◌<◌, map, IfOk};
 ghost use Rattle.fare_law.specs.Limits.{IsRequest};
 ghost use Rattle.graph_walk.specs.Steps.{AreLive, KeepsStates, rows_of};
 ghost use Rattle.pricing_graph.specs.DrawnRuns.{run_of_drawn};
@@ -15,7 +14,6 @@ use crate::giving::NodeSteps;
 use crate::laws::node_steps_hold;
 use crate::{DrawnRun, Graph};
 use best_steps::best_steps;
-use fare_component::OfferSource;
 use fare_law::{List, Mem};
 use residual_keys::{book_limits, root};
 use search_steps::SearchSteps;
@@ -23,10 +21,10 @@ use std::alloc::Global;
 
 impl Graph {
     /// The `k` least runs from the root, by price and then code; all of them where there are fewer.
-    pub fn runs<O: OfferSource>(
+    pub fn runs(
         &self,
         alloc: Global,
-        steps: &mut SearchSteps<O>,
+        steps: &mut SearchSteps,
         k: u32,
     ) -> Result<List<DrawnRun>, Mem>
         requires request { IsRequest steps.old.case.request.now }
@@ -34,10 +32,7 @@ impl Graph {
         requires graph { IsGraph steps.old.case.book.now steps.old.case.request.now (rows_of (state steps.old) self.now.rows.entries) }
         ensures runs { IfOk result (λ runs. BestRuns steps.old.case.book.now steps.old.case.request.now k (map run_of_drawn runs)) }
         ensures keeps { KeepsStates (live steps.old) (live steps.new) (state steps.old) (state steps.new) }
-        ensures same_offers { steps.new.offers.ghost_name ≡ steps.old.offers.ghost_name }
         ensures case { IsSameCase steps.old steps.new }
-        ensures base { O.base steps.new.offers.now ≡ O.base steps.old.offers.now }
-        ensures stays { (a : Asked) → O.settled steps.old.offers.now a → O.settled steps.new.offers.now a }
     {
         let root = self.root(steps)?;
         book_limits(steps.case().book);
@@ -48,15 +43,13 @@ impl Graph {
     }
 
     /// The node of the root.
-    fn root<O: OfferSource>(&self, steps: &mut SearchSteps<O>) -> Result<u64, Mem>
+    fn root(&self, steps: &mut SearchSteps) -> Result<u64, Mem>
         requires request { IsRequest steps.old.case.request.now }
         requires live { AreLive (live steps.old) self.now.rows.entries }
         requires graph { IsGraph steps.old.case.book.now steps.old.case.request.now (rows_of (state steps.old) self.now.rows.entries) }
         ensures node { IfOk result (IsRootNode steps.new.case.book.now steps.new.case.request.now (rows_of (state steps.new) self.now.rows.entries)) }
         ensures keeps { KeepsStates (live steps.old) (live steps.new) (state steps.old) (state steps.new) }
-        ensures same_offers { steps.new.offers.ghost_name ≡ steps.old.offers.ghost_name }
         ensures case { IsSameCase steps.old steps.new }
-        ensures offers { steps.new.offers.now ≡ steps.old.offers.now }
     {
         let case = steps.case();
         let key = steps.key_of(root(case.book, case.request))?;

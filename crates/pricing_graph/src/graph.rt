@@ -13,7 +13,6 @@ ghost use Rattle.search_steps.specs.Keys.{live, state};
 
 use crate::GraphFault;
 use crate::rows::reached_rows;
-use crate::settling::settle_nodes;
 use fare_component::OfferSource;
 use residual_keys::{Residual, one_size};
 use residual_table::ResidualKey;
@@ -28,12 +27,13 @@ pub struct Graph {
 }
 
 impl Graph {
-    /// The graph of a search. Too large exactly where more residuals are reached than the budget. After
-    /// `Ok` whatever the keys of the search ask for is settled with the source of offers.
+    /// The graph of a search. Too large exactly where more residuals are reached than the budget. After `Ok` whatever the keys
+    /// of the search ask for is settled with the source of offers.
     pub fn build<O: OfferSource>(
         alloc: Global,
         budget: u32,
-        steps: &mut SearchSteps<O>,
+        steps: &mut SearchSteps,
+        offers: &mut O,
     ) -> Result<Graph, GraphFault>
         requires { IsRequest steps.old.case.request.now }
         ensures graph { IfOk result (λ g. IsGraph steps.old.case.book.now steps.old.case.request.now (rows_of (state steps.new) g.rows.entries)) }
@@ -41,17 +41,16 @@ impl Graph {
         ensures few { IfOk result (λ g. length g.rows.entries ≤ budget) }
         ensures fits { OnOk result (ReachesMoreThan budget steps.old.case.book.now steps.old.case.request.now → ⊥) }
         ensures large { IfErr result (IsTooLarge steps.old.case.book.now steps.old.case.request.now budget) }
-        ensures settled { OnOk result ((key : OfferKey) → Keys steps.old.case.book.now steps.old.case.request.now key → O.settled steps.new.offers.now (asked key)) }
-        ensures same_offers { steps.new.offers.ghost_name ≡ steps.old.offers.ghost_name }
         ensures case { IsSameCase steps.old steps.new }
-        ensures base { O.base steps.new.offers.now ≡ O.base steps.old.offers.now }
-        ensures stays { (a : Asked) → O.settled steps.old.offers.now a → O.settled steps.new.offers.now a }
+        ensures settled { OnOk result ((key : OfferKey) → Keys steps.old.case.book.now steps.old.case.request.now key → O.settled offers.new (asked key)) }
+        ensures base { O.base offers.new ≡ O.base offers.old }
+        ensures stays { (a : Asked) → O.settled offers.old a → O.settled offers.new a }
     {
         one_size();
         let mut rows = reached_rows(alloc, budget, steps)?;
         steps.put_in_order(alloc, &mut rows)?;
         let graph = Graph { rows };
-        settle_nodes(alloc, &graph, steps)?;
+        graph.settle(alloc, steps, offers)?;
         Ok(graph)
     }
 
@@ -63,7 +62,7 @@ impl Graph {
     }
 
     /// The residual of a node. Nodes are counted from 0, and ascend by residual.
-    pub fn residual<O: OfferSource>(&self, steps: &SearchSteps<O>, node: u32) -> Residual
+    pub fn residual(&self, steps: &SearchSteps, node: u32) -> Residual
         requires node { node < length self.now.rows.entries }
         requires live { AreLive (live steps.now) self.now.rows.entries }
         ensures { option_map (λ x. x.0) (slice_get (rows_of (state steps.now) self.now.rows.entries) node) ≡ Some result }

@@ -1,6 +1,5 @@
 //! The rows of a graph, as the walk finds them.
 ghost use Rattle.std.specs.Prelude.{◌≡◌, ◌≤◌, length, IfErr, IfOk};
-ghost use Rattle.fare_component.specs.Keys.{Asked};
 ghost use Rattle.fare_law.specs.Limits.{IsRequest};
 ghost use Rattle.graph_walk.specs.Steps.{AreLive, rows_of};
 ghost use Rattle.pricing_graph.specs.Graphs.{AreRows, IsTooLarge, fault_as};
@@ -8,29 +7,24 @@ ghost use Rattle.search_steps.specs.Cases.{IsSameCase};
 ghost use Rattle.search_steps.specs.Keys.{live, state};
 
 use crate::GraphFault;
-use fare_component::OfferSource;
 use graph_walk::WalkFault;
 use residual_keys::root;
-use residual_table::ResidualKey;
 use rule_route::limits_are_met;
 use search_steps::{ResidualRows, SearchSteps, least_prices_are_least, reached_states_are_reached};
 use std::alloc::Global;
 
 /// What a search reaches, each once, with the least prices.
-pub fn reached_rows<O: OfferSource>(
+pub fn reached_rows(
     alloc: Global,
     budget: u32,
-    steps: &mut SearchSteps<O>,
+    steps: &mut SearchSteps,
 ) -> Result<ResidualRows, GraphFault>
     requires { IsRequest steps.old.case.request.now }
     ensures rows { IfOk result (λ rows. AreRows steps.old.case.book.now steps.old.case.request.now (rows_of (state steps.new) rows.entries)) }
     ensures live { IfOk result (λ rows. AreLive (live steps.new) rows.entries) }
     ensures few { IfOk result (λ rows. length rows.entries ≤ budget) }
     ensures large { IfErr result (IsTooLarge steps.old.case.book.now steps.old.case.request.now budget) }
-    ensures same_offers { steps.new.offers.ghost_name ≡ steps.old.offers.ghost_name }
     ensures case { IsSameCase steps.old steps.new }
-    ensures base { O.base steps.new.offers.now ≡ O.base steps.old.offers.now }
-    ensures stays { (a : Asked) → O.settled steps.old.offers.now a → O.settled steps.new.offers.now a }
 {
     least_prices_are_least();
     reached_states_are_reached();

@@ -1,69 +1,59 @@
-//! What the keys of a search ask for, settled with its source of offers.
-ghost use Rattle.std.specs.Prelude.{◌≡◌, ◌+◌, ◌<◌, length, OnOk};
-ghost use Rattle.fare_component.specs.Keys.{Asked};
+//! What the keys of a search ask for, settled with a source of offers.
+ghost use Rattle.std.specs.Prelude.{◌≡◌, IfOk, OnOk};
+ghost use Rattle.asked_keys.specs.Asking.{IsAsked};
+ghost use Rattle.fare_component.specs.Keys.{Asked, asked};
+ghost use Rattle.fare_law.specs.declared.market.OfferKey.{OfferKey};
 ghost use Rattle.fare_law.specs.Limits.{IsRequest};
+ghost use Rattle.fare_law.specs.Lists.{Each};
 ghost use Rattle.graph_walk.specs.Steps.{AreLive, rows_of};
-ghost use Rattle.pricing_graph.specs.Settled.{AreSettledFrom};
+ghost use Rattle.graph_walk.specs.Walks.{states};
+ghost use Rattle.pricing_graph.specs.Graphs.{IsGraph};
+ghost use Rattle.residual_keys.specs.AskedKeys.{Keys};
 ghost use Rattle.search_steps.specs.Keys.{live, state};
 
 use crate::Graph;
+use asked_keys::{add_asked, settle_keys};
 use fare_component::OfferSource;
-use fare_law::Mem;
-use search_steps::{SearchSteps, has_keys_of};
+use fare_law::{List, Mem};
+use residual_keys::Residual;
+use search_steps::SearchSteps;
 use std::alloc::Global;
 
-/// Has the source of offers settle what the keys of all nodes' residuals ask for.
-pub fn settle_nodes<O: OfferSource>(
-    alloc: Global,
-    graph: &Graph,
-    steps: &mut SearchSteps<O>,
-) -> Result<(), Mem>
-    requires request { IsRequest steps.old.case.request.now }
-    requires live { AreLive (live steps.old) graph.now.rows.entries }
-    ensures settled { OnOk result (AreSettledFrom steps.new.case.book.now steps.new.case.request.now (O.settled steps.new.offers.now) (rows_of (state steps.new) graph.now.rows.entries) 0) }
-    ensures same_offers { steps.new.offers.ghost_name ≡ steps.old.offers.ghost_name }
-    ensures same { steps.new.case ≡ steps.old.case }
-    ensures base { O.base steps.new.offers.now ≡ O.base steps.old.offers.now }
-    ensures stays { (a : Asked) → O.settled steps.old.offers.now a → O.settled steps.new.offers.now a }
-{
-    if steps.settles_all() {
-        return Ok(());
-    }
-    let mut left = graph.size();
-    while left > 0 {
-        left -= 1;
-        settle_node(alloc, graph, steps, left)?;
-    }
-    Ok(())
-}
-
-/// Has the source settle what the keys of a node's residual ask for, after those of the nodes behind it. Keys
-/// depend on the position and on whether a unit is open, and nodes stand in that order: so for each position only the
-/// last node, which has a unit open if any has, leaves something to be settled.
-fn settle_node<O: OfferSource>(
-    alloc: Global,
-    graph: &Graph,
-    steps: &mut SearchSteps<O>,
-    node: u32,
-) -> Result<(), Mem>
-    requires request { IsRequest steps.old.case.request.now }
-    requires live { AreLive (live steps.old) graph.now.rows.entries }
-    requires node { node < length graph.now.rows.entries }
-    requires behind { AreSettledFrom steps.old.case.book.now steps.old.case.request.now (O.settled steps.old.offers.now) (rows_of (state steps.old) graph.now.rows.entries) (node + 1) }
-    ensures settled { OnOk result (AreSettledFrom steps.new.case.book.now steps.new.case.request.now (O.settled steps.new.offers.now) (rows_of (state steps.new) graph.now.rows.entries) node) }
-    ensures same_offers { steps.new.offers.ghost_name ≡ steps.old.offers.ghost_name }
-    ensures same { steps.new.case ≡ steps.old.case }
-    ensures base { O.base steps.new.offers.now ≡ O.base steps.old.offers.now }
-    ensures stays { (a : Asked) → O.settled steps.old.offers.now a → O.settled steps.new.offers.now a }
-{
-    let size = graph.size();
-    if node + 1 < size {
-        let behind = graph.residual(steps, node + 1);
-        let residual = graph.residual(steps, node);
-        if has_keys_of(&residual, &behind) {
+impl Graph {
+    /// Has a source of offers settle what the keys of the search ask for. One with which all is settled isn't asked.
+    pub(crate) fn settle<O: OfferSource>(
+        &self,
+        alloc: Global,
+        steps: &SearchSteps,
+        offers: &mut O,
+    ) -> Result<(), Mem>
+        requires request { IsRequest steps.now.case.request.now }
+        requires live { AreLive (live steps.now) self.now.rows.entries }
+        requires graph { IsGraph steps.now.case.book.now steps.now.case.request.now (rows_of (state steps.now) self.now.rows.entries) }
+        ensures settled { OnOk result ((key : OfferKey) → Keys steps.now.case.book.now steps.now.case.request.now key → O.settled offers.new (asked key)) }
+        ensures base { O.base offers.new ≡ O.base offers.old }
+        ensures stays { (a : Asked) → O.settled offers.old a → O.settled offers.new a }
+    {
+        if offers.settles_all() {
             return Ok(());
         }
+        let case = steps.case();
+        let residuals = self.asked_residuals(alloc, steps)?;
+        settle_keys(alloc, case.book, case.request, residuals.as_slice(), offers)
     }
-    steps.settle(alloc, graph.key(node))?;
-    Ok(())
+
+    /// Residuals of the graph that have the keys of all of them. Keys depend on the position and on whether a unit is open,
+    /// and nodes stand in that order: so of each position only the last node is needed, which has a unit open if any has.
+    fn asked_residuals(&self, alloc: Global, steps: &SearchSteps) -> Result<List<Residual>, Mem>
+        requires { AreLive (live steps.now) self.now.rows.entries }
+        ensures { IfOk result (λ asked. Each (IsAsked asked) (states (rows_of (state steps.now) self.now.rows.entries))) }
+    {
+        let mut asked = List::new(alloc);
+        let mut left = self.size();
+        while left > 0 {
+            left -= 1;
+            add_asked(&mut asked, self.residual(steps, left))?;
+        }
+        Ok(asked)
+    }
 }

@@ -39,12 +39,6 @@ pub record IsPriced (b : Book) (q : Request) (run : CertAnswer) (t : Priced) : T
   pub ticket : AnswerIs b q run t.ticket
   pub price : t.price ≡ run.price
 
--- Of a request that is right: why there is no answer. It gives no other reason.
-abbrev pub IsTooLarge : Book → Request → ℕ → SearchFault → Type 0
-IsTooLarge b q budget (BadRequest why) = ⊥
-IsTooLarge b q budget TooLarge = ReachesMoreThan budget b q
-IsTooLarge b q budget Mem = Unit {0}
-
 -- a row as a node of a graph
 abbrev pub node_of : CertRow → State × Option ℕ
 node_of row = (row.residual, row.bound)

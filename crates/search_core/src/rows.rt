@@ -9,18 +9,13 @@ ghost use Rattle.search_core.specs.Answers.{node_of};
 ghost use Rattle.search_steps.specs.Keys.{live, state};
 
 use certificate::{CertRows, NumberedRow};
-use fare_component::OfferSource;
 use fare_law::Mem;
 use pricing_graph::Graph;
 use search_steps::SearchSteps;
 use std::alloc::Global;
 
 /// The residuals of a graph, in order, each with its least price.
-pub fn rows_of<O: OfferSource>(
-    alloc: Global,
-    graph: &Graph,
-    steps: &SearchSteps<O>,
-) -> Result<CertRows, Mem>
+pub fn rows_of(alloc: Global, graph: &Graph, steps: &SearchSteps) -> Result<CertRows, Mem>
     requires { AreLive (live steps.now) graph.now.rows.entries }
     ensures nodes { IfOk result (λ rows. map node_of rows ≡ rows_of (state steps.now) graph.now.rows.entries) }
     ensures rows { IfOk result (λ rows. (b : Version) (q : Asking) → IsGraph b q (rows_of (state steps.now) graph.now.rows.entries) → RowsAre b q rows) }

@@ -4,10 +4,11 @@ ghost use Rattle.certificate.specs.Checks.{Checks};
 ghost use Rattle.fare_component.specs.Keys.{Asked, asked};
 ghost use Rattle.fare_law.specs.declared.market.OfferKey.{OfferKey};
 ghost use Rattle.fare_law.specs.Limits.{IsRequest};
+ghost use Rattle.graph_walk.specs.Steps.{AreLive, rows_of};
+ghost use Rattle.pricing_graph.specs.Graphs.{IsGraph};
 ghost use Rattle.residual_keys.specs.AskedKeys.{Keys};
-ghost use Rattle.residual_keys.specs.Searches.{ReachesMoreThan};
-ghost use Rattle.search_core.specs.Answers.{HasCause, IsAnswer, IsTooLarge, Searchable};
-ghost use Rattle.search_steps.specs.Cases.{IsSameCase};
+ghost use Rattle.search_core.specs.Answers.{HasCause, IsAnswer, Searchable};
+ghost use Rattle.search_steps.specs.Keys.{live, state};
 
 use crate::answering::{answer_of, answers_meet_checks};
 use crate::rows::rows_of;
@@ -15,7 +16,7 @@ use crate::runs::answers_of;
 use crate::{Answer, SearchFault, request_ok};
 use fare_book::Book;
 use fare_component::OfferSource;
-use fare_law::Request;
+use fare_law::{Mem, Request};
 use pricing_graph::Graph;
 use search_steps::SearchSteps;
 use std::alloc::Global;
@@ -41,34 +42,23 @@ pub fn search<O: OfferSource>(
 {
     request_ok(book, request)?;
     answers_meet_checks(book, request);
-    let mut steps = SearchSteps::new(alloc, book, request, offers);
-    let answer = answer_by(alloc, budget, &mut steps);
-    steps.into_offers();
-    answer
+    let mut steps = SearchSteps::new(alloc, book, request);
+    let graph = Graph::build(alloc, budget, &mut steps, offers)?;
+    Ok(answer_by(alloc, &graph, &mut steps)?)
 }
 
-/// The answer of these steps.
-fn answer_by<O: OfferSource>(
-    alloc: Global,
-    budget: u32,
-    steps: &mut SearchSteps<O>,
-) -> Result<Answer, SearchFault>
-    requires { IsRequest steps.old.case.request.now }
-    ensures answer { IfOk result (IsAnswer steps.old.case.book.now steps.old.case.request.now) }
-    ensures fits { OnOk result (ReachesMoreThan budget steps.old.case.book.now steps.old.case.request.now → ⊥) }
-    ensures large { IfErr result (IsTooLarge steps.old.case.book.now steps.old.case.request.now budget) }
-    ensures settled { OnOk result ((key : OfferKey) → Keys steps.old.case.book.now steps.old.case.request.now key → O.settled steps.new.offers.now (asked key)) }
-    ensures same_offers { steps.new.offers.ghost_name ≡ steps.old.offers.ghost_name }
-    ensures case { IsSameCase steps.old steps.new }
-    ensures base { O.base steps.new.offers.now ≡ O.base steps.old.offers.now }
-    ensures stays { (a : Asked) → O.settled steps.old.offers.now a → O.settled steps.new.offers.now a }
+/// The answer of a graph with its steps.
+fn answer_by(alloc: Global, graph: &Graph, steps: &mut SearchSteps) -> Result<Answer, Mem>
+    requires request { IsRequest steps.old.case.request.now }
+    requires live { AreLive (live steps.old) graph.now.rows.entries }
+    requires graph { IsGraph steps.old.case.book.now steps.old.case.request.now (rows_of (state steps.old) graph.now.rows.entries) }
+    ensures { IfOk result (IsAnswer steps.old.case.book.now steps.old.case.request.now) }
 {
-    let graph = Graph::build(alloc, budget, steps)?;
     let case = steps.case();
     let runs = graph.runs(alloc, steps, u32::from(case.request.best))?;
     let answers = answers_of(alloc, runs)?;
     // The rows take as much room as what runs are found by, which isn't needed any more.
     steps.let_go(alloc);
-    let rows = rows_of(alloc, &graph, steps)?;
-    Ok(answer_of(alloc, case.book, case.request, answers, rows)?)
+    let rows = rows_of(alloc, graph, steps)?;
+    answer_of(alloc, case.book, case.request, answers, rows)
 }

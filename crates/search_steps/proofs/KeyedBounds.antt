@@ -1,14 +1,10 @@
 -- Bounds by keys are those of the residuals that they stand for.
-use Rattle.std.proofs.Common.{◌≡◌, ◌↔◌, ◌∙◌, ℕ, ◌+◌, ◌≤◌, List, [], ◌∷◌, length, map, Option, Some, None, option_and_then, option_map, IfSome, Result, Ok, Err, IfOk, refl, sym, ap, subst, arith}
-use Rattle.cheap_moves.specs.Within.{rest_of}
+use Rattle.std.proofs.Common.{◌≡◌, ◌↔◌, ◌∙◌, ℕ, ◌≤◌, List, [], ◌∷◌, length, map, Option, Some, None, option_and_then, option_map, IfSome, Result, Ok, Err, IfOk, refl, sym, ap, subst, arith}
 use Rattle.fare_law.specs.declared.requests.Request.{Request}
 use Rattle.fare_law.specs.Book.{Book}
-use Rattle.fare_law.specs.Lists.{Each, IsIn, KLeast}
+use Rattle.fare_law.specs.Lists.{Each, KLeast}
 use Rattle.open_unit.specs.declared.units.OpenUnit.{OpenUnit}
 use Rattle.open_unit.specs.Ranges.{UnitInRanges}
-use Rattle.residual_keys.specs.declared.residual.Chosen.{Chosen}
-use Rattle.residual_keys.specs.declared.residual.Next.{Next}
-use Rattle.residual_keys.specs.declared.residual.Next.TheVariants.{At, Done}
 use Rattle.residual_keys.specs.Kept.{IsResidual}
 use Rattle.residual_keys.specs.Residuals.{State}
 use Rattle.residual_table.specs.declared.key.ResidualKey.{ResidualKey}
@@ -16,9 +12,7 @@ use Rattle.residual_table.specs.Keys.{AreTables, IsLive, StandsFor, Tables as Nu
 use Rattle.residual_table.proofs.KeyFacts.{Slots, residual_is, slots}
 use Rattle.residual_table.proofs.KeyFacts.Slots.{neither, one, both}
 use Rattle.search_steps.specs.declared.least.LeastMove.{LeastMove}
-use Rattle.search_steps.specs.Leads.{state_of}
-use Rattle.search_steps.specs.LeastMoves.{AreLeastMoves, BoundBy, Counts, HasBound, HasRest, IsSooner, LeaveLive, RestIs, counted_in, counted_of, least_as}
-use Rattle.search_steps.proofs.Counting.{has_counted}
+use Rattle.search_steps.specs.LeastMoves.{AreLeastMoves, BoundBy, Counts, HasBound, HasRest, IsSooner, LeaveLive, RestIs, least_as}
 use Rattle.law_lemmas.proofs.EachOne.{each_got}
 
 -- what a key stands for is a residual
@@ -46,23 +40,6 @@ rest_had b q x bound m h = by m.next h.bound
     by : (next : Option State) → RestIs (HasBound bound) next h.rest → IfSome next (λ y. (rest : ℕ) × (bound y ≡ Some rest))
     by None r = tt
     by (Some y) r = (h.rest, r)
-
-pub counted_rest : (bound : State → Option ℕ) (cs : List Chosen) (m : LeastMove State) → IsIn m (counted_in bound cs) → HasRest bound m
-counted_rest bound cs m i = let f = has_counted bound cs m i in one_rest f.chosen f.is
-  where
-    one_rest : (c : Chosen) → counted_of bound c ≡ Some m → HasRest bound m
-    one_rest c e = by c.next e
-      where
-        left : (n : LeastMove State) → Some n ≡ Some m → HasRest bound n → HasRest bound m
-        left n s r = let same : n ≡ m = cc in subst (HasRest bound) same r
-
-        at : (y : State) (o : Option ℕ) → bound y ≡ o → option_map (λ rest. record { mv = c.mv; price = c.price; next = Some y; total = c.price + rest }) o ≡ Some m → HasRest bound m
-        at y None f g = absurd (cc)
-        at y (Some rest) f g = left (record { mv = c.mv; price = c.price; next = Some y; total = c.price + rest }) g (rest, f)
-
-        by : (next : Next) → option_map (λ rest. record { mv = c.mv; price = c.price; next = state_of next; total = c.price + rest }) (rest_of bound next) ≡ Some m → HasRest bound m
-        by Done g = left (record { mv = c.mv; price = c.price; next = None; total = c.price + 0 }) g tt
-        by (At y) g = at y (bound y) refl g
 
 module _ (t : Numbers) (tables : AreTables t) (find : State → Option ResidualKey) (found : (k : ResidualKey) (x : State) → IsResidual x → (find x ≡ Some k) ↔ StandsFor t k x) (bound : ResidualKey → Option ℕ) where
   abbrev pub bound_at : State → Option ℕ

@@ -5,9 +5,9 @@ use Rattle.residual_table.specs.Keys.{IsLive, residual_at}
 use Rattle.search_steps.specs.declared.steps.SearchSteps.{SearchSteps}
 
 -- the key stands for a residual with these steps
-abbrev pub live : {O : Type 0} → SearchSteps O → ResidualKey → Type 0
+abbrev pub live : SearchSteps → ResidualKey → Type 0
 live steps key = IsLive steps.case.numbers key
 
 -- the residual that it stands for
-abbrev pub state : {O : Type 0} → SearchSteps O → ResidualKey → State
+abbrev pub state : SearchSteps → ResidualKey → State
 state steps key = residual_at steps.case.numbers key

@@ -1,12 +1,11 @@
 -- The least moves of a state: those that count under bounds, by their totals and codes.
-use Rattle.std.specs.Prelude.{◌≡◌, ℕ, ◌+◌, List, [], ◌∷◌, Option, Some, None, option_map, IfSome}
-use Rattle.cheap_moves.specs.Within.{rest_of}
+use Rattle.std.specs.Prelude.{◌≡◌, ℕ, ◌+◌, List, Option, Some, None, option_map, IfSome}
+use Rattle.cheap_moves.specs.declared.least.CountedMove.{CountedMove}
 use Rattle.fare_law.specs.declared.requests.Request.{Request}
 use Rattle.fare_law.specs.Book.{Book}
 use Rattle.fare_law.specs.Lists.{Each, KLeast}
 use Rattle.fare_law.specs.Codes.{move_code}
 use Rattle.fare_law.specs.Best.{Before}
-use Rattle.residual_keys.specs.declared.residual.Chosen.{Chosen}
 use Rattle.residual_keys.specs.Residuals.{State}
 use Rattle.residual_keys.specs.Steps.{IsChosen}
 use Rattle.search_steps.specs.declared.least.LeastMove.{LeastMove}
@@ -52,15 +51,6 @@ HasBound bound x rest = bound x ≡ Some rest
 abbrev pub HasRest : (State → Option ℕ) → LeastMove State → Type 0
 HasRest bound m = IfSome m.next (λ x. (rest : ℕ) × (bound x ≡ Some rest))
 
--- how the moves that were found count
-abbrev pub counted_of : (State → Option ℕ) → Chosen → Option (LeastMove State)
-counted_of bound c = option_map (λ rest. record { mv = c.mv; price = c.price; next = state_of c.next; total = c.price + rest }) (rest_of bound c.next)
-
--- one more, if it counts
-abbrev pub with_counted : Option (LeastMove State) → List (LeastMove State) → List (LeastMove State)
-with_counted None ms = ms
-with_counted (Some m) ms = m ∷ ms
-
-abbrev pub counted_in : (State → Option ℕ) → List Chosen → List (LeastMove State)
-counted_in bound [] = []
-counted_in bound (c ∷ cs) = with_counted (counted_of bound c) (counted_in bound cs)
+-- a move with its total, as a search has it
+abbrev pub least_of : CountedMove → LeastMove State
+least_of m = record { mv = m.chosen.mv; price = m.chosen.price; next = state_of m.chosen.next; total = m.total }

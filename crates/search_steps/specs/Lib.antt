@@ -3,11 +3,9 @@ pub mod Keys
 pub mod Cases
 pub mod LeastMoves
 pub mod Tables
-pub mod Within
 pub mod Giving
 pub mod Shortening
 pub mod Numbers
 pub mod Listing
 pub mod Placed
-pub mod Settling
 pub mod Spreading

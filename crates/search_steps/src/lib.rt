@@ -3,7 +3,6 @@
 #![tactic(auto)]
 
 mod adding;
-mod bisection;
 mod bounds;
 mod case;
 mod entry_order;
@@ -17,20 +16,15 @@ mod listing;
 mod nearest;
 mod numbered;
 mod numbered_case;
-mod offered;
 mod row_order;
-mod served;
-mod settling;
 mod shortening;
 mod spreading;
 mod step_lists;
 mod stepping;
 mod steps;
 mod tables;
-mod taking;
 mod unit_spots;
 mod walking;
-mod within;
 
 pub use bounds::{Bounds, OfKeys};
 pub use case::Case;
@@ -39,7 +33,6 @@ pub use laws::{least_prices_are_least, reached_states_are_reached, residuals_tel
 pub use least::LeastMove;
 pub use numbered::{PositionSteps, Step, StepLists, UnitSlot, UnitSteps};
 pub use numbered_case::NumberedCase;
-pub use settling::has_keys_of;
 pub use spreading::{ByUnits, ResidualRows};
 pub use steps::SearchSteps;
 pub use tables::{PositionTable, Tables};

@@ -6,10 +6,10 @@ ghost use Rattle.residual_table.specs.Keys.{KeepsNumbers};
 ghost use Rattle.search_steps.specs.LeastMoves.{AreLeastMoves, HasBound};
 ghost use Rattle.search_steps.specs.Tables.{AreTables};
 
+use crate::least::least_of_each;
 use crate::tables::Tables;
-use crate::within::least_within;
 use crate::{Case, LeastMove};
-use cheap_moves::{Lead, MoveSearch, ResidualBounds, leads_of};
+use cheap_moves::{Lead, MoveSearch, ResidualBounds, leads_of, least_moves};
 use fare_law::{List, Mem};
 use residual_keys::Residual;
 use std::alloc::Global;
@@ -89,12 +89,13 @@ fn least_over<B: ResidualBounds>(
     let at = residual.at;
     let network = &mut tables.network;
     let place = network.find_tails(alloc, search.book, search.request, at.slice + 1)?;
-    least_within(
+    let found = least_moves(
         alloc,
         search,
         leads,
         network.tails[place].paths.as_slice(),
         &mut network.markets,
         wanted,
-    )
+    )?;
+    least_of_each(alloc, found.as_slice())
 }

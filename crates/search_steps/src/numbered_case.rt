@@ -1,19 +1,13 @@
 //! A case with the tables of its positions, and its residuals by numbers.
 ghost use Rattle.std.specs.Prelude.{◌≡◌, ◌<◌, ◌≤◌, IfErr, IfOk, OnOk, length, map};
 ghost use Rattle.std.specs.List.Sorted.{IsPermutation};
-ghost use Rattle.fare_component.specs.Keys.{Asked, asked};
-ghost use Rattle.fare_law.specs.declared.market.OfferKey.{OfferKey};
 ghost use Rattle.fare_law.specs.Limits.{IsRequest};
-ghost use Rattle.fare_law.specs.Codes.{move_code};
-ghost use Rattle.fare_law.specs.Lists.{EachPair, Less};
+ghost use Rattle.fare_law.specs.Lists.{EachPair};
 ghost use Rattle.graph_walk.specs.Steps.{AreLive, AreOutcomes, ExceedsIf, LeadToLive, TellsStates, outcomes_of, rows_of};
 ghost use Rattle.graph_walk.specs.Walks.{AreLeast, AreReached, IsShort, Reached, states};
 ghost use Rattle.std.specs.Map.{lookup};
-ghost use Rattle.residual_keys.specs.AskedKeys.{KeyOf};
 ghost use Rattle.residual_keys.specs.Kept.{IsResidual};
 ghost use Rattle.residual_keys.specs.ResidualOrder.{StateBefore};
-ghost use Rattle.residual_keys.specs.Residuals.{State};
-ghost use Rattle.residual_keys.specs.Steps.{AreMoves};
 ghost use Rattle.residual_table.specs.declared.key.ResidualKey.{ResidualKey as AnyKey};
 ghost use Rattle.residual_table.specs.Keys.{Grows, IsLive, residual_at};
 ghost use Rattle.search_steps.specs.Leads.{leads_of, level_of};
@@ -22,21 +16,17 @@ ghost use Rattle.search_steps.specs.LeastMoves.{AreLeastMoves, BoundBy, LeaveLiv
 use crate::bounds::OfKeys;
 use crate::keyed::outcomes_of_key;
 use crate::keying::keyed_moves;
-use crate::least::{counted_moves, first_of};
 use crate::nearest::least_by;
 use crate::numbered::StepLists;
 use crate::row_order::put_rows_in_order;
 use crate::tables::Tables;
-use crate::taking::take_keys;
 use crate::{Bounds, Case, LeastMove, ResidualRows};
-use fare_component::OfferSource;
 use fare_law::{List, Mem};
 use graph_walk::{Outcome, WalkFault, walk};
-use residual_keys::{Chosen, Residual};
+use residual_keys::Residual;
 use residual_table::{ResidualKey, ResidualParts, keys_found};
 use std::alloc::Global;
 use std::marker::Model;
-use ticket_order::order_laws;
 
 /// A book and a request, with the tables and lists that were found so far. Contracts see the book, the request and the
 /// numbers.
@@ -256,46 +246,5 @@ impl<'a> NumberedCase<'a> {
         keys_found();
         let found = least_by(alloc, &case, &mut self.tables, residual, &keyed, wanted)?;
         keyed_moves(alloc, &keyed, found.as_slice())
-    }
-
-    /// Those of all moves of a residual that count under bounds, the first `wanted` of them by total and code.
-    pub fn least_among<B: Bounds>(
-        &self,
-        alloc: Global,
-        found: &[Chosen],
-        bounds: &B,
-        wanted: usize,
-    ) -> Result<List<LeastMove<ResidualKey>>, Mem>
-        requires { EachPair (λ c d. Less (move_code c.mv) (move_code d.mv)) found.now }
-        ensures least { IfOk result (λ ms. (x : State) → AreMoves self.now.book.now self.now.request.now x found.now → AreLeastMoves self.now.book.now self.now.request.now (BoundBy (IsLive self.now.numbers) (residual_at self.now.numbers) (B.bound bounds.now)) x wanted (map (least_as (residual_at self.now.numbers)) ms)) }
-        ensures live { IfOk result (LeaveLive (IsLive self.now.numbers)) }
-    {
-        order_laws();
-        self.lists.numbers.keeps();
-        keys_found();
-        let keyed = OfKeys {
-            bounds,
-            numbers: &self.lists.numbers,
-        };
-        let counted = counted_moves(alloc, found, &keyed)?;
-        let least = first_of(counted, wanted);
-        keyed_moves(alloc, &keyed, least.as_slice())
-    }
-
-    /// Has a source of offers settle what the keys of a residual ask for.
-    pub fn settle<O: OfferSource>(
-        &mut self,
-        alloc: Global,
-        residual: &Residual,
-        offers: &mut O,
-    ) -> Result<(), Mem>
-        requires { IsRequest self.old.request.now }
-        ensures same { self.new ≡ self.old }
-        ensures base { O.base offers.new ≡ O.base offers.old }
-        ensures stays { (a : Asked) → O.settled offers.old a → O.settled offers.new a }
-        ensures asked { OnOk result ((key : OfferKey) → KeyOf self.old.book.now self.old.request.now residual.now key → O.settled offers.new (asked key)) }
-    {
-        let case = self.case;
-        take_keys(alloc, &case, &mut self.tables.network, residual, offers)
     }
 }

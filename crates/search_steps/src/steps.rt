@@ -1,7 +1,6 @@
 //! The steps of a search.
 ghost use Rattle.std.specs.Prelude.{◌≡◌, ◌≤◌, length, map, IfErr, IfOk, OnOk};
 ghost use Rattle.std.specs.List.Sorted.{IsPermutation};
-ghost use Rattle.fare_component.specs.Keys.{Asked};
 ghost use Rattle.fare_law.specs.Limits.{IsRequest};
 ghost use Rattle.fare_law.specs.Lists.{EachPair};
 ghost use Rattle.graph_walk.specs.Steps.{AreLive, AreOutcomes, ExceedsIf, KeepsStates, LeadToLive, TellsStates, outcomes_of, rows_of};
@@ -17,37 +16,27 @@ ghost use Rattle.search_steps.specs.LeastMoves.{AreLeastMoves, BoundBy, LeaveLiv
 use crate::numbered_case::NumberedCase;
 use crate::{Bounds, Case, LeastMove, ResidualRows};
 use fare_book::Book;
-use fare_component::OfferSource;
 use fare_law::{List, Mem, Request};
 use graph_walk::{Outcome, WalkFault};
-use residual_keys::{Residual, moves};
+use residual_keys::Residual;
 use residual_table::{ResidualKey, ResidualParts};
 use std::alloc::Global;
 
-/// The steps of one search: its book and request, and where it has its offers from. It names residuals
-/// by keys. A key that it gave stands for its residual for as long as it lives.
+/// The steps of one search: its book and request. It names residuals by keys. A key that it gave stands for its residual
+/// for as long as it lives.
 #[derive(Drop)]
-pub struct SearchSteps<'a, O> {
+pub struct SearchSteps<'a> {
     pub(crate) case: NumberedCase<'a>,
-    pub(crate) offers: &'a mut O,
 }
 
-impl<'a, O: OfferSource> SearchSteps<'a, O> {
+impl<'a> SearchSteps<'a> {
     /// The steps of a request on a book.
-    pub fn new(
-        alloc: Global,
-        book: &'a Book,
-        request: &'a Request,
-        offers: &'a mut O,
-    ) -> SearchSteps<'a, O>
-        ensures same_offers { result.offers.ghost_name ≡ offers.entry.ghost_name }
+    pub fn new(alloc: Global, book: &'a Book, request: &'a Request) -> SearchSteps<'a>
         ensures book { result.case.book.now ≡ book.now }
         ensures request { result.case.request.now ≡ request.now }
-        ensures offers { result.offers.now ≡ offers.old }
     {
         SearchSteps {
             case: NumberedCase::new(alloc, Case { book, request }),
-            offers,
         }
     }
 
@@ -56,18 +45,14 @@ impl<'a, O: OfferSource> SearchSteps<'a, O> {
         alloc: Global,
         book: &'a Book,
         request: &'a Request,
-        offers: &'a mut O,
         numbers: ResidualParts,
-    ) -> SearchSteps<'a, O>
-        ensures same_offers { result.offers.ghost_name ≡ offers.entry.ghost_name }
+    ) -> SearchSteps<'a>
         ensures book { result.case.book.now ≡ book.now }
         ensures request { result.case.request.now ≡ request.now }
         ensures numbers { result.case.numbers ≡ numbers }
-        ensures offers { result.offers.now ≡ offers.old }
     {
         SearchSteps {
             case: NumberedCase::over(alloc, Case { book, request }, numbers),
-            offers,
         }
     }
 
@@ -78,21 +63,10 @@ impl<'a, O: OfferSource> SearchSteps<'a, O> {
         self.case.numbers()
     }
 
-    /// The source of offers, when the steps are done.
-    pub fn into_offers(self) -> &'a mut O
-        ensures same { result.ghost_name ≡ self.entry.offers.ghost_name }
-        ensures offers { result.now ≡ self.entry.offers.now }
-    {
-        let SearchSteps { case: _, offers } = self;
-        offers
-    }
-
     /// Lets go what outcomes and moves are found by, which takes most of the room. It is found anew where they are asked
     /// for again, and keys stay as they are.
     pub fn let_go(&mut self, alloc: Global)
         ensures same { self.new.case ≡ self.old.case }
-        ensures same_offers { self.new.offers.ghost_name ≡ self.old.offers.ghost_name }
-        ensures offers { self.new.offers.now ≡ self.old.offers.now }
     {
         self.case.let_go(alloc);
     }
@@ -110,9 +84,7 @@ impl<'a, O: OfferSource> SearchSteps<'a, O> {
         ensures live { IfOk result (live self.new) }
         ensures state { IfOk result (λ key. state self.new key ≡ residual) }
         ensures keeps { KeepsStates (live self.old) (live self.new) (state self.old) (state self.new) }
-        ensures same_offers { self.new.offers.ghost_name ≡ self.old.offers.ghost_name }
         ensures case { IsSameCase self.old self.new }
-        ensures offers { self.new.offers.now ≡ self.old.offers.now }
     {
         self.case.key(&residual)
     }
@@ -133,7 +105,7 @@ impl<'a, O: OfferSource> SearchSteps<'a, O> {
     }
 
     /// What the moves of a residual leave, at their prices: each outcome is a move, and for each move
-    /// one leaves the same at no higher price. The source of offers stays as it is.
+    /// one leaves the same at no higher price.
     pub fn outcomes(
         &mut self,
         alloc: Global,
@@ -144,9 +116,7 @@ impl<'a, O: OfferSource> SearchSteps<'a, O> {
         ensures outcomes { IfOk result (λ v. AreOutcomes (leads_of self.old.case.book.now self.old.case.request.now) (state self.old key) (outcomes_of (state self.new) v.items)) }
         ensures live { IfOk result (λ v. LeadToLive (live self.new) v.items) }
         ensures keeps { KeepsStates (live self.old) (live self.new) (state self.old) (state self.new) }
-        ensures same_offers { self.new.offers.ghost_name ≡ self.old.offers.ghost_name }
         ensures case { IsSameCase self.old self.new }
-        ensures offers { self.new.offers.now ≡ self.old.offers.now }
     {
         self.case.outcomes(alloc, key)
     }
@@ -154,14 +124,11 @@ impl<'a, O: OfferSource> SearchSteps<'a, O> {
     /// Takes back a list that `outcomes` gave, so that its room may serve for another one.
     pub fn take_back(&mut self, outcomes: Vec<Outcome<ResidualKey>>)
         ensures same { self.new.case ≡ self.old.case }
-        ensures same_offers { self.new.offers.ghost_name ≡ self.old.offers.ghost_name }
-        ensures offers { self.new.offers.now ≡ self.old.offers.now }
     {
         self.case.take_back(outcomes);
     }
 
     /// All residuals that are reached from the root's, each once, with the least price of a run from it.
-    /// The source of offers stays as it is.
     pub fn reached(
         &mut self,
         alloc: Global,
@@ -177,9 +144,7 @@ impl<'a, O: OfferSource> SearchSteps<'a, O> {
         ensures alive { IfOk result (λ rows. AreLive (live self.new) rows.entries) }
         ensures large { IfErr result (ExceedsIf (Reached (leads_of self.old.case.book.now self.old.case.request.now) (state self.old root)) budget) }
         ensures keeps { KeepsStates (live self.old) (live self.new) (state self.old) (state self.new) }
-        ensures same_offers { self.new.offers.ghost_name ≡ self.old.offers.ghost_name }
         ensures case { IsSameCase self.old self.new }
-        ensures offers { self.new.offers.now ≡ self.old.offers.now }
     {
         self.case.reached(alloc, root, budget)
     }
@@ -208,19 +173,13 @@ impl<'a, O: OfferSource> SearchSteps<'a, O> {
         ensures least { IfOk result (λ ms. AreLeastMoves self.old.case.book.now self.old.case.request.now (BoundBy (live self.old) (state self.old) (B.bound bounds.now)) (state self.old key) wanted (map (least_as (state self.new)) ms)) }
         ensures live { IfOk result (LeaveLive (live self.new)) }
         ensures keeps { KeepsStates (live self.old) (live self.new) (state self.old) (state self.new) }
-        ensures same_offers { self.new.offers.ghost_name ≡ self.old.offers.ghost_name }
         ensures same { self.new.case ≡ self.old.case }
         ensures case { IsSameCase self.old self.new }
-        ensures base { O.base self.new.offers.now ≡ O.base self.old.offers.now }
-        ensures stays { (a : Asked) → O.settled self.old.offers.now a → O.settled self.new.offers.now a }
     {
-        let case = self.case.case();
         let residual = self.case.residual(&key);
-        if usize::from(residual.at.slice) < case.request.slices.len() {
-            return self.case.least_moves(alloc, &residual, bounds, wanted);
+        if usize::from(residual.at.slice) >= self.case().request.slices.len() {
+            return Ok(List::new(alloc));
         }
-        let found = moves(alloc, case.book, case.request, &residual, self.offers)?;
-        self.case
-            .least_among(alloc, found.as_slice(), bounds, wanted)
+        self.case.least_moves(alloc, &residual, bounds, wanted)
     }
 }

@@ -14,19 +14,8 @@ pub fn walk_all<O: OfferSource>(alloc: Global, board: &Board, offers: &mut O) ->
     requires { IsRequest board.now.request }
     ensures { O.base offers.new ≡ O.base offers.old }
 {
-    let mut steps = SearchSteps::new(alloc, &board.book, &board.request, offers);
-    let walked = walk(alloc, board.budget, &mut steps);
-    steps.into_offers();
-    walked
-}
-
-/// The walk of these steps.
-fn walk<O: OfferSource>(alloc: Global, budget: u32, steps: &mut SearchSteps<O>) -> Result<(), Mem>
-    requires { IsRequest steps.old.case.request.now }
-    ensures same_offers { steps.new.offers.ghost_name ≡ steps.old.offers.ghost_name }
-    ensures base { O.base steps.new.offers.now ≡ O.base steps.old.offers.now }
-{
-    match Graph::build(alloc, budget, steps) {
+    let mut steps = SearchSteps::new(alloc, &board.book, &board.request);
+    match Graph::build(alloc, board.budget, &mut steps, offers) {
         Ok(_) | Err(GraphFault::TooLarge { .. }) => Ok(()),
         Err(GraphFault::Mem) => Err(Mem),
     }

@@ -65,18 +65,9 @@ returns-in_default-move_price-clause-holds c =
 
 pub later_holds-requires-clause-front : goal.later_holds-requires-clause-front
 later_holds-requires-clause-front c =
-    let b = c.args.steps.now.case.book.now in
-    let q = c.args.steps.now.case.request.now in
-    let rows = c.args.table.now.rows.now in
-    let answers = c.args.answers.now in
-    let i = c.args.i in
-    let x = c.index-answers-i.result in
-    let ms = c.as_slice-moves.result.now in
-    let e : ms ≡ x.moves = cc in
-    let invariant = c.loop-taken.invariant in
-    let taken = c.loop-taken.taken in
-    let one = c.loop-taken.auto.taken in
-    front_of b q rows answers i x ms taken c.requires.there c.index-answers-i.is e c.loop-taken-test.true
+    let e : c.as_slice-moves.result.now ≡ c.index-answers-i.result.moves = cc in
+    front_of c.args.steps.now.case.book.now c.args.steps.now.case.request.now c.args.table.now.rows.now c.args.answers.now c.args.i c.index-answers-i.result c.as_slice-moves.result.now c.loop-taken.taken
+    c.requires.there c.index-answers-i.is e c.loop-taken-test.true
 
 pub later_holds-requires-clause-leads : goal.later_holds-requires-clause-leads
 later_holds-requires-clause-leads c =
@@ -154,17 +145,11 @@ loop-taken-preserved c =
 
 pub returns-clause-holds : goal.returns-clause-holds
 returns-clause-holds c =
-    let b = c.args.steps.now.case.book.now in
-    let q = c.args.steps.now.case.request.now in
-    let rows = c.args.table.now.rows.now in
-    let answers = c.args.answers.now in
-    let i = c.args.i in
-    let x = c.index-answers-i.result in
-    let ms = c.as_slice-moves.result.now in
-    let e : ms ≡ x.moves = cc in
-    let invariant = c.loop-taken.invariant in
-    let taken = c.loop-taken.taken in
-    λ a s. subst (AnswerHolds b q rows answers) (same_answer answers i x a c.requires.there c.index-answers-i.is s) (all_held b q rows answers x ms taken e c.loop-taken-test.false invariant.hold)
+    let Holds = AnswerHolds c.args.steps.now.case.book.now c.args.steps.now.case.request.now c.args.table.now.rows.now c.args.answers.now in
+    let e : c.as_slice-moves.result.now ≡ c.index-answers-i.result.moves = cc in
+    let held = all_held c.args.steps.now.case.book.now c.args.steps.now.case.request.now c.args.table.now.rows.now c.args.answers.now c.index-answers-i.result c.as_slice-moves.result.now c.loop-taken.taken
+    e c.loop-taken-test.false c.loop-taken.invariant.hold in
+    λ a s. subst Holds (same_answer c.args.answers.now c.args.i c.index-answers-i.result a c.requires.there c.index-answers-i.is s) held
 
 pub later_holds-requires-clause-table : goal.later_holds-requires-clause-table
 later_holds-requires-clause-table c = has_still c.args.steps.now c.loop-taken.steps c.loop-taken.invariant.later.keeps c.args.table.now.bounds c.args.table.now.rows.now c.requires.table

@@ -10,10 +10,10 @@ use Rattle.law_lemmas.proofs.LawFacts.{said_of}
 use Rattle.pricing_graph.proofs.rows.reached_rows.Goals as goal
 
 pub reached-requires-clause-request : goal.reached-requires-clause-request
-reached-requires-clause-request g c = subst IsRequest (sym c.key_of.ensures.case.request) c.requires
+reached-requires-clause-request c = subst IsRequest (sym c.key_of.ensures.case.request) c.requires
 
 pub reached-requires-clause-short : goal.reached-requires-clause-short
-reached-requires-clause-short g c =
+reached-requires-clause-short c =
     let b = c.case-case.result.book.now in
     let q = c.case-case.result.request.now in
     let request : IsRequest q = subst IsRequest (sym c.case-case.ensures.request) c.requires in
@@ -29,7 +29,7 @@ reached-requires-clause-short g c =
     (c.reached_states_are_reached.ensures.short b q root is six (low_moves b q c.limits.ensures c.limits_are_met.ensures.charged c.limits_are_met.ensures.surcharged))
 
 pub returns-in-Ok-clause-rows : goal.returns-in-Ok-clause-rows
-returns-in-Ok-clause-rows g c =
+returns-in-Ok-clause-rows c =
     let b = c.case-case.result.book.now in
     let q = c.case-case.result.request.now in
     let request : IsRequest q = subst IsRequest (sym c.case-case.ensures.request) c.requires in
@@ -48,7 +48,7 @@ returns-in-Ok-clause-rows g c =
     )
 
 pub returns-in-Err-clause-large : goal.returns-in-Err-clause-large
-returns-in-Err-clause-large g c =
+returns-in-Err-clause-large c =
     let b = c.case-case.result.book.now in
     let q = c.case-case.result.request.now in
     let request : IsRequest q = subst IsRequest (sym c.case-case.ensures.request) c.requires in

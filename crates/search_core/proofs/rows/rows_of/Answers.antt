@@ -8,7 +8,7 @@ use Rattle.search_core.proofs.GraphRows.{live_at, numbered_next, rows_all, rows_
 use Rattle.search_core.proofs.rows.rows_of.Goals as goal
 
 pub loop-node-preserved : goal.loop-node-preserved
-loop-node-preserved g c =
+loop-node-preserved c =
     let t = c.args.steps.now.case.numbers in
     let entries = c.args.graph.now.rows.entries in
     let alive = live_at (live c.args.steps.now) entries c.loop-node.node c.key.result c.key.ensures c.requires in record {
@@ -17,10 +17,10 @@ loop-node-preserved g c =
     }
 
 pub returns-clause-nodes : goal.returns-clause-nodes
-returns-clause-nodes g c =
+returns-clause-nodes c =
     let rows = c.loop-node.rows.items in
     let numbers = ap (λ t. Numbered.rows_of t rows) (c.in_ok-copied.ensures ∙ c.numbers.ensures) in
     ap (map node_of) (c.of.ensures ∙ numbers) ∙ rows_all (state c.args.steps.now) c.args.graph.now.rows.entries c.loop-node.node (Numbered.rows_of c.args.steps.now.case.numbers rows) c.loop-node.invariant.nodes (let n = c.size-node-end.ensures in let t = c.loop-node-test.false in omega (arith, n, t))
 
 pub returns-clause-rows : goal.returns-clause-rows
-returns-clause-rows g c = λ b q. rows_are b q _ _ (returns-clause-nodes g c)
+returns-clause-rows c = λ b q. rows_are b q _ _ (returns-clause-nodes c)

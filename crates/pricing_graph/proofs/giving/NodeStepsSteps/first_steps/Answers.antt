@@ -18,19 +18,19 @@ use Rattle.graph_walk.proofs.RowFacts.{rows_length}
 use Rattle.pricing_graph.proofs.giving.NodeStepsSteps.first_steps.Goals as goal
 
 pub overflow_cast-node : goal.overflow_cast-node
-overflow_cast-node g c =
+overflow_cast-node c =
     let es = c.args.self.now.graph.now.rows.entries in
     let within = c.requires.node in
     let small = c.args.self.now.graph.now.small in
     omega (arith, within, small, rows_length (state c.args.self.now.steps.now) es)
 
 pub key-key-requires : goal.key-key-requires
-key-key-requires g c =
+key-key-requires c =
     let within = c.requires.node in
     omega (arith, within, rows_length (state c.args.self.now.steps.now) c.args.self.now.graph.now.rows.entries)
 
 pub steps_of-requires : goal.steps_of-requires
-steps_of-requires g c =
+steps_of-requires c =
     let old = c.args.self.now.steps.now in
     let b = old.case.book.now in
     let q = old.case.request.now in
@@ -46,7 +46,7 @@ steps_of-requires g c =
     (λ m h. c.node_steps_hold.ensures.small b q limits request nodes x m graph (counts_in b q (live old) (state old) key.ghosts.eq es c.requires.ready.alive c.keys_tell.ensures different x m h)) c.in_ok-least.least c.in_ok-least.ensures.least.each)
 
 pub returns-clause-least : goal.returns-clause-least
-returns-clause-least g c =
+returns-clause-least c =
     let old = c.args.self.now.steps.now in
     let new = c.least_moves.new.self in
     let b = old.case.book.now in
@@ -63,11 +63,11 @@ returns-clause-least g c =
     (λ steps e. subst (λ steps. KLeast (HasNodeStep b q nodes c.args.node) Sooner c.args.wanted steps) (sym (e ∙ ap (λ ms. map (step_as node) ms) c.as_slice.ensures)) least) c.steps_of.ensures
 
 pub returns-in_err-least-clause-later : goal.returns-in_err-least-clause-later
-returns-in_err-least-clause-later g c =
+returns-in_err-least-clause-later c =
     let kept = c.least_moves.ensures in
-    (record { ready = λ r. still_ready _ _ kept.same refl r; case = kept.case; keeps = kept.keeps; same_steps = refl; same_offers = kept.same_offers }, kept.base, kept.stays)
+    record { ready = λ r. still_ready _ _ kept.same refl r; case = kept.case; keeps = kept.keeps; same_steps = refl }
 
 pub returns-clause-later : goal.returns-clause-later
-returns-clause-later g c =
+returns-clause-later c =
     let kept = c.least_moves.ensures in
-    (record { ready = λ r. still_ready _ _ kept.same refl r; case = kept.case; keeps = kept.keeps; same_steps = refl; same_offers = kept.same_offers }, kept.base, kept.stays)
+    record { ready = λ r. still_ready _ _ kept.same refl r; case = kept.case; keeps = kept.keeps; same_steps = refl }

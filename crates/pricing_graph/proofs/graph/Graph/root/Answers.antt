@@ -8,7 +8,7 @@ use Rattle.law_lemmas.proofs.Options.{some_same}
 use Rattle.pricing_graph.proofs.graph.Graph.root.Goals as goal
 
 pub unreachable-requires : goal.unreachable-requires
-unreachable-requires g c =
+unreachable-requires c =
     let kept = c.in_ok-key.ensures in
     let r =
     root_there c.args.steps.now c.key_of.new.self c.case-case.result.book.now c.case-case.result.request.now key.ghosts.eq c.args.self.now.rows.entries c.in_ok-key.key c.root.result c.case-case.ensures.book c.case-case.ensures.request kept.case kept.keeps
@@ -19,7 +19,7 @@ unreachable-requires g c =
     absurd (cc)
 
 pub returns-clause-node : goal.returns-clause-node
-returns-clause-node g c =
+returns-clause-node c =
     let kept = c.in_ok-key.ensures in
     let new = c.key_of.new.self in
     let r =

@@ -19,13 +19,13 @@ use Rattle.law_lemmas.proofs.Lists.{got_within}
 use Rattle.pricing_graph.proofs.graph.Graph.runs.Goals as goal
 
 pub best_steps-requires-clause-root : goal.best_steps-requires-clause-root
-best_steps-requires-clause-root g c =
+best_steps-requires-clause-root c =
     let nodes = rows_of (state c.root.new.steps) c.args.self.now.rows.entries in
     let is = c.in_ok-root.ensures.node in
     subst (λ n. c.in_ok-root.root < n) (states_length nodes) (got_within (states nodes) c.in_ok-root.root is.0 is.1)
 
 pub best_steps-requires-clause-ready : goal.best_steps-requires-clause-ready
-best_steps-requires-clause-ready g c =
+best_steps-requires-clause-ready c =
     let old = c.args.steps.now in
     let new = c.root.new.steps in
     let kept = c.in_ok-root.ensures in
@@ -39,7 +39,7 @@ best_steps-requires-clause-ready g c =
     }
 
 pub best_steps-requires-clause-laws : goal.best_steps-requires-clause-laws
-best_steps-requires-clause-laws g c =
+best_steps-requires-clause-laws c =
     let old = c.args.steps.now in
     let new = c.root.new.steps in
     let kept = c.in_ok-root.ensures in
@@ -53,7 +53,7 @@ best_steps-requires-clause-laws g c =
     (graph_stays old.case.book.now b old.case.request.now q (rows_of (state old) es) nodes kept.case.book kept.case.request (rows_stay (live old) (live new) (state old) (state new) es kept.keeps c.requires.live) c.requires.graph)
 
 pub runs_of_words-requires : goal.runs_of_words-requires
-runs_of_words-requires g c =
+runs_of_words-requires c =
     let old = c.args.steps.now in
     let new = c.root.new.steps in
     let kept = c.in_ok-root.ensures in
@@ -69,7 +69,7 @@ runs_of_words-requires g c =
     (each_weaker (IsRun (HasNodeStep b q nodes) c.in_ok-root.root) HasMoves (λ d h. c.node_steps_hold.ensures.moves b q limits request nodes c.in_ok-root.root d graph kept.node h) c.in_ok-found.found c.in_ok-found.ensures.least.each)
 
 pub returns-clause-runs : goal.returns-clause-runs
-returns-clause-runs g c =
+returns-clause-runs c =
     let old = c.args.steps.now in
     let new = c.root.new.steps in
     let kept = c.in_ok-root.ensures in

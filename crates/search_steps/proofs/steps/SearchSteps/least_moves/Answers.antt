@@ -1,31 +1,32 @@
-use Rattle.std.proofs.Common.{map, sym, subst}
-use Rattle.std.specs.Borrow.{Bor}
+use Rattle.std.proofs.Common.{◌≡◌, ◌≤◌, List, ap, length, map, sym, subst, ◌∙◌, arith}
 use Rattle.std.proofs.lemmas.Result.{IfOk-weaker}
 use Rattle.fare_law.specs.declared.requests.Request.{Request}
-use Rattle.fare_law.specs.Book.{Book}
 use Rattle.residual_keys.specs.Residuals.{State}
-use Rattle.residual_keys.specs.Steps.{AreMoves}
+use Rattle.residual_table.specs.declared.key.ResidualKey.{ResidualKey}
 use Rattle.residual_table.specs.Keys.{IsLive, residual_at}
+use Rattle.search_steps.specs.declared.least.LeastMove.{LeastMove}
 use Rattle.search_steps.specs.LeastMoves.{AreLeastMoves, BoundBy, LeaveLive, least_as}
 use Rattle.search_steps.specs.Numbers.{Numbered}
+use Rattle.search_steps.proofs.Counting.{none_past}
 use Rattle.search_steps.proofs.RowsByNumber.{said}
 use Rattle.search_steps.proofs.steps.SearchSteps.least_moves.Goals as goal
 
 pub returns-then-from-len-clause-least : goal.returns-then-from-len-clause-least
 returns-then-from-len-clause-least g c =
     let s = c.args.self.now.case in
+    let x = residual_at s.numbers c.args.key in
     let Bound = BoundBy (IsLive s.numbers) (residual_at s.numbers) (g.B.Bounds.bound c.args.bounds.now) in
-    IfOk-weaker c.least_moves.result _ _
-    (λ ms h. said (λ (x : State) (n : Numbered). AreLeastMoves s.book.now s.request.now Bound x c.args.wanted (map (least_as (residual_at n.numbers)) ms)) _ _ s c.least_moves.new.self c.residual-residual.ensures.state (sym c.least_moves.ensures.same) h) c.least_moves.ensures.least
-
-pub returns-then-from-len-clause-live : goal.returns-then-from-len-clause-live
-returns-then-from-len-clause-live g c = IfOk-weaker c.least_moves.result _ _ (λ ms h. subst (λ (n : Numbered). LeaveLive (IsLive n.numbers) ms) (sym c.least_moves.ensures.same) h) c.least_moves.ensures.live
+    let at : c.residual.inside.at.slice ≡ x.at.slice = ap (λ (y : State). y.at.slice) (c.residual.view_is ∙ c.residual-residual.ensures.state) in
+    let slices : length c.case.result.request.now.slices ≡ length s.request.now.slices = ap (λ (q : Request). length q.slices) c.case.ensures.request in
+    let past : length s.request.now.slices ≤ x.at.slice = omega (arith, at, slices, c.if-from-len.true, c.from.ensures, c.len.ensures.value) in
+    subst (λ (ms : List (LeastMove ResidualKey)). AreLeastMoves s.book.now s.request.now Bound x c.args.wanted (map (least_as (residual_at s.numbers)) ms)) (sym c.new.ensures) (none_past s.book.now s.request.now x Bound c.args.wanted past)
 
 pub returns-clause-least : goal.returns-clause-least
 returns-clause-least g c =
     let s = c.args.self.now.case in
-    let x = c.residual-residual.result in
     let Bound = BoundBy (IsLive s.numbers) (residual_at s.numbers) (g.B.Bounds.bound c.args.bounds.now) in
-    let moves = said (λ (b : Bor Book) (q : Bor Request). AreMoves b.now q.now x c.in_ok-found.found) _ _ _ _ c.case-case.ensures.book c.case-case.ensures.request c.in_ok-found.ensures.moves in
-    let told = subst (AreMoves s.book.now s.request.now x) (sym c.as_slice.ensures) moves in
-    IfOk-weaker c.least_among.result _ _ (λ ms h. subst (λ (y : State). AreLeastMoves s.book.now s.request.now Bound y c.args.wanted (map (least_as (residual_at s.numbers)) ms)) c.residual-residual.ensures.state (h x told)) c.least_among.ensures.least
+    IfOk-weaker c.least_moves.result _ _
+    (λ ms h. said (λ (x : State) (n : Numbered). AreLeastMoves s.book.now s.request.now Bound x c.args.wanted (map (least_as (residual_at n.numbers)) ms)) _ _ s c.least_moves.new.self c.residual-residual.ensures.state (sym c.least_moves.ensures.same) h) c.least_moves.ensures.least
+
+pub returns-clause-live : goal.returns-clause-live
+returns-clause-live g c = IfOk-weaker c.least_moves.result _ _ (λ ms h. subst (λ (n : Numbered). LeaveLive (IsLive n.numbers) ms) (sym c.least_moves.ensures.same) h) c.least_moves.ensures.live

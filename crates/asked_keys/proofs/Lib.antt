@@ -1,0 +1,4 @@
+pub mod OfferedFacts
+pub mod ServedPaths
+pub mod TakenKeys
+pub mod SameKeys
