@@ -6,9 +6,10 @@
 
 : "${top:?}"
 
-# The lines of crates.txt on the program and the crates that it stands on, each after those below it.
+# The lines of crates.txt on the program, or on the crate that root_crate names, and the crates that it stands on, each after those
+# below it.
 program_lines() {
-  awk '
+  awk -v root="${root_crate:-lowfare_cli}" '
     function visit(name, names, count, i) {
       if (name in wanted) return
       wanted[name] = 1
@@ -25,7 +26,7 @@ program_lines() {
     { sub(/#.*/, "") }
     /:/ { split($0, parts, ":"); split(parts[1], words, " "); order[++last] = words[1]; line[words[1]] = $0; below[words[1]] = parts[2] }
     END {
-      visit("lowfare_cli")
+      visit(root)
       for (at = 1; at <= last; at++) if (order[at] in wanted) tell(order[at])
     }
   ' "$top/crates.txt"
@@ -90,6 +91,16 @@ summed() {
   if mkdir -p "$top/out" 2>/dev/null && printf '%s\n' "$sum" "$before" 2>/dev/null >"$top/out/listed-$$"; then
     mv "$top/out/listed-$$" "$top/out/listed" || true
   fi
+}
+
+# Copies what the program is proved of into a folder that is a repository of its own. (`rt ci NAME..` does the same, and throws the
+# program away with its copy.) The edits that must be refused are left out: they say something of the contracts, not of the program.
+copy_sources() {
+  local crate
+  mkdir -p "$1/crates" "$1/.git" && program_lines >"$1/crates.txt" && cp "$top/HANDLES" "$1" || return
+  for crate in $(program_crates); do
+    (cd "$top" && tar --exclude="crates/$crate/out" --exclude="crates/$crate/must-fail" -cf - "crates/$crate") | tar -C "$1" -xf - || return
+  done
 }
 
 # Proves, builds and runs the repository in the folder where it is called, by the gate's own command. One process for each task:

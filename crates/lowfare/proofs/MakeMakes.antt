@@ -3,8 +3,8 @@ use Rattle.std.proofs.Common.{◌≡◌, ◌≤◌, ℕ, List, None, Result, IfO
 use Rattle.std.specs.Int.{IsInRange}
 use Rattle.case_maker.specs.MadeCase.{made_case}
 use Rattle.fare_law.specs.declared.mem.Mem.{Mem}
+use Rattle.made_law.specs.Taken.{AreTaken}
 use Rattle.search_core.specs.declared.outcome.Answer.{Answer}
-use Rattle.whole_case.specs.Texts.{refusal_text}
 use Rattle.whole_case.specs.declared.refusals.Refusal.{Refusal}
 use Rattle.whole_case.specs.declared.search.SearchCase.{SearchCase}
 use Rattle.lowfare.specs.Answered.{ComesTo}
@@ -13,7 +13,7 @@ use Rattle.lowfare.specs.Made.{MakesCase, SumsUp, default_budget}
 use Rattle.lowfare.specs.declared.case_search.Searched.{Searched}
 use Rattle.lowfare.specs.declared.case_search.Searched.TheVariants.{Answered, Beyond, NoCase}
 use Rattle.lowfare.specs.declared.outcomes.Outcome.{Outcome}
-use Rattle.lowfare.specs.declared.status.Status.TheVariants.{Done, Refused, TooLarge}
+use Rattle.lowfare.specs.declared.status.Status.TheVariants.{Done, TooLarge}
 use Rattle.lowfare.proofs.Ending.{ends_with}
 use Rattle.lowfare.proofs.SearchMakes.{beyond, no_case, within}
 
@@ -29,9 +29,10 @@ module _ (seed size : ℕ) (bytes : List ℕ) (made : bytes ≡ made_case seed s
   large_made is status text =
       ends_with r TooLarge (λ t. t ≡ codes "too large\n") (MakesCase seed size true) (λ t whole. record { case = beyond None default_budget None (made_case seed size) s of_made is; whole = whole }) status text
 
-  pub refused_made : (refusal : Refusal) → s ≡ NoCase refusal → IfOk r (λ o. o.status ≡ Refused) → IfOk r (λ o. o.text ≡ refusal_text refusal) → IfOk r (λ o. MakesCase seed size true o.status o.text)
-  refused_made refusal is status text =
-      ends_with r Refused (λ t. t ≡ refusal_text refusal) (MakesCase seed size true) (λ t whole. record { cause = no_case None default_budget None (made_case seed size) s of_made refusal is; whole = whole }) status text
+-- a made case is never refused
+pub never_made : {refusal : Refusal} (seed size : ℕ) (bytes : List ℕ) → bytes ≡ made_case seed size → (s : Searched) → ComesTo None default_budget None bytes s → AreTaken → size ≤ 100 → s ≡ NoCase refusal → ⊥
+never_made {refusal} seed size bytes made s comes taken small is =
+    taken seed size small refusal (no_case None default_budget None (made_case seed size) s (subst (λ b. ComesTo None default_budget None b s) made comes) refusal is).refused
 
 -- a made case fits
 pub case_fits : (text : List ℕ) (seed size : ℕ) → ((seed size : ℕ) → size ≤ 100 → length (made_case seed size) ≤ 1000000) → IsInRange 1 100 size → text ≡ made_case seed size → length text ≤ most_bytes

@@ -25,7 +25,7 @@ module _ (seed size : ℕ) (bytes : List ℕ) where
   summary_made : (status : Status) (text : List ℕ) → Makes (Make seed size true) bytes status text → Owes (Make seed size true) bytes status
   summary_made Done text m = m.case
   summary_made TooLarge text m = m.case
-  summary_made Refused text m = m.cause
+  summary_made Refused text m = absurd m
   summary_made Usage text m = absurd m
   summary_made ReadFault text m = absurd m
   summary_made WriteFault text m = absurd m
@@ -52,7 +52,7 @@ module _ (seed size : ℕ) (bytes : List ℕ) where
   as_search : (status : Status) → Owes (Make seed size true) bytes status → Owes (Search None default_budget None) (made_case seed size) status
   as_search Done h = h
   as_search TooLarge h = h
-  as_search Refused h = h
+  as_search Refused h = absurd h
   as_search Usage h = absurd h
   as_search ReadFault h = absurd h
   as_search WriteFault h = absurd h

@@ -11,22 +11,15 @@ use Rattle.fare_law.specs.Book.{Book}
 use Rattle.fare_law.specs.declared.requests.Request.{Request}
 use Rattle.fare_law.specs.declared.tickets.Ticket.{Ticket}
 use Rattle.lowfare.specs.Cases.{ExceedsBudget, FitsBudget}
-use Rattle.lowfare.specs.Refusals.{HasRefusal, IsRefused}
 use Rattle.lowfare.specs.Searches.{IsTooLarge}
 use Rattle.lowfare.specs.declared.status.Status.{Status}
-use Rattle.lowfare.specs.declared.status.Status.TheVariants.{Done, Refused, TooLarge}
+use Rattle.lowfare.specs.declared.status.Status.TheVariants.{Done, TooLarge}
 use Rattle.search_core.specs.declared.outcome.Answer.{Answer}
-use Rattle.whole_case.specs.Cases.{search_case}
-use Rattle.whole_case.specs.Stages.{Stage}
 use Rattle.whole_case.specs.declared.search.SearchCase.{SearchCase}
 
 -- how many residuals the search of a summary may reach
 abbrev pub default_budget : ℕ
 default_budget = 100000
-
--- the made case, as the bytes of a search spell one
-abbrev pub spelled_case : ℕ → ℕ → Stage SearchCase
-spelled_case seed size = search_case None None (made_case seed size)
 
 -- the price of the first ticket, if there is one
 abbrev pub FirstCosts : Book → Request → List Ticket → Option ℕ → Type 0
@@ -72,7 +65,6 @@ abbrev pub MakesCase : ℕ → ℕ → Bool → Status → List ℕ → Type 0
 MakesCase seed size false Done text = text ≡ made_case seed size
 MakesCase seed size true Done text = Summarizes seed size text
 MakesCase seed size true TooLarge text = IsTooLarge None default_budget None (made_case seed size) text
-MakesCase seed size true Refused text = IsRefused (spelled_case seed size) text
 MakesCase seed size is_summary status text = ⊥
 
 -- what the made case is, where `make` is to end with this status
@@ -80,5 +72,4 @@ abbrev pub OwesCase : ℕ → ℕ → Bool → Status → Type 0
 OwesCase seed size false Done = Unit {0}
 OwesCase seed size true Done = FitsBudget None default_budget None (made_case seed size)
 OwesCase seed size true TooLarge = ExceedsBudget None default_budget None (made_case seed size)
-OwesCase seed size true Refused = HasRefusal (spelled_case seed size)
 OwesCase seed size is_summary status = ⊥

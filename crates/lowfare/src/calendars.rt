@@ -31,8 +31,8 @@ pub(crate) fn days_priced(
 {
     let found = match calendar_case(alloc, bytes, spans, at) {
         Ok(found) => found,
-        Err(LoadFault::Refused(refusal)) => return refused(alloc, &refusal),
         Err(LoadFault::Mem) => return Err(Mem),
+        Err(LoadFault::Refused(refusal)) => return refused(alloc, &refusal),
     };
     spelled_requests_are_right();
     spelled_calendars_fit();

@@ -43,7 +43,8 @@ pub(crate) fn checked(
     }
 }
 
-fn yes(alloc: Global) -> Result<Outcome, Mem>
+/// The certificate meets the checks.
+pub fn yes(alloc: Global) -> Result<Outcome, Mem>
     ensures status { IfOk result (λ o. o.status ≡ Status.Done) }
     ensures text { IfOk result (λ o. o.text ≡ codes "yes\n") }
 {
@@ -53,7 +54,8 @@ fn yes(alloc: Global) -> Result<Outcome, Mem>
     })
 }
 
-fn no(alloc: Global, rule: u8, place: u32) -> Result<Outcome, Mem>
+/// The certificate fails a check first at a place.
+pub fn no(alloc: Global, rule: u8, place: u32) -> Result<Outcome, Mem>
     ensures status { IfOk result (λ o. o.status ≡ Status.No) }
     ensures text { IfOk result (λ o. o.text ≡ no_text rule place) }
 {

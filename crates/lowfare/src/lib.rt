@@ -1,6 +1,7 @@
 //! The program's two top calls over any source and sink: words, input, what a command makes of it, the text that is
 //! written, the status. `serve` starts threads and waits for them, and `run`, which carries all other commands, doesn't.
-//! Each command is a module of its own, and a definition of what it makes.
+//! Each command is a module of its own, and a definition of what it makes. The layer above also relies on the clauses of the calls that
+//! tell of an outcome: `yes`, `no`, `unlawful`, `refused`, `too_large`.
 #![tactic(auto)]
 
 mod calendars;
@@ -21,7 +22,10 @@ mod verdicts;
 mod words;
 mod workloads;
 
+pub use checking::{no, yes};
+pub use outcomes::{Outcome, refused, too_large};
 pub use program::run;
 pub use serve_program::serve;
 pub use status::Status;
+pub use verdicts::unlawful;
 pub use words::is_serve;

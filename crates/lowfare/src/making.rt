@@ -11,11 +11,12 @@ ghost use Rattle.lowfare.specs.Makes.{IsEnd};
 use crate::Status;
 use crate::case_search::{Searched, search_of};
 use crate::limits::tell_limits;
-use crate::outcomes::{Outcome, refused, too_large};
+use crate::outcomes::{Outcome, too_large};
 use case_maker::{Summary, made_cases_are_short, make, push_summary};
 use certificate::one_failure;
 use certificate_check::{Verdict, check};
 use fare_law::{List, Mem};
+use made_law::made_cases_are_taken;
 use residual_keys::one_size;
 use search_core::Answer;
 use std::alloc::Global;
@@ -44,16 +45,18 @@ pub(crate) fn made(alloc: Global, seed: u32, size: u8, is_summary: bool) -> Resu
 
 /// What a search of the made case comes to.
 fn summarized(alloc: Global, seed: u32, size: u8, bytes: List<u8>) -> Result<Outcome, Mem>
+    requires range { IsInRange 1 100 size }
     requires made { bytes ≡ made_case seed size }
     requires fits { length bytes ≤ most_bytes }
     ensures makes { IfOk result (λ o. MakesCase seed size true o.status o.text) }
     ensures ends { IfOk result (λ o. IsEnd o.status) }
 {
+    made_cases_are_taken();
     let searched = search_of(alloc, bytes, None, DEFAULT_BUDGET, None)?;
     match searched {
         Searched::Answered { found, answer } => summed(alloc, seed, size, &found, &answer),
         Searched::Beyond => too_large(alloc),
-        Searched::NoCase(refusal) => refused(alloc, &refusal),
+        Searched::NoCase(_) => unreachable!(),
     }
 }
 

@@ -19,7 +19,7 @@ use whole_case::{Refusal, refusal_text};
 
 /// A status with the text that is due.
 #[derive(Drop)]
-pub(crate) struct Outcome {
+pub struct Outcome {
     pub status: Status,
     pub text: List<u8>,
 }
@@ -52,7 +52,7 @@ pub(crate) fn outcome_of(alloc: Global, command: &Command, bytes: List<u8>) -> R
 }
 
 /// The first refusal of a case.
-pub(crate) fn refused(alloc: Global, refusal: &Refusal) -> Result<Outcome, Mem>
+pub fn refused(alloc: Global, refusal: &Refusal) -> Result<Outcome, Mem>
     ensures status { IfOk result (λ o. o.status ≡ Status.Refused) }
     ensures text { IfOk result (λ o. o.text ≡ Texts.refusal_text refusal.now) }
 {
@@ -63,7 +63,7 @@ pub(crate) fn refused(alloc: Global, refusal: &Refusal) -> Result<Outcome, Mem>
 }
 
 /// More residuals are reached than the budget.
-pub(crate) fn too_large(alloc: Global) -> Result<Outcome, Mem>
+pub fn too_large(alloc: Global) -> Result<Outcome, Mem>
     ensures status { IfOk result (λ o. o.status ≡ Status.TooLarge) }
     ensures text { IfOk result (λ o. o.text ≡ codes "too large\n") }
 {

@@ -57,7 +57,7 @@ fn lawful(alloc: Global, found: &VerdictCase) -> Result<Outcome, Mem>
 }
 
 /// All breaches of a ticket.
-fn unlawful(alloc: Global, findings: &[Finding]) -> Result<Outcome, Mem>
+pub fn unlawful(alloc: Global, findings: &[Finding]) -> Result<Outcome, Mem>
     ensures status { IfOk result (λ o. o.status ≡ Status.Done) }
     ensures text { IfOk result (λ o. o.text ≡ Verdicts.breaches_text findings.now) }
 {

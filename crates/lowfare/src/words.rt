@@ -24,9 +24,9 @@ pub(crate) fn asked(alloc: Global, words: &[String]) -> Result<Command, WordsFau
 /// The command line of `serve` that the words are. It answers `Usage` exactly where they are none.
 #[tactic(auto, using(crate::proofs::Ranges::line_ranged))]
 pub(crate) fn asked_to_serve(alloc: Global, words: &[String]) -> Result<Command, WordsFault>
+    ensures usage { IsErrOf result WordsFault.Usage → AreLine IsServe (map string_bytes words.now) → ⊥ }
     ensures line { IfOk result (Asks IsServe (map string_bytes words.now)) }
     ensures range { IfOk result HasRange }
-    ensures usage { IsErrOf result WordsFault.Usage → AreLine IsServe (map string_bytes words.now) → ⊥ }
 {
     let command = read_words(alloc, words)?;
     if is_of_serve(&command) {
