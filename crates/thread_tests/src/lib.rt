@@ -19,7 +19,11 @@ mod desks;
 #[cfg(test)]
 mod filings;
 #[cfg(test)]
+mod inventing;
+#[cfg(test)]
 mod keys;
+#[cfg(test)]
+mod meanwhile;
 #[cfg(test)]
 mod moves;
 #[cfg(test)]

@@ -1,8 +1,9 @@
 //! What runs of desks are given to do, and how the tests wait for what comes of it.
-ghost use Rattle.std.specs.Prelude.{◌≡◌, length, All, IfOk};
+ghost use Rattle.std.specs.Prelude.{◌≡◌, ◌≤◌, length, All, IfOk};
 ghost use Rattle.std.specs.Arc.{arc_value};
 ghost use Rattle.fare_law.specs.FilingLimits.{IsFiling};
 ghost use Rattle.fare_law.specs.Lists.{IsPrefix};
+ghost use Rattle.fare_law.specs.declared.limits.TheConstants.{MOST_ENTRIES};
 ghost use Rattle.fare_versions.specs.Published.{Grows};
 ghost use Rattle.fare_versions.specs.Seen.{seen_by};
 ghost use Rattle.script_text.specs.Script.{IsScript};
@@ -25,6 +26,7 @@ pub(crate) fn looked(watch: &mut Watch, wants: u32) -> (Result<u32, Mem>, u32)
     ensures seen { Grows (seen_by watch.old) (seen_by watch.new) }
     ensures told { watch.new.told ≡ watch.old.told }
     ensures number { IfOk result.0 (λ n. (n ≡ length watch.new.book.entries) × IsPrefix watch.old.told watch.new.book.entries) }
+    ensures few { IfOk result.0 (λ n. n ≤ MOST_ENTRIES) }
     ensures wants { CountsWants wants result.1 result.0 }
 {
     match watch.look() {
