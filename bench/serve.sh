@@ -4,8 +4,8 @@
 # time, processor time and memory of one run each are shown; the texts may differ in their versions alone.
 set -euo pipefail
 top=$(cd "$(dirname "$0")/.." && pwd)
-# shellcheck source=bench/survey/program.sh
-source "$top/bench/survey/program.sh"
+# shellcheck source=trials/survey/program.sh
+source "$top/trials/survey/program.sh"
 peer=$1 case=$2
 folder=$(mktemp -d)
 trap 'rm -r "$folder"' EXIT

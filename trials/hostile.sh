@@ -1,13 +1,13 @@
 #!/usr/bin/env bash
 # Runs all that is tried against the program, one part after the other, and prints the tables for docs/RELIABILITY.md:
-# bench/hostile.sh DONE [CASES [PART ..]]. CASES says how many random cases are compared with the reference, or with another program of the
+# trials/hostile.sh DONE [CASES [PART ..]]. CASES says how many random cases are compared with the reference, or with another program of the
 # same formats that PEER names (100,000), and the parts are memory, streams, damage, limits, differ, fuzz, desks and memcheck. The folder DONE
 # keeps how far each part came: called again with it, a run that was cut off goes on, and what is done isn't done again. JOBS is how many runs
 # there are at a time (1).
 set -euo pipefail
 top=$(cd "$(dirname "$0")/.." && pwd)
-# shellcheck source=bench/survey/program.sh
-source "$top/bench/survey/program.sh"
+# shellcheck source=trials/survey/program.sh
+source "$top/trials/survey/program.sh"
 done=$1 cases=${2:-100000}
 parts=("${@:3}")
 [ ${#parts[@]} -gt 0 ] || parts=(memory streams damage limits differ fuzz desks memcheck)
@@ -25,8 +25,8 @@ status=0
 for part in "${parts[@]}"; do
   echo "$(date -u +%H:%M:%S) $part"
   case $part in
-    memory | streams | memcheck | damage | limits) "$top/bench/$part.sh" "$done" ;;
-    differ | fuzz | desks) "$top/bench/$part.sh" 1 "$cases" ;;
+    memory | streams | memcheck | damage | limits) "$top/trials/$part.sh" "$done" ;;
+    differ | fuzz | desks) "$top/trials/$part.sh" 1 "$cases" ;;
     *) echo "no such part: $part" >&2 && exit 2 ;;
   esac || status=1
 done

@@ -17,5 +17,5 @@ peer=${PEER:-$top/reference/run}
 
 # Runs one of the surveys.
 survey() {
-  PYTHONPATH=$top/bench/survey:$top/bench/differ PYTHONDONTWRITEBYTECODE=1 python3 "$top/bench/$1" "${@:2}"
+  PYTHONPATH=$top/trials/survey:$top/trials/differ PYTHONDONTWRITEBYTECODE=1 python3 "$top/trials/$1" "${@:2}"
 }

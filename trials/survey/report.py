@@ -9,14 +9,14 @@ import os
 import sys
 
 PARTS = {
-    "memory": "`bench/memory.sh`: each allocation refused alone, and all from it on",
-    "streams": "`bench/streams.sh`: closed, failing, full, broken and slow streams",
-    "damage": "`bench/damage.sh`: cases, certificates and tickets with each byte changed, and cut after each",
-    "limits": "`bench/limits.sh`: one input at each limit and one past it",
-    "differ": "`bench/differ.sh`: random cases",
-    "fuzz": "`bench/fuzz.sh`: examples changed at random",
-    "desks": "`bench/desks.sh`: random cases of `serve`",
-    "memcheck": "`bench/memcheck.sh`: the examples and worked cases under memcheck",
+    "memory": "`trials/memory.sh`: each allocation refused alone, and all from it on",
+    "streams": "`trials/streams.sh`: closed, failing, full, broken and slow streams",
+    "damage": "`trials/damage.sh`: cases, certificates and tickets with each byte changed, and cut after each",
+    "limits": "`trials/limits.sh`: one input at each limit and one past it",
+    "differ": "`trials/differ.sh`: random cases",
+    "fuzz": "`trials/fuzz.sh`: examples changed at random",
+    "desks": "`trials/desks.sh`: random cases of `serve`",
+    "memcheck": "`trials/memcheck.sh`: the examples and worked cases under memcheck",
 }
 
 

@@ -1,11 +1,11 @@
 #!/usr/bin/env bash
 # Runs each command on the worked cases with streams that are closed, fail, break, stall or take little at a time, and says what
-# came: bench/streams.sh [DONE], where the folder DONE keeps the counts.
+# came: trials/streams.sh [DONE], where the folder DONE keeps the counts.
 set -euo pipefail
 top=$(cd "$(dirname "$0")/.." && pwd)
-# shellcheck source=bench/survey/program.sh
-source "$top/bench/survey/program.sh"
+# shellcheck source=trials/survey/program.sh
+source "$top/trials/survey/program.sh"
 done=${1:-$(mktemp -d)}
 library=$(mktemp -d)/streams.so
-cc -O2 -Wall -fPIC -shared -o "$library" "$top/bench/streams/streams.c" -ldl
+cc -O2 -Wall -fPIC -shared -o "$library" "$top/trials/streams/streams.c" -ldl
 survey streams/streams.py "$program" "$library" "$done"

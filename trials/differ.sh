@@ -1,11 +1,11 @@
 #!/usr/bin/env bash
 # Compares the program with the reference, or with another program of the same formats that PEER names, byte for byte and by status, on
-# random cases: bench/differ.sh FIRST COUNT [COMMAND ..]. What was counted and the cases that differ are kept in the folder that DONE names,
+# random cases: trials/differ.sh FIRST COUNT [COMMAND ..]. What was counted and the cases that differ are kept in the folder that DONE names,
 # or in a new one.
 set -euo pipefail
 top=$(cd "$(dirname "$0")/.." && pwd)
-# shellcheck source=bench/survey/program.sh
-source "$top/bench/survey/program.sh"
+# shellcheck source=trials/survey/program.sh
+source "$top/trials/survey/program.sh"
 first=$1 count=$2
 shift 2
 done=${DONE:-$(mktemp -d)}
