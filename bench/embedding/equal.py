@@ -1,7 +1,7 @@
 #!/usr/bin/env python3
-"""Compares random cases by the library with the program's bytes: equal.py PROGRAM COUNT. A case is a made one of a random seed and a
-size of 1 to 3, of which a line may be damaged; its search on an open book and by `run`, a check of its certificate and a filing are
-compared with what the program prints."""
+"""Compares random searches by the library with the program's bytes: equal.py PROGRAM COUNT. A case is a made one of a random seed and
+a size of 1 to 3, of which in half of all cases a byte is changed; its search by `run` and on an open book is compared with what the
+program prints."""
 
 import json
 import random

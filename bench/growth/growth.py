@@ -19,7 +19,7 @@ FLOOR_SECONDS = 0.02
 FLOOR_MEGABYTES = 4.0
 
 Point = collections.namedtuple("Point", "size seconds megabytes")
-HEAD = "| Stage | Size | Sizes | Seconds | MB | Time grows by | Room grows by | Said |\n|---|---|---|---|---|---|---|---|"
+HEAD = "| Stage | Size | Sizes | Milliseconds | MB | Time grows by | Room grows by | Said |\n|---|---|---|---|---|---|---|---|"
 
 
 def exponent(sizes, values, floor):
@@ -41,9 +41,10 @@ def line(name, counts, points, said):
     sizes = [point.size for point in points]
     time = exponent(sizes, [point.seconds for point in points], FLOOR_SECONDS)
     room = exponent(sizes, [point.megabytes for point in points], FLOOR_MEGABYTES)
-    seconds, megabytes = ", ".join(f"{point.seconds:.2f}" for point in points), ", ".join(f"{point.megabytes:.0f}" for point in points)
+    milliseconds = ", ".join(f"{point.seconds * 1000:.0f}" for point in points)
+    megabytes = ", ".join(f"{point.megabytes:.0f}" for point in points)
     each = ", ".join(f"{size:,}" for size in sizes)
-    return f"| {name} | {counts} | {each} | {seconds} | {megabytes} | {told(time)} | {told(room)} | {said} |"
+    return f"| {name} | {counts} | {each} | {milliseconds} | {megabytes} | {told(time)} | {told(room)} | {said} |"
 
 
 class Measure:

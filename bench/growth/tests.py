@@ -18,7 +18,7 @@ class Exponents(unittest.TestCase):
 
     def test_line(self):
         told = growth.line("walk", "residuals", [Point(1000, 0.1, 10.0), Point(2000, 0.2, 40.0)], 1)
-        self.assertEqual(told, "| walk | residuals | 1,000, 2,000 | 0.10, 0.20 | 10, 40 | 1.00 | 2.00 | 1 |")
+        self.assertEqual(told, "| walk | residuals | 1,000, 2,000 | 100, 200 | 10, 40 | 1.00 | 2.00 | 1 |")
 
 
 class Cases(unittest.TestCase):
