@@ -314,7 +314,7 @@ def filings_of_rules(scale):
 
 
 ATTACKS = [
-    Attack("seat keys that meet", "`HashMap` of `seat_classes` (the kit's hash with a fixed seed)", SEARCH, seat_keys, False),
+    Attack("seat keys that meet", "`Seats` of `seat_classes`, had they a table with the kit's hash", SEARCH, seat_keys, False),
     Attack("ends of paths that meet", "`Spots` of `component_table`: `Reach`", SEARCH, path_ends, False),
     Attack("heads in turn", "`Rows::row_of` of `component_table`", SEARCH, heads_in_turn, False),
     Attack("one class of tails", "`first_needed` of `component_table`", SEARCH, one_class_of_tails, False),

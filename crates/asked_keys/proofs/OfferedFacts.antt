@@ -9,7 +9,7 @@ use Rattle.fare_groups.specs.declared.group.GroupedFare.{GroupedFare}
 use Rattle.fare_groups.specs.Grouping.{Cheapest, IsRowIn, fare_at}
 use Rattle.fare_groups.specs.Groups.{HasClass, Permits, group_of}
 use Rattle.fare_groups.proofs.ByGroup.{offered_by_group, one_rule_all}
-use Rattle.fare_groups.proofs.OneGroup.{classes_are_low, each_stands_once, fares_are_rows}
+use Rattle.fare_groups.proofs.OneGroup.{each_stands_once, fares_are_rows}
 use Rattle.fare_law.specs.declared.flights.Flight.{Flight}
 use Rattle.fare_law.specs.declared.names.Carrier.{Carrier}
 use Rattle.fare_law.specs.declared.requests.Request.{Request}
@@ -26,7 +26,7 @@ use Rattle.residual_keys.specs.Gathered.{AreLegs}
 use Rattle.residual_keys.proofs.Markets.{legs_one}
 use Rattle.residual_keys.proofs.Sheeted.{sheet_one}
 use Rattle.asked_keys.specs.Offering.{NoneOffered, OffersNone}
-use Rattle.law_lemmas.proofs.EachOne.{each_from, each_in}
+use Rattle.law_lemmas.proofs.EachOne.{each_in}
 use Rattle.law_lemmas.proofs.Lists.{front_read}
 use Rattle.law_lemmas.proofs.Members.{got_in, in_either, in_one}
 use Rattle.law_lemmas.proofs.Options.{some_one}
@@ -55,9 +55,6 @@ module _ (b : Book) (fs : List Flight) (legs : List Leg) (m : Market) (g : FareG
 
   class_low : (row : SheetRow) → IsIn row m.sheet.value.rows → row.fare.class ≤ 25
   class_low row j = (limited.fares row.fare.key row.fare (live_of row j).fare).1.class
-
-  pub low_classes : Each (λ (f : GroupedFare). f.class ≤ 25) g.fares
-  low_classes = each_in (λ (x : FareGroup). Each (λ (f : GroupedFare). f.class ≤ 25) x.fares) m.groups g (classes_are_low m.sheet.value.rows m.groups market.groups (each_from (λ (row : SheetRow). row.fare.class ≤ 25) m.sheet.value.rows class_low)) i
 
   pub rule_within : (row : SheetRow) → IsRowIn m.sheet.value.rows g row → IsRule row.rule
   rule_within row r = limited.rules row.fare.key.carrier row.fare.rule row.rule (live_of row r.within).rule

@@ -17,7 +17,7 @@ use Rattle.fare_groups.specs.declared.group.GroupKey.{GroupKey}
 use Rattle.fare_groups.specs.declared.group.GroupedFare.{GroupedFare}
 use Rattle.fare_groups.specs.Grouping.{Cheapest, IsRowIn}
 use Rattle.fare_groups.specs.Groups.{Permits, extra_of}
-use Rattle.fare_groups.proofs.OneGroup.{classes_are_low, fares_are_rows}
+use Rattle.fare_groups.proofs.OneGroup.{fares_are_rows}
 use Rattle.fare_law.specs.declared.flights.Flight.{Flight}
 use Rattle.fare_law.specs.declared.names.Carrier.{Carrier}
 use Rattle.fare_law.specs.declared.requests.Request.{Request}
@@ -37,7 +37,7 @@ use Rattle.outlines.specs.ByGroups.{OutlineOver, OverMarket}
 use Rattle.outlines.specs.Outlines.{Outlined}
 use Rattle.outlines.proofs.ByGroups.{groups_give}
 use Rattle.rule_unit.specs.Ranges.{IsDayWithin}
-use Rattle.law_lemmas.proofs.EachOne.{each_from, each_in}
+use Rattle.law_lemmas.proofs.EachOne.{each_in}
 use Rattle.law_lemmas.proofs.LawFacts.{low_share}
 use Rattle.law_lemmas.proofs.Members.{got_in}
 use Rattle.law_lemmas.proofs.Options.{some_one}
@@ -103,10 +103,6 @@ least_below mine charges price extra e least = omega (arith, e, least)
 module _ (b : Book) (m : Market) (g : FareGroup) (market : IsMarket b m) (limited : Limited b) (i : IsIn g m.groups) where
   live_of : (row : SheetRow) → IsIn row m.sheet.value.rows → IsLiveRow b m.sheet.value.from m.sheet.value.to row
   live_of row j = (market.sheet.live row).0 j
-
-  pub low_classes : Each (λ (f : GroupedFare). f.class ≤ 25) g.fares
-  low_classes = each_in (λ (x : FareGroup). Each (λ (f : GroupedFare). f.class ≤ 25) x.fares) m.groups g (classes_are_low m.sheet.value.rows m.groups market.groups
-      (each_from (λ (row : SheetRow). row.fare.class ≤ 25) m.sheet.value.rows (λ row j. (limited.fares row.fare.key row.fare (live_of row j).fare).1.class))) i
 
   pub rule_live : (row : SheetRow) → IsRowIn m.sheet.value.rows g row → live_rule b g.key.carrier g.key.number ≡ Some row.rule
   rule_live row r = subst (λ (k : GroupKey). live_rule b k.carrier k.number ≡ Some row.rule) r.key (live_of row r.within).rule

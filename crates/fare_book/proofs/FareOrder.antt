@@ -1,32 +1,15 @@
 -- Fares by their keys, as ordered maps compare them.
-use Rattle.std.proofs.Common.{◌≡◌, ◌&&◌, ℕ, Bool, true, cond, List, Option, Decides, refl, sym, ap, subst, ◌∙◌}
+use Rattle.std.proofs.Common.{◌≡◌, ◌&&◌, Bool, cond, List, Option, Decides, sym, ap, subst, ◌∙◌}
 use Rattle.std.specs.BTreeMap.{is_at}
 use Rattle.std.specs.Cmp.Lexicographic.{slice_cmp}
 use Rattle.std.specs.Map.{lookup}
-use Rattle.std.specs.Ordering.{MatchOrdering, is_eq, nat_cmp, ordering_then}
-use Rattle.std.specs.declared.cmp.Ordering.{Ordering}
-use Rattle.std.specs.declared.cmp.Ordering.TheVariants.{Less as Lower, Equal, Greater}
+use Rattle.std.specs.Ordering.{is_eq, nat_cmp, ordering_then}
 use Rattle.std.proofs.lemmas.Bool.Decides.{Decides-like, Decides-and, same_from_decides}
-use Rattle.std.proofs.lemmas.Cmp.{nat_list_cmp_total, tied_itself}
 use Rattle.fare_law.specs.contracts.fares.FareKeyOrd.TheImpl as fare_order
 use Rattle.fare_law.specs.declared.fares.FareKey.{FareKey}
 use Rattle.fare_law.specs.Book.{same_key}
-use Rattle.fare_law.specs.Lists.{Less}
 use Rattle.fare_book.proofs.SameKeys.{same_fares_tell}
-use Rattle.law_lemmas.proofs.Words.{words_told}
-
-words_tell : (v w : List ℕ) → Decides (is_eq (slice_cmp nat_cmp v w)) (v ≡ w)
-words_tell v w = (λ t. by (slice_cmp nat_cmp v w) (words_told v w) t, λ e. ap is_eq (ap (slice_cmp nat_cmp v) (sym e) ∙ tied_itself nat_list_cmp_total v))
-  where
-    by : (o : Ordering) → MatchOrdering o (Less v w) (v ≡ w) (Less w v) → is_eq o ≡ true → v ≡ w
-    by Lower k t = absurd (cc)
-    by Equal k t = k
-    by Greater k t = absurd (cc)
-
-then_eq : (o r : Ordering) → is_eq (ordering_then o r) ≡ (is_eq o && is_eq r)
-then_eq Lower r = refl
-then_eq Equal r = refl
-then_eq Greater r = refl
+use Rattle.seat_classes.proofs.SeatKeys.{then_eq, words_tell}
 
 whole : (a b : FareKey) → a.carrier.0 ≡ b.carrier.0 → a.from.0 ≡ b.from.0 → a.to.0 ≡ b.to.0 → a.basis.0 ≡ b.basis.0 → a ≡ b
 whole a b c f t s = λ i. record { carrier = record { 0 = c i }; from = record { 0 = f i }; to = record { 0 = t i }; basis = record { 0 = s i } }

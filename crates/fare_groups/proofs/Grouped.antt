@@ -1,15 +1,18 @@
--- Groups, as they grow row by row. Given on to the crates above.
-use Rattle.std.proofs.Common.{◌≡◌, ◌≢◌, ◌⊎◌, ℕ, zero, suc, ◌+◌, ◌<◌, List, [], ◌∷◌, ◌++◌, length, map, set, take, get_or, slice_get, Some, refl, sym, ap, ap₂, subst, ◌∙◌, inl, inr, arith}
-use Rattle.std.proofs.Math.Seq.{take-suc}
+-- Groups, as their fares are gathered row by row. Given on to the crates above.
+use Rattle.std.proofs.Common.{◌≡◌, ◌≢◌, ◌⊎◌, ℕ, zero, suc, ◌+◌, ◌<◌, ◌≤◌, List, [], ◌∷◌, ◌++◌, length, map, set, take, get_or, slice_get, Some, refl, sym, ap, ap₂, subst, ◌∙◌, inl, inr, arith}
 use Rattle.fare_groups.specs.declared.group.FareGroup.{FareGroup}
 use Rattle.fare_groups.specs.declared.group.GroupKey.{GroupKey}
 use Rattle.fare_groups.specs.declared.group.GroupedFare.{GroupedFare}
-use Rattle.fare_groups.specs.Grouping.{AreFares, AreGroups, HasGroup, IsGroup, Put, fare_at}
+use Rattle.fare_groups.specs.declared.rungs.Rung.{Rung}
+use Rattle.fare_groups.specs.Grouping.{AreFares, AreGathered, AreKeys, AreRungs, Put, Runged, empty_group, fare_at}
 use Rattle.fare_groups.specs.Groups.{group_of}
+use Rattle.fare_groups.proofs.Reordered.{of_mapped}
 use Rattle.fare_law.specs.declared.sheets.SheetRow.{SheetRow}
 use Rattle.fare_law.specs.Lists.{AllDifferent, Each, IsIn}
 use Rattle.law_lemmas.proofs.EachOne.{each_from, each_in}
-use Rattle.law_lemmas.proofs.Members.{in_either, in_left, in_right}
+use Rattle.law_lemmas.proofs.Lists.{front_length, front_read}
+use Rattle.law_lemmas.proofs.Members.{in_left, in_right, read_in}
+use Rattle.law_lemmas.proofs.Numbers.{none_plus}
 
 -- the fares of a group, with one row more
 fares_in : (key : GroupKey) (place : ℕ) (rows : List SheetRow) (row : SheetRow) (fares : List GroupedFare) → AreFares key place rows fares → group_of row ≡ key → AreFares key place (rows ++ row ∷ []) (fares ++ fare_at (place + length rows) row ∷ [])
@@ -39,10 +42,6 @@ fares_none : (key : GroupKey) (place : ℕ) (rows : List SheetRow) → ((row : S
 fares_none key place [] h = refl
 fares_none key place (r ∷ rows) h = inr (h r (inl refl), fares_none key (suc place) rows (λ x i. h x (inr i)))
 
-not_none : {X : Type 0} (xs : List X) (x : X) → xs ++ x ∷ [] ≢ []
-not_none [] x e = cc
-not_none (y ∷ xs) x e = cc
-
 -- a list at one of its places
 record Split (groups : List FareGroup) (at : ℕ) (g : FareGroup) : Type 0 where
   front : List FareGroup
@@ -66,6 +65,9 @@ each_keys : (key : GroupKey) (groups : List FareGroup) → Each (λ g. key ≢ g
 each_keys key [] h = tt
 each_keys key (g ∷ groups) h = (h.0, each_keys key groups h.1)
 
+pub key_in : (groups : List FareGroup) (key : GroupKey) → IsIn key (map (λ g. g.key) groups) → (g : FareGroup) × IsIn g groups × (g.key ≡ key)
+key_in groups key i = let r = of_mapped (λ (g : FareGroup). g.key) groups key i in (r.0, r.1, sym r.2)
+
 differ_from : (g : FareGroup) (front back : List FareGroup) → AllDifferent (map (λ g. g.key) (front ++ g ∷ back)) → (h : FareGroup) → IsIn h front ⊎ IsIn h back → h.key ≢ g.key
 differ_from g [] back d h (inl i) = absurd i
 differ_from g [] back d h (inr i) = λ e. each_in (λ x. g.key ≢ x.key) back h (keys_each g.key back d.0) i (sym e)
@@ -77,15 +79,6 @@ keys_same : (g h : FareGroup) (front back : List FareGroup) → g.key ≡ h.key 
 keys_same g h [] back e = ap (λ k. k ∷ map (λ g. g.key) back) e
 keys_same g h (x ∷ front) back e = ap (λ ks. x.key ∷ ks) (keys_same g h front back e)
 
-differ_last : (g : FareGroup) (groups : List FareGroup) → AllDifferent (map (λ g. g.key) groups) → Each (λ h. h.key ≢ g.key) groups → AllDifferent (map (λ g. g.key) (groups ++ g ∷ []))
-differ_last g [] d h = (tt, tt)
-differ_last g (x ∷ groups) d h = (each_keys x.key (groups ++ g ∷ []) (each_from (λ y. x.key ≢ y.key) (groups ++ g ∷ []) (λ y i. other y (in_either y groups (g ∷ []) i))), differ_last g groups d.1 h.1)
-  where
-    other : (y : FareGroup) → IsIn y groups ⊎ IsIn y (g ∷ []) → x.key ≢ y.key
-    other y (inl i) = each_in (λ z. x.key ≢ z.key) groups y (keys_each x.key groups d.0) i
-    other y (inr (inl e)) = λ k. h.0 (k ∙ ap (λ z. z.key) e)
-    other y (inr (inr n)) = absurd n
-
 in_mid : (x g h : FareGroup) (front back : List FareGroup) → IsIn x (front ++ g ∷ back) → (IsIn x front ⊎ IsIn x back) ⊎ (x ≡ g)
 in_mid x g h [] back (inl e) = inr e
 in_mid x g h [] back (inr i) = inl (inr i)
@@ -96,98 +89,103 @@ mid_in : (x g : FareGroup) (front back : List FareGroup) → IsIn x front ⊎ Is
 mid_in x g front back (inl i) = in_left x front (g ∷ back) i
 mid_in x g front back (inr i) = in_right x front (g ∷ back) (inr i)
 
--- a group of another key keeps its fares
-keeps : (rows : List SheetRow) (row : SheetRow) (g : FareGroup) → IsGroup rows g → g.key ≢ group_of row → IsGroup (rows ++ row ∷ []) g
-keeps rows row g h ne = record { fares = fares_out g.key 0 rows row g.fares h.fares (λ e. ne (sym e)); some = h.some }
+-- a group of another key keeps its fares, and that of the key has one more
+gains : (rows : List SheetRow) (row : SheetRow) (key : GroupKey) (fares : List GroupedFare) → AreFares key 0 rows fares → key ≡ group_of row → AreFares key 0 (rows ++ row ∷ []) (fares ++ fare_at (length rows) row ∷ [])
+gains rows row key fares h e = subst (λ n. AreFares key 0 (rows ++ row ∷ []) (fares ++ fare_at n row ∷ [])) (none_plus (length rows)) (fares_in key 0 rows row fares h (sym e))
 
--- the group of the key has one more
-gains : (rows : List SheetRow) (row : SheetRow) (g : FareGroup) → IsGroup rows g → g.key ≡ group_of row → IsGroup (rows ++ row ∷ []) (record { key = g.key; fares = g.fares ++ fare_at (length rows) row ∷ [] })
-gains rows row g h e = record { fares = subst (λ n. AreFares g.key 0 (rows ++ row ∷ []) (g.fares ++ fare_at n row ∷ [])) (none_plus (length rows)) (fares_in g.key 0 rows row g.fares h.fares (sym e)); some = not_none g.fares (fare_at (length rows) row) }
-  where
-    none_plus : (n : ℕ) → 0 + n ≡ n
-    none_plus n = omega arith
+module _ (keys : List GroupKey) (differ : AllDifferent keys) (rows : List SheetRow) (row : SheetRow) (old : List FareGroup) (h : AreGathered keys rows old) where
+  grown : (new : List FareGroup) (at : ℕ) (g : FareGroup) → slice_get old at ≡ Some g → g.key ≡ group_of row
+      → new ≡ set old at (record { key = g.key; fares = g.fares ++ fare_at (length rows) row ∷ []; rungs = g.rungs }) → AreGathered keys (rows ++ row ∷ []) new
+  grown new at g stands key_is is = subst (AreGathered keys (rows ++ row ∷ [])) (sym (is ∙ s.changed more)) (record {
+    keys_are = sym (keys_same g more s.front s.back refl) ∙ sym (ap (map (λ x. x.key)) s.whole) ∙ h.keys_are;
+    each = each_from (λ x. AreFares x.key 0 (rows ++ row ∷ []) x.fares) (s.front ++ more ∷ s.back) (λ x i. each_one x (in_mid x more g s.front s.back i));
+  })
+    where
+      s : Split old at g
+      s = split old at g stands
 
-put_new : (rows : List SheetRow) (row : SheetRow) (old new : List FareGroup) → AreGroups rows old → Each (λ g. g.key ≢ group_of row) old → new ≡ old ++ record { key = group_of row; fares = fare_at (length rows) row ∷ [] } ∷ [] → AreGroups (rows ++ row ∷ []) new
-put_new rows row old new h absent is = subst (AreGroups (rows ++ row ∷ [])) (sym is) (record {
-  each = each_from (IsGroup (rows ++ row ∷ [])) (old ++ g ∷ []) (λ x i. each_one x (in_either x old (g ∷ []) i));
-  apart = differ_last g old h.apart absent;
-  all = λ x i. found x (in_either x rows (row ∷ []) i);
-})
-  where
-    g : FareGroup
-    g = record { key = group_of row; fares = fare_at (length rows) row ∷ [] }
+      more : FareGroup
+      more = record { key = g.key; fares = g.fares ++ fare_at (length rows) row ∷ []; rungs = g.rungs }
 
-    none_plus : (n : ℕ) → 0 + n ≡ n
-    none_plus n = omega arith
+      each : Each (λ (x : FareGroup). AreFares x.key 0 rows x.fares) (s.front ++ g ∷ s.back)
+      each = subst (Each (λ x. AreFares x.key 0 rows x.fares)) s.whole h.each
 
-    other : (r : SheetRow) → IsIn r rows → group_of r ≢ group_of row
-    other r i e = let k = h.all r i in each_in (λ x. x.key ≢ group_of row) old k.0 absent k.1 (k.2 ∙ e)
+      apart : AllDifferent (map (λ x. x.key) (s.front ++ g ∷ s.back))
+      apart = subst AllDifferent (sym h.keys_are ∙ ap (map (λ x. x.key)) s.whole) differ
 
-    begun : IsGroup (rows ++ row ∷ []) g
-    begun = record { fares = subst (λ n. AreFares (group_of row) 0 (rows ++ row ∷ []) (fare_at n row ∷ [])) (none_plus (length rows)) (fares_in (group_of row) 0 rows row [] (fares_none (group_of row) 0 rows other) refl); some = λ e. cc }
+      each_one : (x : FareGroup) → (IsIn x s.front ⊎ IsIn x s.back) ⊎ (x ≡ more) → AreFares x.key 0 (rows ++ row ∷ []) x.fares
+      each_one x (inl i) = fares_out x.key 0 rows row x.fares (each_in (λ (y : FareGroup). AreFares y.key 0 rows y.fares) (s.front ++ g ∷ s.back) x each (mid_in x g s.front s.back i)) (λ e. differ_from g s.front s.back apart x i (sym e ∙ sym key_is))
+      each_one x (inr e) = subst (λ (y : FareGroup). AreFares y.key 0 (rows ++ row ∷ []) y.fares) (sym e) (gains rows row g.key g.fares (each_in (λ (y : FareGroup). AreFares y.key 0 rows y.fares) (s.front ++ g ∷ s.back) g each (in_right g s.front (g ∷ s.back) (inl refl))) key_is)
 
-    each_one : (x : FareGroup) → IsIn x old ⊎ IsIn x (g ∷ []) → IsGroup (rows ++ row ∷ []) x
-    each_one x (inl i) = keeps rows row x (each_in (IsGroup rows) old x h.each i) (each_in (λ y. y.key ≢ group_of row) old x absent i)
-    each_one x (inr (inl e)) = subst (IsGroup (rows ++ row ∷ [])) (sym e) begun
-    each_one x (inr (inr n)) = absurd n
+  put_more : IsIn (group_of row) keys → (new : List FareGroup) → Put (group_of row) (fare_at (length rows) row) old new → AreGathered keys (rows ++ row ∷ []) new
+  put_more i new (inl absent) = let k = key_in old (group_of row) (subst (IsIn (group_of row)) (sym h.keys_are) i) in absurd (each_in (λ (x : FareGroup). x.key ≢ group_of row) old k.0 absent k.1 k.2)
+  put_more i new (inr (at, g, stands, key_is, is)) = grown new at g stands key_is is
 
-    found : (x : SheetRow) → IsIn x rows ⊎ IsIn x (row ∷ []) → HasGroup (group_of x) (old ++ g ∷ [])
-    found x (inl i) = let k = h.all x i in (k.0, in_left k.0 old (g ∷ []) k.1, k.2)
-    found x (inr (inl e)) = (g, in_right g old (g ∷ []) (inl refl), ap group_of (sym e))
-    found x (inr (inr n)) = absurd n
+none_gathered : (keys : List GroupKey) → Each (λ g. AreFares g.key 0 [] g.fares) (map empty_group keys)
+none_gathered [] = tt
+none_gathered (key ∷ keys) = (refl, none_gathered keys)
 
-put_known : (rows : List SheetRow) (row : SheetRow) (old new : List FareGroup) (at : ℕ) (g : FareGroup) → AreGroups rows old → slice_get old at ≡ Some g → g.key ≡ group_of row → new ≡ set old at (record { key = g.key; fares = g.fares ++ fare_at (length rows) row ∷ [] }) → AreGroups (rows ++ row ∷ []) new
-put_known rows row old new at g h stands key_is is = subst (AreGroups (rows ++ row ∷ [])) (sym (is ∙ s.changed grown)) (record {
-  each = each_from (IsGroup (rows ++ row ∷ [])) (s.front ++ grown ∷ s.back) (λ x i. each_one x (in_mid x grown g s.front s.back i));
-  apart = subst AllDifferent (keys_same g grown s.front s.back refl) differ;
-  all = λ x i. found x (in_either x rows (row ∷ []) i);
-})
-  where
-    s : Split old at g
-    s = split old at g stands
+none_keys : (keys : List GroupKey) → map (λ (g : FareGroup). g.key) (map empty_group keys) ≡ keys
+none_keys [] = refl
+none_keys (key ∷ keys) = ap (λ ks. key ∷ ks) (none_keys keys)
 
-    grown : FareGroup
-    grown = record { key = g.key; fares = g.fares ++ fare_at (length rows) row ∷ [] }
-
-    each : Each (IsGroup rows) (s.front ++ g ∷ s.back)
-    each = subst (Each (IsGroup rows)) s.whole h.each
-
-    differ : AllDifferent (map (λ g. g.key) (s.front ++ g ∷ s.back))
-    differ = subst (λ gs. AllDifferent (map (λ g. g.key) gs)) s.whole h.apart
-
-    each_one : (x : FareGroup) → (IsIn x s.front ⊎ IsIn x s.back) ⊎ (x ≡ grown) → IsGroup (rows ++ row ∷ []) x
-    each_one x (inl i) = keeps rows row x (each_in (IsGroup rows) (s.front ++ g ∷ s.back) x each (mid_in x g s.front s.back i)) (λ e. differ_from g s.front s.back differ x i (e ∙ sym key_is))
-    each_one x (inr e) = subst (IsGroup (rows ++ row ∷ [])) (sym e) (gains rows row g (each_in (IsGroup rows) (s.front ++ g ∷ s.back) g each (in_right g s.front (g ∷ s.back) (inl refl))) key_is)
-
-    moved : (x : FareGroup) (k : GroupKey) → (IsIn x s.front ⊎ IsIn x s.back) ⊎ (x ≡ g) → x.key ≡ k → HasGroup k (s.front ++ grown ∷ s.back)
-    moved x k (inl i) e = (x, mid_in x grown s.front s.back i, e)
-    moved x k (inr same) e = (grown, in_right grown s.front (grown ∷ s.back) (inl refl), sym (ap (λ y. y.key) same) ∙ e)
-
-    found : (x : SheetRow) → IsIn x rows ⊎ IsIn x (row ∷ []) → HasGroup (group_of x) (s.front ++ grown ∷ s.back)
-    found x (inl i) = let k = h.all x i in moved k.0 (group_of x) (in_mid k.0 g g s.front s.back (subst (IsIn k.0) s.whole k.1)) k.2
-    found x (inr (inl e)) = (grown, in_right grown s.front (grown ∷ s.back) (inl refl), key_is ∙ ap group_of (sym e))
-    found x (inr (inr n)) = absurd n
-
-pub put_more : (rows : List SheetRow) (row : SheetRow) (old new : List FareGroup) → AreGroups rows old → Put (group_of row) (fare_at (length rows) row) old new → AreGroups (rows ++ row ∷ []) new
-put_more rows row old new h (inl p) = put_new rows row old new h p.0 p.1
-put_more rows row old new h (inr (at, g, stands, key_is, is)) = put_known rows row old new at g h stands key_is is
-
-pub groups_none : AreGroups [] []
-groups_none = record { each = tt; apart = tt; all = λ row i. absurd i }
+pub gathered_none : (keys : List GroupKey) (groups : List FareGroup) → groups ≡ map empty_group keys → AreGathered keys [] groups
+gathered_none keys groups e = subst (AreGathered keys []) (sym e) (record { keys_are = none_keys keys; each = none_gathered keys })
 
 -- row by row
-pub rows_more : (rows : List SheetRow) (i : ℕ) (d row : SheetRow) (key : GroupKey) (fare : GroupedFare) (old new : List FareGroup) → i < length rows → row ≡ get_or rows i d → key ≡ group_of row → fare ≡ fare_at i row
-    → AreGroups (take i rows) old → Put key fare old new → AreGroups (take (i + 1) rows) new
-rows_more rows i d row key fare old new lt is k f h p =
-    subst (λ rs. AreGroups rs new) (sym front) (put_more (take i rows) row old new h (subst (λ n. Put (group_of row) (fare_at n row) old new) (sym (length_take rows i lt)) (subst (λ x. Put (group_of row) x old new) f (subst (λ x. Put x fare old new) k p))))
+pub rows_more : (keys : List GroupKey) (rows : List SheetRow) (i : ℕ) (d row : SheetRow) (key : GroupKey) (fare : GroupedFare) (old new : List FareGroup) → AreKeys rows keys → i < length rows → row ≡ get_or rows i d → key ≡ group_of row → fare ≡ fare_at i row
+    → AreGathered keys (take i rows) old → Put key fare old new → AreGathered keys (take (i + 1) rows) new
+rows_more keys rows i d row key fare old new of lt is k f h p =
+    subst (λ rs. AreGathered keys rs new) (sym (front_read rows i d row lt is))
+    (put_more keys of.apart (take i rows) row old h (of.all row (read_in rows i d row lt is)) new
+    (subst (λ n. Put (group_of row) (fare_at n row) old new) (sym (front_length rows i lt)) (subst (λ x. Put (group_of row) x old new) f (subst (λ x. Put x fare old new) k p))))
+
+-- the cheapest of each class of one group are set
+pub rungs_kept : (keys : List GroupKey) (rows : List SheetRow) (at : ℕ) (rungs : List Rung) (old new : List FareGroup) → Runged at rungs old new → AreGathered keys rows old → AreGathered keys rows new
+rungs_kept keys rows at rungs old new r h = subst (AreGathered keys rows) (sym (r.now ∙ s.changed more)) (record {
+  keys_are = sym (keys_same r.group more s.front s.back refl) ∙ sym (ap (map (λ x. x.key)) s.whole) ∙ h.keys_are;
+  each = each_from (λ x. AreFares x.key 0 rows x.fares) (s.front ++ more ∷ s.back) (λ x i. each_one x (in_mid x more r.group s.front s.back i));
+})
   where
-    one : i + 1 ≡ suc i
-    one = omega arith
+    s : Split old at r.group
+    s = split old at r.group r.stands
 
-    front : take (i + 1) rows ≡ take i rows ++ row ∷ []
-    front = ap (λ n. take n rows) one ∙ take-suc rows i d lt ∙ ap (λ x. take i rows ++ x ∷ []) (sym is)
+    more : FareGroup
+    more = record { key = r.group.key; fares = r.group.fares; rungs = rungs }
 
-    length_take : (rs : List SheetRow) (n : ℕ) → n < length rs → length (take n rs) ≡ n
-    length_take [] n lt = absurd (omega arith)
-    length_take (r ∷ rs) zero lt = refl
-    length_take (r ∷ rs) (suc n) lt = ap suc (length_take rs n (omega arith))
+    each : Each (λ (x : FareGroup). AreFares x.key 0 rows x.fares) (s.front ++ r.group ∷ s.back)
+    each = subst (Each (λ x. AreFares x.key 0 rows x.fares)) s.whole h.each
+
+    each_one : (x : FareGroup) → (IsIn x s.front ⊎ IsIn x s.back) ⊎ (x ≡ more) → AreFares x.key 0 rows x.fares
+    each_one x (inl i) = each_in (λ (y : FareGroup). AreFares y.key 0 rows y.fares) (s.front ++ r.group ∷ s.back) x each (mid_in x r.group s.front s.back i)
+    each_one x (inr e) = subst (λ (y : FareGroup). AreFares y.key 0 rows y.fares) (sym e) (each_in (λ (y : FareGroup). AreFares y.key 0 rows y.fares) (s.front ++ r.group ∷ s.back) r.group each (in_right r.group s.front (r.group ∷ s.back) (inl refl)))
+
+pub low_kept : (at : ℕ) (rungs : List Rung) (old new : List FareGroup) → Runged at rungs old new → Each (λ g. Each (λ f. f.class ≤ 25) g.fares) old → Each (λ g. Each (λ f. f.class ≤ 25) g.fares) new
+low_kept at rungs old new r h = subst (Each (λ g. Each (λ f. f.class ≤ 25) g.fares)) (sym r.now) (low_set old at r.group r.stands h)
+  where
+    low_set : (xs : List FareGroup) (n : ℕ) (g : FareGroup) → slice_get xs n ≡ Some g → Each (λ x. Each (λ f. f.class ≤ 25) x.fares) xs → Each (λ x. Each (λ f. f.class ≤ 25) x.fares) (set xs n (record { key = g.key; fares = g.fares; rungs = rungs }))
+    low_set [] n g e k = absurd (cc)
+    low_set (x ∷ xs) zero g e k = let same : x ≡ g = cc in (subst (λ (y : FareGroup). Each (λ f. f.class ≤ 25) y.fares) same k.0, k.1)
+    low_set (x ∷ xs) (suc n) g e k = (k.0, low_set xs n g e k.1)
+
+pub rungs_long : (at : ℕ) (rungs : List Rung) (old new : List FareGroup) → Runged at rungs old new → length new ≡ length old
+rungs_long at rungs old new r = ap length r.now ∙ set_long old at
+  where
+    set_long : (xs : List FareGroup) (n : ℕ) → length (set xs n (record { key = r.group.key; fares = r.group.fares; rungs = rungs })) ≡ length xs
+    set_long [] n = refl
+    set_long (x ∷ xs) zero = refl
+    set_long (x ∷ xs) (suc n) = ap suc (set_long xs n)
+
+-- group by group
+pub rungs_more : (at : ℕ) (rungs : List Rung) (old new : List FareGroup) (r : Runged at rungs old new) → AreRungs r.group.fares rungs → Each (λ g. AreRungs g.fares g.rungs) (take at old) → Each (λ g. AreRungs g.fares g.rungs) (take (at + 1) new)
+rungs_more at rungs old new r own h = subst (λ xs. Each (λ (g : FareGroup). AreRungs g.fares g.rungs) (take (at + 1) xs)) (sym r.now) (set_front old at r.stands h)
+  where
+    more : FareGroup
+    more = record { key = r.group.key; fares = r.group.fares; rungs = rungs }
+
+    set_front : (xs : List FareGroup) (n : ℕ) → slice_get xs n ≡ Some r.group → Each (λ g. AreRungs g.fares g.rungs) (take n xs) → Each (λ g. AreRungs g.fares g.rungs) (take (n + 1) (set xs n more))
+    set_front [] n e k = absurd (cc)
+    set_front (x ∷ xs) zero e k = (own, tt)
+    set_front (x ∷ xs) (suc n) e k =
+        let next : suc (n + 1) ≡ suc n + 1 = omega arith in
+        subst (λ m. Each (λ (g : FareGroup). AreRungs g.fares g.rungs) (take m (x ∷ set xs n more))) next (k.0, set_front xs n e k.1)

@@ -1,9 +1,9 @@
--- Each row stands in one group. Given on to the crates above.
+-- Each row stands in one group, and what a group has. Given on to the crates above.
 use Rattle.std.proofs.Common.{◌≡◌, ◌≢◌, ℕ, zero, suc, ◌+◌, ◌≤◌, List, [], ◌∷◌, map, slice_get, Some, refl, sym, ap, subst, ◌∙◌, inl, inr, arith}
 use Rattle.fare_groups.specs.declared.group.FareGroup.{FareGroup}
 use Rattle.fare_groups.specs.declared.group.GroupKey.{GroupKey}
 use Rattle.fare_groups.specs.declared.group.GroupedFare.{GroupedFare}
-use Rattle.fare_groups.specs.Grouping.{AreFares, ClassesAreLow, EachStandsOnce, FaresAreRows, AreGroups, HasRows, IsGroup, fare_at}
+use Rattle.fare_groups.specs.Grouping.{AreFares, AreRungs, ClassesAreLow, EachStandsOnce, FaresAreRows, AreGroups, HasRows, IsGroup, fare_at}
 use Rattle.fare_groups.specs.Groups.{group_of}
 use Rattle.fare_groups.proofs.Grouped.{keys_each}
 use Rattle.fare_law.specs.declared.sheets.SheetRow.{SheetRow}
@@ -39,7 +39,7 @@ row_of key place (r ∷ rows) fares f (inl (k, (more, is, rest))) i = elim (subs
 row_of key place (r ∷ rows) fares f (inr (k, rest)) i = next_row key place r rows f (row_of key (suc place) rows fares f rest i)
 
 -- and each row of the key has one
-fare_of_row : (key : GroupKey) (place : ℕ) (rows : List SheetRow) (fares : List GroupedFare) (n : ℕ) (row : SheetRow) → AreFares key place rows fares → slice_get rows n ≡ Some row → group_of row ≡ key → IsIn (fare_at (place + n) row) fares
+pub fare_of_row : (key : GroupKey) (place : ℕ) (rows : List SheetRow) (fares : List GroupedFare) (n : ℕ) (row : SheetRow) → AreFares key place rows fares → slice_get rows n ≡ Some row → group_of row ≡ key → IsIn (fare_at (place + n) row) fares
 fare_of_row key place [] fares n row h e k = cc
 fare_of_row key place (r ∷ rows) fares zero row (inl (a, (more, is, rest))) e k =
     let same : row ≡ r = cc in
@@ -50,6 +50,12 @@ fare_of_row key place (r ∷ rows) fares zero row (inr (a, rest)) e k =
     let same : r ≡ row = cc in
     absurd (a (ap group_of same ∙ k))
 fare_of_row key place (r ∷ rows) fares (suc n) row (inr (a, rest)) e k = subst (λ m. IsIn (fare_at m row) fares) (later place n) (fare_of_row key (suc place) rows fares n row rest e k)
+
+-- the classes of fares are those of their rows
+pub low_fares : (key : GroupKey) (place : ℕ) (rows : List SheetRow) (fares : List GroupedFare) → Each (λ (row : SheetRow). row.fare.class ≤ 25) rows → AreFares key place rows fares → Each (λ (f : GroupedFare). f.class ≤ 25) fares
+low_fares key place [] fares low h = subst (Each (λ (f : GroupedFare). f.class ≤ 25)) (sym h) tt
+low_fares key place (r ∷ rows) fares low (inl (k, (more, is, rest))) = subst (Each (λ (f : GroupedFare). f.class ≤ 25)) (sym is) (low.0, low_fares key (suc place) rows more low.1 rest)
+low_fares key place (r ∷ rows) fares low (inr (k, rest)) = low_fares key (suc place) rows fares low.1 rest
 
 -- groups of one key are one
 one_of_key : (groups : List FareGroup) (g h : FareGroup) → AllDifferent (map (λ g. g.key) groups) → IsIn g groups → IsIn h groups → g.key ≡ h.key → g ≡ h
@@ -76,6 +82,10 @@ group_rows rows groups h g i = record {
   some = (each_in (IsGroup rows) groups g h.each i).some;
   are = λ f j. let x = fares_are_rows rows groups h g i f j in (x.row, x.stands, x.key_is);
 }
+
+-- and the cheapest of its classes
+pub group_rungs : (rows : List SheetRow) (groups : List FareGroup) → AreGroups rows groups → (g : FareGroup) → IsIn g groups → AreRungs g.fares g.rungs
+group_rungs rows groups h g i = (each_in (IsGroup rows) groups g h.each i).rungs
 
 pub each_stands_once : EachStandsOnce
 each_stands_once rows groups h place row stands =

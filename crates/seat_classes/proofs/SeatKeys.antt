@@ -1,34 +1,71 @@
--- Tests of seat keys: the derived one and the law's both tell whether two keys are equal.
-use Rattle.std.proofs.Common.{◌≡◌, ℤ, Option, Some, None, Decides, refl, ap, sym}
+-- Seat keys, compared and tested: each tells whether two keys are equal. What comparisons tell is given on to the crates above.
+use Rattle.std.proofs.Common.{◌≡◌, ◌&&◌, ℕ, ℤ, true, List, Option, Some, None, Decides, refl, ap, sym, subst, ◌∙◌}
 use Rattle.std.specs.Cmp.{IsEquivalence}
-use Rattle.std.specs.Cmp.Lexicographic.{bytes_decides}
-use Rattle.std.specs.Option.{option_eq}
-use Rattle.std.specs.Ordering.{int_eq}
-use Rattle.std.proofs.lemmas.Bool.Decides.{Decides-like, Decides-and, Decides-eqb, Decides-int_eq, same_from_decides}
-use Rattle.fare_law.specs.contracts.filings.SeatKeyPartialEq.TheImpl as seat
+use Rattle.std.specs.Cmp.Lexicographic.{slice_cmp}
+use Rattle.std.specs.Option.{option_cmp}
+use Rattle.std.specs.Ordering.{MatchOrdering, int_cmp, is_eq, nat_cmp, ordering_then}
+use Rattle.std.specs.declared.cmp.Ordering.{Ordering}
+use Rattle.std.specs.declared.cmp.Ordering.TheVariants.{Less as Lower, Equal, Greater}
+use Rattle.std.proofs.lemmas.Bool.Decides.{Decides-like, Decides-and, same_from_decides}
+use Rattle.std.proofs.lemmas.Cmp.{int_cmp_total, int_ranked, nat_cmp_total, nat_list_cmp_total, ranked, tied_itself}
+use Rattle.seat_classes.specs.contracts.row_name.RowNameOrd.TheImpl as name
 use Rattle.fare_law.specs.declared.filings.SeatKey.{SeatKey}
 use Rattle.fare_law.specs.Book.{same_seat_key}
 use Rattle.law_lemmas.proofs.Names.{carrier_whole, place_whole, same_seats_tell, seat_key_whole}
+use Rattle.law_lemmas.proofs.Words.{words_told}
 
--- the derived test of days
-days_tell : (a b : Option ℤ) → Decides (option_eq int_eq a b) (a ≡ b)
+-- ---- what an answer of equal tells
+told_equal : (A B C : Type 0) (o : Ordering) → MatchOrdering o A B C → is_eq o ≡ true → B
+told_equal A B C Lower k t = absurd (cc)
+told_equal A B C Equal k t = k
+told_equal A B C Greater k t = absurd (cc)
+
+pub words_tell : (v w : List ℕ) → Decides (is_eq (slice_cmp nat_cmp v w)) (v ≡ w)
+words_tell v w = (told_equal _ _ _ (slice_cmp nat_cmp v w) (words_told v w), λ e. ap is_eq (ap (slice_cmp nat_cmp v) (sym e) ∙ tied_itself nat_list_cmp_total v))
+
+pub numbers_tell : (m n : ℕ) → Decides (is_eq (nat_cmp m n)) (m ≡ n)
+numbers_tell m n = (told_equal _ _ _ (nat_cmp m n) (ranked m n (nat_cmp m n) refl), λ e. ap is_eq (ap (nat_cmp m) (sym e) ∙ tied_itself nat_cmp_total m))
+
+ints_tell : (m n : ℤ) → Decides (is_eq (int_cmp m n)) (m ≡ n)
+ints_tell m n = (told_equal _ _ _ (int_cmp m n) (int_ranked m n (int_cmp m n) refl), λ e. ap is_eq (ap (int_cmp m) (sym e) ∙ tied_itself int_cmp_total m))
+
+days_tell : (a b : Option ℤ) → Decides (is_eq (option_cmp int_cmp a b)) (a ≡ b)
 days_tell None None = (λ _. refl, λ _. refl)
 days_tell None (Some y) = (λ h. absurd (cc), λ h. absurd (cc))
 days_tell (Some x) None = (λ h. absurd (cc), λ h. absurd (cc))
-days_tell (Some x) (Some y) = Decides-like _ (λ e. ap Some e) one (Decides-int_eq x y)
+days_tell (Some x) (Some y) = Decides-like _ (λ e. ap Some e) one (ints_tell x y)
   where
     one : Some x ≡ Some y → x ≡ y
     one e = cc
 
-keys_tell : (a b : SeatKey) → Decides (seat.ghosts.eq a b) (a ≡ b)
-keys_tell a b =
-    Decides-like _ (λ e. seat_key_whole a b (carrier_whole _ _ e.0) e.1.0 (place_whole _ _ e.1.1.0) e.1.1.1)
-    (λ e. (ap (λ x. x.carrier.0) e, (ap (λ x. x.number) e, (ap (λ x. x.from.0) e, ap (λ x. x.day) e))))
-    (Decides-and _ _ (bytes_decides a.carrier.0 b.carrier.0) (Decides-and _ _ (Decides-eqb a.number b.number) (Decides-and _ _ (bytes_decides a.from.0 b.from.0) (days_tell a.day b.day))))
+pub then_eq : (o r : Ordering) → is_eq (ordering_then o r) ≡ (is_eq o && is_eq r)
+then_eq Lower r = refl
+then_eq Equal r = refl
+then_eq Greater r = refl
 
--- the derived test is the law's
-pub tests_agree : seat.ghosts.eq ≡ same_seat_key
-tests_agree = λ i a b. same_from_decides (seat.ghosts.eq a b) (same_seat_key a b) (keys_tell a b) (same_seats_tell a b) i
+-- ---- keys
+keys_tell : (a b : SeatKey) → Decides (is_eq (name.ghosts.cmp a b)) (a ≡ b)
+keys_tell a b =
+    let c = slice_cmp nat_cmp a.carrier.0 b.carrier.0 in
+    let n = nat_cmp a.number b.number in
+    let f = slice_cmp nat_cmp a.from.0 b.from.0 in
+    let d = option_cmp int_cmp a.day b.day in
+    let parts : is_eq (ordering_then c (ordering_then n (ordering_then f d))) ≡ (is_eq c && (is_eq n && (is_eq f && is_eq d))) =
+    then_eq c (ordering_then n (ordering_then f d)) ∙ ap (λ x. is_eq c && x) (then_eq n (ordering_then f d) ∙ ap (λ x. is_eq n && x) (then_eq f d)) in
+    subst (λ x. Decides x (a ≡ b)) (sym parts)
+    (Decides-like _ (λ e. seat_key_whole a b (carrier_whole _ _ e.0) e.1.0 (place_whole _ _ e.1.1.0) e.1.1.1) (λ e. (ap (λ x. x.carrier.0) e, (ap (λ x. x.number) e, (ap (λ x. x.from.0) e, ap (λ x. x.day) e))))
+    (Decides-and _ _ (words_tell a.carrier.0 b.carrier.0) (Decides-and _ _ (numbers_tell a.number b.number) (Decides-and _ _ (words_tell a.from.0 b.from.0) (days_tell a.day b.day)))))
+
+-- comparing as equal is the law's test
+pub keys_compared : (λ (a b : SeatKey). is_eq (name.ghosts.cmp a b)) ≡ same_seat_key
+keys_compared = λ i a b. same_from_decides (is_eq (name.ghosts.cmp a b)) (same_seat_key a b) (keys_tell a b) (same_seats_tell a b) i
+
+-- a key that compares as lower than another is not the other
+pub lower_differs : (a b : SeatKey) → name.ghosts.cmp a b ≡ Lower → a ≡ b → ⊥
+lower_differs a b l e = clash (sym (ap is_eq l) ∙ (keys_tell a b).1 e)
+  where
+    clash : is_eq Lower ≡ true → ⊥
+    clash h = cc
 
 pub same_flips : (a b : SeatKey) → same_seat_key a b ≡ same_seat_key b a
 same_flips a b = same_from_decides (same_seat_key a b) (same_seat_key b a) (same_seats_tell a b) (Decides-like _ (λ e. sym e) (λ e. sym e) (same_seats_tell b a))

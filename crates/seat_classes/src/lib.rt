@@ -6,6 +6,7 @@
 mod faults;
 mod keys;
 mod laws;
+mod row_name;
 mod seats;
 
 pub use faults::{SeatFault, SeatPut};

@@ -7,18 +7,19 @@ ghost use Rattle.seat_classes.specs.Held.{Changes, Counts, HasNoRoom, seats_at, 
 ghost use Rattle.seat_classes.specs.Given.{HasCause, rows_have};
 
 use crate::keys::{daily_key, dated_key, row_key};
+use crate::row_name::RowName;
 use crate::{SeatFault, SeatPut};
 use fare_law::{Class, Flight, MOST_SEAT_ROWS, SeatKey, SeatRow};
 use lane_mask::at_least;
 use std::alloc::{AllocError, Global};
-use std::collections::HashMap;
+use std::collections::BTreeMap;
 use std::marker::Model;
 
 /// Seat rows, found by carrier, number, origin and day. Contracts see each key that has a row, once,
-/// with its seats, in no certain order. There are at most `MOST_SEAT_ROWS`.
+/// with its seats. There are at most `MOST_SEAT_ROWS`. A tree, since keys of a case can be made to meet in a table with a hash.
 #[derive(Drop)]
 pub struct Seats {
-    rows: HashMap<SeatKey, [u8; 32]>,
+    rows: BTreeMap<RowName, [u8; 32]>,
 }
 
 impl Model for Seats {
@@ -42,9 +43,9 @@ impl Seats {
         ensures differ { OnOk result (AllDifferent (map row_key rows.now)) }
         ensures fault { IfErr result (HasCause rows.now) }
     {
-        let mut seats = HashMap::with_capacity(alloc, rows.len())?;
+        let mut seats = BTreeMap::new(alloc);
         for row in rows {
-            let earlier = seats.insert(row_key(row), row.seats)?;
+            let earlier = seats.insert(RowName::of(&row_key(row)), row.seats)?;
             if earlier.is_some() {
                 return Err(SeatFault::Twice { line: row.line });
             }
@@ -67,7 +68,7 @@ impl Seats {
     fn row(&self, key: &SeatKey) -> Option<[u8; 32]>
         ensures { result ≡ seats_at self.now key.now }
     {
-        self.rows.get(key).copied()
+        self.rows.get(&RowName::of(key)).copied()
     }
 
     /// The classes with seats for a party: bit c is set exactly where class c has at least `party`.
@@ -102,10 +103,11 @@ impl Seats {
         ensures full { IsErrOf result SeatPut.Full ↔ HasNoRoom self.old key.now }
         ensures same { OnErr result (self.new ≡ self.old) }
     {
-        if self.rows.len() == MOST_SEAT_ROWS && !self.rows.contains_key(key) {
+        let name = RowName::of(key);
+        if self.rows.len() == MOST_SEAT_ROWS && !self.rows.contains_key(&name) {
             return Err(SeatPut::Full);
         }
-        self.rows.insert(*key, *seats)?;
+        self.rows.insert(name, *seats)?;
         Ok(())
     }
 
@@ -115,7 +117,7 @@ impl Seats {
         ensures row { Changes self.old self.new key.now None }
         ensures same { OnFalse result (self.new ≡ self.old) }
     {
-        self.rows.remove(key).is_some()
+        self.rows.remove(&RowName::of(key)).is_some()
     }
 }
 

@@ -1,5 +1,5 @@
 use Rattle.std.proofs.Common.{◌≡◌, ◌∙◌, ◌≤◌, All, not, length, ap, subst, sym}
-use Rattle.asked_keys.proofs.OfferedFacts.{cheapest_none, low_classes, none_first, none_open, none_permitted, none_when, rule_within}
+use Rattle.asked_keys.proofs.OfferedFacts.{cheapest_none, none_first, none_open, none_permitted, none_when, rule_within}
 use Rattle.fare_groups.specs.Grouping.{HasRows, IsRowIn}
 use Rattle.fare_groups.specs.Groups.{Permits}
 use Rattle.fare_groups.proofs.OneGroup.{group_rows}
@@ -20,7 +20,7 @@ returns-then-not-is c = λ _.
     (subst (OnFirst (λ x. f ≡ x)) c.as_slice-flights.ensures.items c.first_of.ensures.first) (λ e. true_false (c.is.ensures.1 e) c.if-not-is.true)
 
 pub cheapest-requires : goal.cheapest-requires
-cheapest-requires c = low_classes c.args.book.now c.args.way.now.flights c.args.way.now.legs c.args.market.now c.args.group.now c.requires.market c.requires.limited c.requires.group
+cheapest-requires c = let m = c.args.market.now in group_rungs m.sheet.value.rows m.groups c.requires.market.groups c.args.group.now c.requires.group
 
 pub returns-then-is_none : goal.returns-then-is_none
 returns-then-is_none c = λ _.

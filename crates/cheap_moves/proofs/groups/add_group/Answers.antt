@@ -1,26 +1,19 @@
 use Rattle.std.proofs.Common.{◌≡◌, ◌≤◌, rules, length, ap, sym, subst, ◌∙◌}
 use Rattle.cheap_moves.specs.Within.{IsWithin}
-use Rattle.cheap_moves.proofs.FareMoves.{class_low}
 use Rattle.cheap_moves.proofs.GroupMoves.{component_is, group_done, none_cheap, none_open, none_permitted, rule_within}
-use Rattle.fare_groups.specs.declared.group.GroupedFare.{GroupedFare}
 use Rattle.fare_groups.specs.Grouping.{HasRows, IsRowIn}
 use Rattle.fare_groups.specs.Groups.{Permits, extra_of}
-use Rattle.fare_groups.proofs.OneGroup.{group_rows}
+use Rattle.fare_groups.proofs.OneGroup.{group_rows, group_rungs}
 use Rattle.fare_law.specs.Parts.{stopover_charge, surcharges}
 use Rattle.fare_law.specs.RuleLimits.{IsRule}
 use Rattle.fare_law.specs.Sheets.{Sheet}
-use Rattle.law_lemmas.proofs.EachOne.{each_from}
 use Rattle.law_lemmas.proofs.LawFacts.{low_sum}
 use Rattle.law_lemmas.proofs.Tests.{true_false}
 use Rattle.residual_keys.specs.Gathered.{IsReadOver}
 use Rattle.cheap_moves.proofs.groups.add_group.Goals as goal
 
 pub cheapest-requires : goal.cheapest-requires
-cheapest-requires g c =
-    let flown = c.args.flown.now in
-    let m = c.args.market.now in
-    each_from (λ (f : GroupedFare). f.class ≤ 25) c.args.group.now.fares
-    (class_low c.args.search.now.book.now c.args.search.now.request.now c.args.search.now.residual.now.at flown.way.path flown.way.flights flown.way.legs flown.classes c.args.reverse m.sheet.value m.groups c.requires.over.over c.args.group.now c.requires.group)
+cheapest-requires g c = let m = c.args.market.now in group_rungs m.sheet.value.rows m.groups c.requires.over.over.groups_are c.args.group.now c.requires.group
 
 pub returns-in_default : goal.returns-in_default
 returns-in_default g c =

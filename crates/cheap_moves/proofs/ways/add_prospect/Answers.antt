@@ -1,12 +1,15 @@
 use Rattle.std.proofs.Common.{◌≡◌, ◌≢◌, MatchOption, rules, refl, sym, ap, subst, ◌∙◌}
 use Rattle.cheap_moves.proofs.ProspectMoves.{prospect_had, prospect_none}
 use Rattle.fare_groups.specs.declared.group.FareGroup.{FareGroup}
-use Rattle.fare_groups.specs.Grouping.{HasKeyAt}
+use Rattle.fare_groups.specs.Grouping.{AreInOrder, HasKeyAt}
 use Rattle.fare_law.specs.Lists.{Each, IsIn}
 use Rattle.law_lemmas.proofs.Lists.{got_same}
 use Rattle.law_lemmas.proofs.Members.{got_in}
 use Rattle.law_lemmas.proofs.Options.{on_ok}
 use Rattle.cheap_moves.proofs.ways.add_prospect.Goals as goal
+
+pub place_of-requires : goal.place_of-requires
+place_of-requires g c = subst AreInOrder (sym c.as_slice-groups.ensures) c.requires.over.over.groups_are.in_order
 
 pub add_group-requires-clause-group : goal.add_group-requires-clause-group
 add_group-requires-clause-group g c =

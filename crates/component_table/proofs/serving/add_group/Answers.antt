@@ -4,13 +4,14 @@ use Rattle.component_table.specs.Blocks.{outline_of}
 use Rattle.component_table.specs.Classes.{class_landed}
 use Rattle.component_table.specs.Tables.{flown_on}
 use Rattle.component_table.proofs.BlockFacts.{block_outline, class_outline}
-use Rattle.component_table.proofs.GroupFacts.{group_below, had_settled, low_classes, none_cheap, none_settled, share_alone}
+use Rattle.component_table.proofs.GroupFacts.{group_below, had_settled, none_cheap, none_settled, share_alone}
 use Rattle.component_table.proofs.SettledFacts.{class_leads, numbered_over}
 use Rattle.fare_groups.specs.Groups.{extra_of}
+use Rattle.fare_groups.proofs.OneGroup.{group_rungs}
 use Rattle.component_table.proofs.serving.add_group.Goals as goal
 
 pub cheapest-requires : goal.cheapest-requires
-cheapest-requires c = low_classes c.args.origin.now.book.now c.args.serving.now.market.now c.args.slotted.now.group.now c.requires.market c.limits.ensures c.requires.group
+cheapest-requires c = let m = c.args.serving.now.market.now in group_rungs m.sheet.value.rows m.groups c.requires.market.groups c.args.slotted.now.group.now c.requires.group
 
 pub returns-in_default-clause-settled : goal.returns-in_default-clause-settled
 returns-in_default-clause-settled c = λ all. none_settled c.args.origin.now.book.now (class_landed c.args.placed.now.path.now) c.args.serving.now.reverse c.args.slotted.now.group.now c.args.table.now.entries.items c.in_default.ensures

@@ -17,7 +17,7 @@ returns-then-is_some-clause-fault c =
     let i = c.loop-row.row-index in
     let row : SeatRow = get_or rows i no_row in
     let held = c.loop-row.seats.entries in
-    let old : c.in_ok-earlier.earlier ≡ seats_at held (row_key row) = c.in_ok-earlier.ensures.old ∙ found_is held c.row_key.result ∙ ap (seats_at held) c.row_key.ensures in
+    let old : c.in_ok-earlier.earlier ≡ seats_at held (row_key row) = c.in_ok-earlier.ensures.old ∙ found_is held c.of.result ∙ ap (seats_at held) (c.of.ensures ∙ c.row_key.ensures) in
     first_repeat rows i no_row row c.loop-row-test.true refl held c.loop-row.invariant.holds c.in_ok-earlier.earlier old (sym c.is_some.ensures ∙ c.if-is_some.true)
 
 pub loop-row-preserved : goal.loop-row-preserved
@@ -30,9 +30,9 @@ loop-row-preserved c =
     let new = c.insert.new.self.entries in
     let none : c.in_ok-earlier.earlier ≡ None = none_told c.in_ok-earlier.earlier (sym c.is_some.ensures ∙ c.if-is_some.false) in
     let absent : seats_at held (row_key row) ≡ None =
-    ap (seats_at held) (sym c.row_key.ensures) ∙ sym (found_is held c.row_key.result) ∙ sym c.in_ok-earlier.ensures.old ∙ none in
+    ap (seats_at held) (sym (c.of.ensures ∙ c.row_key.ensures)) ∙ sym (found_is held c.of.result) ∙ sym c.in_ok-earlier.ensures.old ∙ none in
     let changes : Changes held new (row_key row) (Some row.seats) =
-    subst (λ k. Changes held new k (Some row.seats)) c.row_key.ensures (changes_from held new c.row_key.result (Some row.seats) c.in_ok-earlier.ensures.updates.0) in
+    subst (λ k. Changes held new k (Some row.seats)) (c.of.ensures ∙ c.row_key.ensures) (changes_from held new c.of.result (Some row.seats) c.in_ok-earlier.ensures.updates.0) in
     record {
       holds = holds_more rows i no_row row c.loop-row-test.true refl held c.loop-row.invariant.holds new changes absent;
       many = grind (arith, none, c.in_ok-earlier.ensures.len, c.loop-row.invariant.many);
