@@ -2,7 +2,7 @@ use Rattle.std.proofs.Common.{◌≡◌, ◌∙◌, ◌≤◌, All, not, length,
 use Rattle.asked_keys.proofs.OfferedFacts.{cheapest_none, none_first, none_open, none_permitted, none_when, rule_within}
 use Rattle.fare_groups.specs.Grouping.{HasRows, IsRowIn}
 use Rattle.fare_groups.specs.Groups.{Permits}
-use Rattle.fare_groups.proofs.OneGroup.{group_rows}
+use Rattle.fare_groups.proofs.OneGroup.{group_rows, group_rungs}
 use Rattle.fare_law.specs.Limits.{IsFlight}
 use Rattle.fare_law.specs.Lists.{OnFirst}
 use Rattle.fare_law.specs.RuleLimits.{IsRule}
