@@ -12,4 +12,4 @@ pub use group::{FareGroup, GroupKey, GroupedFare, is_open};
 pub use grouping::{first_row, groups_of, place_of};
 pub use laws::{fares_by_group, one_rule, rows_stand_once};
 pub use permits::{classes_of_all, extra};
-pub use rungs::Rung;
+pub use rungs::{Rung, first_share};

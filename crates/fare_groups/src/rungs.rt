@@ -65,6 +65,7 @@ fn firsts_of(alloc: Global, all: &[Rung]) -> Result<List<Rung>, Mem>
 }
 
 /// The share of the first rung of one of these classes, bit c for class c.
+#[inline]
 pub fn first_share(rungs: &[Rung], classes: u32) -> Option<u64>
     ensures { result ≡ first_share rungs.now classes }
 {
