@@ -1,5 +1,5 @@
 -- The departures of a front: the least move that no answer takes decides them.
-use Rattle.std.proofs.Common.{◌≡◌, ◌≢◌, ◌⊎◌, ◌↔◌, ◌∙◌, ℕ, ◌+◌, List, [], ◌∷◌, ◌++◌, map, Option, Some, None, sym, refl, ap, subst, inl, inr, arith}
+use Rattle.std.proofs.Common.{◌≡◌, ◌≢◌, ◌⊎◌, ◌↔◌, ◌∙◌, ℕ, ◌+◌, ◌<◌, List, [], ◌∷◌, ◌++◌, map, Option, Some, None, sym, refl, ap, subst, inl, inr, arith}
 use Rattle.certificate.specs.BoundCheck.{state_after}
 use Rattle.certificate.specs.declared.parts.CertAnswer.{CertAnswer}
 use Rattle.certificate.specs.declared.parts.CertRow.{CertRow}
@@ -159,12 +159,12 @@ module _ (b : Book) (q : Request) (rows : List CertRow) (Bound : State → ℕ �
     not_taken : (m n : Move) → NoneTakes answers front m → n ≡ m → IsTaken answers front n → ⊥
     not_taken m n none e t = none t.0 t.2.0 t.1 (t.2.1 ∙ ap (λ z. front ++ z ∷ t.2.0) e)
 
-    pub all_taken : (n : ℕ) (ms : List (LeastMove State)) → CountsBeginning front answers n → KLeast (Counts b q Bound x) IsSooner (n + 1) ms → TakenByAny answers front ms → FrontHolds b q rows answers front
-    all_taken n ms c k t m least d =
+    pub all_taken : (n wanted : ℕ) (ms : List (LeastMove State)) → n < wanted → CountsBeginning front answers n → KLeast (Counts b q Bound x) IsSooner wanted ms → TakenByAny answers front ms → FrontHolds b q rows answers front
+    all_taken n wanted ms enough c k t m least d =
         let lm = counted m least d in
         let few = few_taken answers front n ms c (moves_differ x ms k.each k.ascending) t in
         let many = (k.rest lm.0 lm.1 (λ i. not_taken m lm.0.mv d.none_takes lm.2 (each_member (λ z. IsTaken answers front z.mv) lm.0 ms t i))).1 in
-        absurd (omega (arith, few, many))
+        absurd (omega (arith, few, many, enough))
 
     pub least_holds : (wanted : ℕ) (ms : List (LeastMove State)) (u : LeastMove State) → KLeast (Counts b q Bound x) IsSooner wanted ms → UntakenFirst answers front ms u
         → ComesAfter q answers (front ++ u.mv ∷ []) (price + u.total) → FrontHolds b q rows answers front

@@ -18,3 +18,4 @@ pub mod AllowedRows
 pub mod Looked
 pub mod Judged
 pub mod ByNumbers
+pub mod Drawn

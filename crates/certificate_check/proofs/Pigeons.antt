@@ -1,5 +1,5 @@
 -- Moves that are all taken after a front are no more than the answers that begin with it.
-use Rattle.std.proofs.Common.{◌≡◌, ◌≢◌, ◌∙◌, ℕ, suc, ◌≤◌, List, [], ◌∷◌, ◌++◌, length, map, sym, refl, ap, inl, inr, arith}
+use Rattle.std.proofs.Common.{◌≡◌, ◌∙◌, ℕ, suc, ◌≤◌, List, [], ◌∷◌, ◌++◌, length, map, sym, refl, ap, inl, inr, arith}
 use Rattle.certificate.specs.declared.parts.CertAnswer.{CertAnswer}
 use Rattle.certificate_check.specs.Fronts.{CountsBeginning, IsTaken, TakenByAny}
 use Rattle.fare_law.specs.declared.moves.Move.{Move}

@@ -5,9 +5,6 @@ use Rattle.std.proofs.lemmas.Bool.Decides.{Decides-like, Decides-and, Decides-eq
 use Rattle.fare_law.specs.contracts.moves.MovePartialEq.TheImpl as move
 use Rattle.fare_law.specs.contracts.moves.RolePartialEq.TheImpl as role
 use Rattle.fare_law.specs.contracts.names.BasisPartialEq.TheImpl as basis
-use Rattle.fare_law.specs.contracts.names.CarrierPartialEq.TheImpl as carrier
-use Rattle.fare_law.specs.contracts.names.PlacePartialEq.TheImpl as place
-use Rattle.fare_law.specs.contracts.requests.SlicePartialEq.TheImpl as slice
 use Rattle.fare_law.specs.declared.moves.Move.{Move}
 use Rattle.fare_law.specs.declared.moves.Role.{Role}
 use Rattle.fare_law.specs.declared.moves.Role.TheVariants.{Alone, Opens, GoesOn, Closes}

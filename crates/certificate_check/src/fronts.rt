@@ -1,6 +1,7 @@
 //! The departures of one front.
-ghost use Rattle.std.specs.Prelude.{◌≡◌, ◌↔◌, ◌++◌, ◌∷◌, ◌<◌, ◌+◌, [], IfOk, IsTrue, MatchBool, MatchOption, length, map};
+ghost use Rattle.std.specs.Prelude.{◌≡◌, ◌↔◌, ◌++◌, ◌∷◌, ◌<◌, ◌+◌, [], IfOk, IsTrue, MatchBool, MatchOption, OnOk, length, map};
 ghost use Rattle.certificate.specs.DepartureCheck.{ComesAfter, IsFront};
+ghost use Rattle.certificate_check.specs.Drawings.{AreDrawings};
 ghost use Rattle.certificate_check.specs.Fronts.{FrontFails, FrontHolds, LeadsTo, TakenByAny, UntakenFirst};
 ghost use Rattle.certificate_check.specs.Tables.{HasRows, IsLater};
 ghost use Rattle.fare_law.specs.Best.{Before};
@@ -9,6 +10,7 @@ ghost use Rattle.fare_law.specs.Limits.{IsRequest};
 ghost use Rattle.fare_law.specs.Lists.{AllDifferent};
 ghost use Rattle.fare_law.specs.declared.limits.TheConstants.{MOST_COMPONENTS};
 
+use crate::drawings::Drawings;
 use crate::table::Table;
 use crate::taking::{count_beginning, is_taken};
 use certificate::CertAnswer;
@@ -16,7 +18,6 @@ use fare_law::{ArrayVec, MOST_COMPONENTS, Mem, Move, Request};
 use residual_keys::{Residual, one_next};
 use residual_table::ResidualKey;
 use search_steps::{LeastMove, SearchSteps};
-use std::alloc::Global;
 use std::cmp::Ordering;
 use ticket_order::{cmp_key, code, order_laws};
 
@@ -30,28 +31,30 @@ pub struct Front<'c> {
 
 /// Whether each departure at a front comes after the last answer.
 pub fn front_holds(
-    alloc: Global,
     steps: &mut SearchSteps,
     table: &Table,
     answers: &[CertAnswer],
+    drawings: &mut Drawings,
     front: &Front,
 ) -> Result<bool, Mem>
     requires request { IsRequest steps.old.case.request.now }
     requires differ { AllDifferent (map (λ row. row.residual) table.now.rows.now) }
     requires table { HasRows steps.old table.now.bounds table.now.rows.now }
+    requires drawings { AreDrawings steps.old table.now.rows.now drawings.old.kept.items }
     requires short { length front.now.moves.now < MOST_COMPONENTS }
     requires front { IsFront answers.now front.now.moves.now }
     requires leads { LeadsTo steps.old.case.book.now steps.old.case.request.now front.now.moves.now front.now.residual front.now.price }
     ensures holds { IfOk result (λ holds. MatchBool holds (FrontHolds steps.old.case.book.now steps.old.case.request.now table.now.rows.now answers.now front.now.moves.now)
         (FrontFails steps.old.case.book.now steps.old.case.request.now table.now.rows.now answers.now front.now.moves.now)) }
+    ensures drawings { OnOk result (AreDrawings steps.new table.now.rows.now drawings.new.kept.items) }
     ensures later { IsLater steps.old steps.new }
 {
     order_laws();
     one_next();
     let key = steps.key_of(front.residual)?;
-    steps.keys_tell();
     let wanted = count_beginning(answers, front.moves) + 1;
-    let least = steps.least_moves(alloc, key, &table.bounds, wanted)?;
+    let place = drawings.find(steps, table, key, wanted)?;
+    let least = &drawings.kept[place].moves;
     match first_departing(answers, front.moves, least.as_slice()) {
         Some(departing) => Ok(comes_after(steps.case().request, answers, front, departing)),
         None => Ok(true),

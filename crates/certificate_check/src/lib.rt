@@ -8,6 +8,7 @@ mod bounding;
 mod bounds;
 mod checking;
 mod departing;
+mod drawings;
 mod fronts;
 mod places;
 mod requesting;

@@ -12,6 +12,7 @@ use Rattle.certificate_check.proofs.departing.answer_holds.Goals as goal
 pub loop-taken-init : goal.loop-taken-init
 loop-taken-init c = record {
   later = same_steps c.args.steps.now;
+  drawings = c.requires.drawings;
   leads = leads_root c.args.steps.now.case.book.now _ c.args.steps.now.case.request.now _ _ c.case-case.ensures.book c.case-case.ensures.request (let n = c.requires.request.count in omega (arith, n)) c.root-residual.ensures.root;
   small = omega arith;
   hold = λ n le lt. absurd (omega (arith, le, lt));
@@ -137,6 +138,7 @@ loop-taken-preserved c =
     let low = c.in-Some-move_price.ensures.low in
     let cost = c.from.ensures in record {
       later = later_still c.args.steps.now c.loop-taken.steps c.later_holds.new.steps invariant.later c.in_ok-later_holds.ensures.later;
+      drawings = c.in_ok-later_holds.ensures.drawings;
       leads =
           leads_on b cb b q cq q ms (taken - 1) (taken + 1 - 1) r y c.loop-taken.price c.from.result m c.case-case.ensures.book c.case-case.ensures.request refl refl (omega (arith, one)) lt c.index-moves-taken.is invariant.leads g;
       small = omega (arith, small, low, cost, one);

@@ -13,7 +13,7 @@ front_holds-requires-clause-leads c =
     leads_root c.args.steps.now.case.book.now _ c.args.steps.now.case.request.now _ _ c.case-case.ensures.book c.case-case.ensures.request (let n = c.requires.request.count in omega (arith, n)) c.root-residual.ensures.root
 
 pub loop-i-init : goal.loop-i-init
-loop-i-init c = record { later = c.in_ok-front_holds.ensures.later; hold = tt }
+loop-i-init c = record { later = c.in_ok-front_holds.ensures.later; drawings = c.in_ok-front_holds.ensures.drawings; hold = tt }
 
 pub returns-then-not-branch-2-clause-fails : goal.returns-then-not-branch-2-clause-fails
 returns-then-not-branch-2-clause-fails c =
@@ -42,6 +42,7 @@ loop-i-preserved c =
     let a = some_at answers i c.loop-i-test.true in
     let told = c.in_ok-answer_holds.ensures.holds a.0 (get_here answers i a.0 c.loop-i-test.true a.1) in record {
       later = later_still c.args.steps.now c.loop-i.steps c.answer_holds.new.steps invariant.later c.in_ok-answer_holds.ensures.later;
+      drawings = c.in_ok-answer_holds.ensures.drawings;
       hold = each_next (AnswerHolds b q rows answers) answers i a.0 c.loop-i-test.true a.1 invariant.hold (answer_true b _ q _ rows answers a.0 c.in_ok-answer_holds.field-0 invariant.later.case.book invariant.later.case.request so told);
     }
 
