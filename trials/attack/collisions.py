@@ -1,6 +1,6 @@
 """Keys that meet in the program's tables, worked out with the hashes as its sources have them: the kit's FoldHasher, whose seed is fixed, and
-the multiplicative hash of `Spots` in component_table. Where a hash is changed there, the attack that uses it does no more harm, and says
-nothing until it is changed here too."""
+a multiplicative hash that ends of paths had. Where a hash is changed there, the attack that uses it does no more harm, and says nothing
+until it is changed here too."""
 
 WORD = 2**64 - 1
 ODD = 0x9E3779B97F4A7C15
@@ -56,6 +56,6 @@ def groups_for(count):
 
 
 def end_digits(place, carrier):
-    """The digits by which `Spots` finds the end of a path, of its place and the carrier of its first flight."""
+    """The digits by which a hash by one multiplication finds the end of a path, of its place and the carrier of its first flight."""
     letters = int.from_bytes((place + carrier).encode(), "little")
     return (letters * ODD & WORD) >> 32

@@ -1,8 +1,8 @@
 -- Where no group of a market has an offered fare, no key of the flights and the market's sheet has an offer.
 use Rattle.std.proofs.Common.{◌≡◌, ◌≢◌, ◌⊎◌, ◌↔◌, ℕ, ◌+◌, ◌<◌, ◌≤◌, Bool, true, false, List, [], ◌∷◌, length, take, get_or, All, IsBitSet, slice_get, Option, Some, None, is_some, IfNone, MatchOption, MatchBool, sym, ap, subst, ◌∙◌, inl, inr, arith}
 use Rattle.std.proofs.lemmas.List.Elements.{All-head}
-use Rattle.component_table.specs.declared.markets.Market.{Market}
-use Rattle.component_table.specs.Markets.{IsMarket}
+use Rattle.fare_ends.specs.declared.markets.Market.{Market}
+use Rattle.fare_ends.specs.Markets.{IsMarket}
 use Rattle.fare_book.specs.Keeping.{Limited}
 use Rattle.fare_groups.specs.declared.group.FareGroup.{FareGroup}
 use Rattle.fare_groups.specs.declared.group.GroupedFare.{GroupedFare}

@@ -1,6 +1,6 @@
 -- The paths that end where fares are filed: no other has a key.
 use Rattle.std.proofs.Common.{◌≡◌, ◌≢◌, ◌⊎◌, ℕ, ◌<◌, Bool, true, false, List, [], ◌∷◌, length, get_or, Option, Some, refl, sym, subst, inl, inr}
-use Rattle.component_table.specs.Tails.{HasNoFares}
+use Rattle.fare_ends.specs.Reaches.{HasNoFares}
 use Rattle.fare_book.specs.Keeping.{NoFare}
 use Rattle.fare_law.specs.declared.flights.Flight.{Flight}
 use Rattle.fare_law.specs.declared.market.OfferKey.{OfferKey}

@@ -1,6 +1,6 @@
 -- The paths that end where fares are filed, and flights on which no fare is offered.
 use Rattle.std.specs.Prelude.{◌≡◌, ◌⊎◌, ℕ, List, slice_get, Some}
-use Rattle.component_table.specs.Tails.{HasNoFares}
+use Rattle.fare_ends.specs.Reaches.{HasNoFares}
 use Rattle.fare_component.specs.Keys.{asked}
 use Rattle.fare_component.specs.Offers.{HasNoOffers}
 use Rattle.fare_groups.specs.declared.group.FareGroup.{FareGroup}

@@ -1,7 +1,7 @@
 //! Whether fares of a market may be offered on the flights of a way, by the groups of its fares.
 ghost use Rattle.std.specs.Prelude.{◌≡◌, ◌≤◌, ◌<◌, ◌↔◌, ℕ, All, IsBitSet, false, length};
 ghost use Rattle.asked_keys.specs.Offering.{NoneOffered, OffersNone};
-ghost use Rattle.component_table.specs.Markets.{IsMarket};
+ghost use Rattle.fare_ends.specs.Markets.{IsMarket};
 ghost use Rattle.fare_book.specs.Keeping.{Limited};
 ghost use Rattle.fare_groups.specs.Groups.{HasClass};
 ghost use Rattle.fare_law.specs.declared.requests.Request.{Request as Asking};

@@ -1,7 +1,7 @@
 //! The keys of residuals on which there may be offers, taken from a source so that it settles them.
 ghost use Rattle.std.specs.Prelude.{◌≡◌, ◌≤◌, OnOk, length};
 ghost use Rattle.asked_keys.specs.Asking.{HasKeysSettled, IsFiledKey, IsWay};
-ghost use Rattle.component_table.specs.Markets.{AreMarkets, IsMarket};
+ghost use Rattle.fare_ends.specs.Markets.{AreMarkets, IsMarket};
 ghost use Rattle.component_table.specs.Networks.{IsNetwork};
 ghost use Rattle.fare_component.specs.Keys.{Asked, asked};
 ghost use Rattle.fare_law.specs.declared.market.OfferKey.{OfferKey as OneKey};

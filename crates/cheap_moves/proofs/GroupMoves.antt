@@ -5,7 +5,7 @@ use Rattle.cheap_moves.specs.declared.component.Flown.{Flown}
 use Rattle.cheap_moves.specs.Making.{IsComponent, IsComponentMove, IsGroupMove, IsOver, IsPieceOver}
 use Rattle.cheap_moves.specs.Within.{IsWithin}
 use Rattle.cheap_moves.proofs.FareMoves.{row_at}
-use Rattle.component_table.specs.declared.markets.Market.{Market}
+use Rattle.fare_ends.specs.declared.markets.Market.{Market}
 use Rattle.fare_groups.specs.declared.group.FareGroup.{FareGroup}
 use Rattle.fare_groups.specs.declared.group.GroupKey.{GroupKey}
 use Rattle.fare_groups.specs.declared.group.GroupedFare.{GroupedFare}

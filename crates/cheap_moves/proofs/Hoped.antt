@@ -1,13 +1,14 @@
 -- What the leads within a limit tell of the paths on which moves within it may be.
-use Rattle.std.proofs.Common.{◌≡◌, ℕ, suc, ◌+◌, ◌-◌, ◌≤◌, ◌<◌, Bool, true, false, List, [], ◌∷◌, ◌++◌, length, take, get_or, slice_get, MatchOption, MatchBool, All, Option, Some, None, IfSome, Result, Ok, Err, OnOk, refl, sym, ap, subst, ◌∙◌, inl, inr, arith}
+use Rattle.std.proofs.Common.{◌≡◌, ℕ, suc, ◌+◌, ◌-◌, ◌≤◌, ◌<◌, Bool, true, false, List, [], ◌∷◌, ◌++◌, length, take, get_or, slice_get, MatchOption, MatchBool, All, Option, Some, None, IfNone, IfSome, IsSome, Result, Ok, Err, OnOk, refl, sym, ap, subst, ◌∙◌, inl, inr, arith}
 use Rattle.std.proofs.lemmas.List.Elements.{All-head}
 use Rattle.cheap_moves.specs.declared.hopes.Hopes.{Hopes}
 use Rattle.cheap_moves.specs.declared.hopes.PathClass.{PathClass}
 use Rattle.cheap_moves.specs.declared.hopes.PathStart.{PathStart}
 use Rattle.cheap_moves.specs.declared.leads.Lead.{Lead}
-use Rattle.cheap_moves.specs.Hopes.{AreHopes, HasHopes, HopeAdded, IsClass, begins_with, class_of, marked, start_of}
+use Rattle.cheap_moves.specs.declared.prospects.Prospect.{Prospect}
+use Rattle.cheap_moves.specs.Hopes.{AreAllOnce, AreHopes, GroupAdded, HasHopes, HopeAdded, IsClass, begins_with, class_of, groups_of, marked, start_of}
 use Rattle.cheap_moves.specs.Leads.{AreLeads}
-use Rattle.cheap_moves.specs.Making.{IsWithinOn}
+use Rattle.cheap_moves.specs.Prospects.{prospect_as, prospect_of}
 use Rattle.cheap_moves.specs.Within.{CountsWithin, IsWithin}
 use Rattle.cheap_moves.proofs.Joining.{one_added}
 use Rattle.fare_law.specs.declared.flights.Flight.{Flight}
@@ -17,40 +18,31 @@ use Rattle.fare_law.specs.declared.requests.Request.{Request}
 use Rattle.fare_law.specs.declared.rules.TransferRule.{TransferRule}
 use Rattle.fare_law.specs.declared.tickets.Piece.{Piece}
 use Rattle.fare_law.specs.Book.{Book}
-use Rattle.fare_law.specs.Lists.{IsIn, OnFirst, OnLast}
+use Rattle.fare_law.specs.Lists.{Each, IsIn, OnFirst, OnLast}
 use Rattle.fare_law.specs.Parts.{Numbers, transfers}
-use Rattle.flight_paths.specs.declared.positions.Path.{Path}
 use Rattle.flight_paths.specs.declared.positions.Position.{Position}
 use Rattle.flight_paths.specs.Heads.{EndWanted}
-use Rattle.flight_paths.specs.Positions.{Flies}
 use Rattle.outlines.specs.declared.outline.Outline.{Outline}
 use Rattle.outlines.specs.Outlines.{Outlines}
 use Rattle.residual_keys.specs.declared.residual.Chosen.{Chosen}
-use Rattle.residual_keys.specs.Gathered.{Adds, IsPathOf}
 use Rattle.residual_keys.specs.Residuals.{State}
 use Rattle.residual_keys.specs.Steps.{IsChosen}
-use Rattle.residual_keys.proofs.Adding.{adds_none}
-use Rattle.residual_keys.proofs.OneNext.{first_one, flies_one, last_one}
-use Rattle.residual_keys.proofs.Runs.{flies_numbers}
-use Rattle.law_lemmas.proofs.LawFacts.{numbers_one, on_first_as, on_last_as}
-use Rattle.law_lemmas.proofs.Members.{in_left, in_right}
-use Rattle.law_lemmas.proofs.Options.{some_one}
-use Rattle.law_lemmas.proofs.Tests.{true_false}
+use Rattle.residual_keys.proofs.OneNext.{first_one, last_one}
+use Rattle.law_lemmas.proofs.LawFacts.{on_first_as, on_last_as}
+use Rattle.law_lemmas.proofs.EachOne.{each_at}
+use Rattle.law_lemmas.proofs.Options.{some_one, some_there}
+use Rattle.law_lemmas.proofs.Tests.{false_true}
 
 -- ---- what is marked
 
 module _ (same_start : PathStart → PathStart → Bool) (same_place : Place → Place → Bool) (same_class : PathClass → PathClass → Bool) (limit : Option ℕ) where
-  pub hopes_none : (h : Hopes) → HasHopes same_start same_place same_class limit [] h
-  hopes_none h = record { kept = λ l i. absurd i; of_starts = λ l i. absurd i; of_ends = λ l i. absurd i; of_classes = λ l i. absurd i }
+  pub hopes_none : (h : Hopes) → AreAllOnce same_class h.classes → HasHopes same_start same_place same_class limit [] h
+  hopes_none h once = record { of_starts = λ l i. absurd i; of_ends = λ l i. absurd i; of_classes = λ l i. absurd i; once = once }
 
   -- one lead more
   pub hopes_more : (leads : List Lead) (i : ℕ) (d x : Lead) (old new : Hopes) → i < length leads → x ≡ get_or leads i d → HasHopes same_start same_place same_class limit (take i leads) old → HopeAdded same_start same_place same_class limit x old new
       → HasHopes same_start same_place same_class limit (take (i + 1) leads) new
   hopes_more leads i d x old new lt is h added = record {
-    kept = λ l j w. elim (one_added leads i d x l lt is j) [
-      | inl k ↦ added.leads_stay l (h.kept l k w)
-      | inr k ↦ subst (λ (y : Lead). IsIn y new.leads) (sym k) (added.kept (at l k w))
-    ];
     of_starts = λ l j w. elim (one_added leads i d x l lt is j) [
       | inl k ↦ added.starts_stay (start_of l.outline) (h.of_starts l k w)
       | inr k ↦ subst (λ (y : Lead). marked same_start new.starts (start_of y.outline) ≡ true) (sym k) (added.has_start (at l k w))
@@ -60,30 +52,30 @@ module _ (same_start : PathStart → PathStart → Bool) (same_place : Place →
       | inr k ↦ subst (λ (y : Lead). marked same_place new.ends y.outline.end ≡ true) (sym k) (added.has_end (at l k w))
     ];
     of_classes = λ l j w. elim (one_added leads i d x l lt is j) [
-      | inl k ↦ added.classes_stay (class_of l.outline) (h.of_classes l k w)
-      | inr k ↦ subst (λ (y : Lead). marked same_class new.classes (class_of y.outline) ≡ true) (sym k) (added.has_class (at l k w))
+      | inl k ↦ added.groups_stay (class_of l.outline) (prospect_of l.outline) (h.of_classes l k w)
+      | inr k ↦ subst (λ (y : Lead). IsIn (prospect_of y.outline) (groups_of same_class new.classes (class_of y.outline))) (sym k) (added.has_group (at l k w))
     ];
+    once = added.once h.once;
   }
     where
       at : (l : Lead) → l ≡ x → IsWithin limit l.total → IsWithin limit x.total
       at l k w = subst (λ (y : Lead). IsWithin limit y.total) k w
 
--- a lead that was kept and marked was added
-pub lead_added : (same_start : PathStart → PathStart → Bool) (same_place : Place → Place → Bool) (same_class : PathClass → PathClass → Bool) (limit : Option ℕ) (l : Lead) (old new : Hopes) (s : PathStart) (x : PathClass) {A E : Type 0} (result : Result A E)
-    → new.leads ≡ old.leads ++ l ∷ [] → s ≡ start_of l.outline → x ≡ class_of l.outline
+-- a lead whose beginning and end were marked, and whose group was put at its class, was added
+pub lead_added : (same_start : PathStart → PathStart → Bool) (same_place : Place → Place → Bool) (same_class : PathClass → PathClass → Bool) (limit : Option ℕ) (l : Lead) (old new : Hopes) (s : PathStart) (x : PathClass) (g : Prospect) {A E : Type 0} (result : Result A E)
+    → s ≡ start_of l.outline → x ≡ class_of l.outline → g ≡ prospect_of l.outline
     → marked same_start new.starts s ≡ true → ((t : PathStart) → marked same_start old.starts t ≡ true → marked same_start new.starts t ≡ true)
     → marked same_place new.ends l.outline.end ≡ true → ((p : Place) → marked same_place old.ends p ≡ true → marked same_place new.ends p ≡ true)
-    → OnOk result (marked same_class new.classes x ≡ true) → OnOk result ((y : PathClass) → marked same_class old.classes y ≡ true → marked same_class new.classes y ≡ true) → OnOk result (HopeAdded same_start same_place same_class limit l old new)
-lead_added same_start same_place same_class limit l old new s x (Err e) leads s_is x_is begun starts ended ends classed classes = tt
-lead_added same_start same_place same_class limit l old new s x (Ok a) leads s_is x_is begun starts ended ends classed classes = record {
-  leads_stay = λ k i. subst (IsIn k) (sym leads) (in_left k old.leads (l ∷ []) i);
+    → OnOk result (GroupAdded same_class x g old.classes new.classes) → OnOk result (HopeAdded same_start same_place same_class limit l old new)
+lead_added same_start same_place same_class limit l old new s x g (Err e) s_is x_is g_is begun starts ended ends added = tt
+lead_added same_start same_place same_class limit l old new s x g (Ok a) s_is x_is g_is begun starts ended ends added = record {
   starts_stay = starts;
   ends_stay = ends;
-  classes_stay = classes;
-  kept = λ w. subst (IsIn l) (sym leads) (in_right l old.leads (l ∷ []) (inl refl));
+  groups_stay = added.stay;
+  once = added.once;
   has_start = λ w. subst (λ t. marked same_start new.starts t ≡ true) s_is begun;
   has_end = λ w. ended;
-  has_class = λ w. subst (λ y. marked same_class new.classes y ≡ true) x_is classed;
+  has_group = λ w. subst (λ y. IsIn y (groups_of same_class new.classes (class_of l.outline))) g_is (subst (λ y. IsIn g (groups_of same_class new.classes y)) x_is added.has);
 }
 
 -- ---- what moves have
@@ -142,9 +134,6 @@ module _ (same_start : PathStart → PathStart → Bool) (same_place : Place →
     o : Outlines lead.outline k.after k.piece
     o = (led c k n.rest n.rest_is).outlines
 
-    led_hoped : (l : Lead) × IsIn l h.leads × Outlines l.outline k.after k.piece
-    led_hoped = (lead, has.kept lead (led c k n.rest n.rest_is).within within, o)
-
     -- how the move's flights begin
     begun : OnFirst (λ f. (lead.outline.first ≡ f.day) × (lead.outline.carrier ≡ f.carrier)) k.flights
     begun = outline_begins lead.outline k.after k.piece k.flights o k.moves.stands.begins k.piece.rule.cat9 k.moves.lawful.transfers
@@ -156,8 +145,8 @@ module _ (same_start : PathStart → PathStart → Bool) (same_place : Place →
         same : (f : Flight) → lead.outline.first ≡ f.day → lead.outline.carrier ≡ f.carrier → start_of lead.outline ≡ begins_with f
         same f d e = λ i. record { day = d i; carrier = e i }
 
-    class_hoped : (x : PathClass) → IsClass x k.after k.flights → marked same_class h.classes x ≡ true
-    class_hoped x is = subst (λ y. marked same_class h.classes y ≡ true) same (has.of_classes lead (led c k n.rest n.rest_is).within within)
+    group_hoped : (x : PathClass) → IsClass x k.after k.flights → IsIn (prospect_as k.piece) (groups_of same_class h.classes x)
+    group_hoped x is = subst (λ g. IsIn g (groups_of same_class h.classes x)) named (subst (λ y. IsIn (prospect_of lead.outline) (groups_of same_class h.classes y)) same (has.of_classes lead (led c k n.rest n.rest_is).within within))
       where
         began : (lead.outline.first ≡ x.first) × (lead.outline.carrier ≡ x.carrier)
         began = first_one (λ f. (lead.outline.first ≡ f.day) × (lead.outline.carrier ≡ f.carrier)) (λ f. (x.first ≡ f.day) × (x.carrier ≡ f.carrier)) ((lead.outline.first ≡ x.first) × (lead.outline.carrier ≡ x.carrier)) (λ f u v. (u.0 ∙ sym v.0, u.1 ∙ sym v.1)) k.flights begun is.begins
@@ -168,34 +157,11 @@ module _ (same_start : PathStart → PathStart → Bool) (same_place : Place →
         same : class_of lead.outline ≡ x
         same = let after = o.after_is ∙ sym is.after_is in λ i. record { after = after i; end = ended.0 i; first = began.0 i; last = ended.1 i; carrier = began.1 i }
 
+        named : prospect_of lead.outline ≡ prospect_as k.piece
+        named = λ i. record { key = record { carrier = o.carrier i; number = o.number i; kind = o.kind i }; reverse = o.reverse i }
+
   pub are_hopes : AreHopes same_start same_place same_class b q r bound limit h
-  are_hopes = record { led = led_hoped; of_starts = start_hoped; of_ends = end_hoped; of_classes = class_hoped }
-
--- a path whose class isn't marked has no move within the limit
-pub hopeless : (same_start : PathStart → PathStart → Bool) (same_place : Place → Place → Bool) (same_class : PathClass → PathClass → Bool) (b : Book) (q : Request) (r : State) (bound : State → Option ℕ) (limit : Option ℕ) (h : Hopes) → AreHopes same_start same_place same_class b q r bound limit h
-    → (path : Path) (old : List Chosen) → ((fs : List Flight) × IsPathOf b q r path fs) → ((fs : List Flight) → Numbers b path.flights fs → (x : PathClass) × IsClass x path.after fs × (marked same_class h.classes x ≡ false)) → Adds (IsWithinOn b q r bound limit path) old old
-hopeless same_start same_place same_class b q r bound limit h hopes path old (fs, is) not = adds_none (IsWithinOn b q r bound limit path) old none
-  where
-    none : (c : Chosen) → IsWithinOn b q r bound limit path c → ⊥
-    none c m = true_false (hopes.of_classes c k m.1 x.0 (subst (λ a. IsClass x.0 a k.flights) (sym after) x.1)) x.2
-      where
-        k : IsChosen b q r c
-        k = m.0.0
-
-        flies : Flies b q.slices (Some r.at) path.flights k.flights k.after
-        flies = subst (λ ns. Flies b q.slices (Some r.at) ns k.flights k.after) m.0.1 k.moves.path.flies
-
-        numbers : Numbers b path.flights k.flights
-        numbers = flies_numbers b q.slices (Some r.at) k.after path.flights k.flights flies
-
-        same : fs ≡ k.flights
-        same = numbers_one b path.flights fs k.flights (flies_numbers b q.slices (Some r.at) path.after path.flights fs is.flies) numbers
-
-        after : k.after ≡ path.after
-        after = flies_one b q.slices (Some r.at) path.flights k.flights k.after path.after flies (subst (λ gs. Flies b q.slices (Some r.at) path.flights gs path.after) same is.flies)
-
-        x : (y : PathClass) × IsClass y path.after k.flights × (marked same_class h.classes y ≡ false)
-        x = not k.flights numbers
+  are_hopes = record { of_starts = start_hoped; of_ends = end_hoped; of_classes = group_hoped; once = has.once }
 
 -- ---- the class of a path
 
@@ -221,6 +187,26 @@ module _ (b : Book) (all : List Flight) (plan : b.timetable.flights ≡ all) whe
     begins = on_first_as (λ g. (x.first ≡ g.day) × (x.carrier ≡ g.carrier)) fs first (first_numbered ns fs first h m) (f, c);
     ends = on_last_as (λ g. (x.end ≡ g.to) × (x.last ≡ g.day)) fs last (last_numbered ns fs last k m) (e, l);
   }
+
+-- where the number at a place is of no flight, not all are numbers of flights
+pub none_known : (all : List Flight) (ns : List ℕ) (i : ℕ) (o : Option Flight) → i < length ns → o ≡ slice_get all (get_or ns i 0) → IfNone o (Each (λ n. IsSome (slice_get all n)) ns → ns ≡ [])
+none_known all ns i (Some f) lt e = tt
+none_known all ns i None lt e = λ h. absurd (false_true (subst IsSome (sym e) (each_at (λ n. IsSome (slice_get all n)) ns i 0 h lt)))
+
+-- and a path by them has none
+pub no_class : {X : Type 0} (o : Option X) (b : Book) (all : List Flight) → b.timetable.flights ≡ all → (ns : List ℕ) → (Each (λ n. IsSome (slice_get all n)) ns → ns ≡ []) → IfNone o ((fs : List Flight) → Numbers b ns fs → fs ≡ [])
+no_class (Some x) b all plan ns none = tt
+no_class None b all plan ns none = λ fs m. by ns fs (none (known ns fs m)) m
+  where
+    known : (ms : List ℕ) (gs : List Flight) → Numbers b ms gs → Each (λ n. IsSome (slice_get all n)) ms
+    known [] gs k = tt
+    known (n ∷ ms) [] k = absurd k
+    known (n ∷ ms) (g ∷ gs) k = (some_there (slice_get all n) g (ap (λ xs. slice_get xs n) (sym plan) ∙ k.0), known ms gs k.1)
+
+    by : (ms : List ℕ) (gs : List Flight) → ms ≡ [] → Numbers b ms gs → gs ≡ []
+    by [] [] e k = refl
+    by [] (g ∷ gs) e k = absurd k
+    by (n ∷ ms) gs e k = absurd (cc)
 
 -- the last of some numbers
 pub last_known : (all : List Flight) (ns : List ℕ) (o : Option Flight) → 1 ≤ length ns → o ≡ slice_get all (get_or ns (length ns - 1) 0) → IfSome o (λ f. OnLast (λ n. slice_get all n ≡ Some f) ns)

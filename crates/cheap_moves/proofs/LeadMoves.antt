@@ -1,5 +1,6 @@
 -- Leads of the entries of a table, and of the moves that count.
 use Rattle.std.proofs.Common.{◌≡◌, ℕ, ◌+◌, ◌≤◌, ◌<◌, true, false, List, [], ◌∷◌, ◌++◌, length, take, get_or, Option, Some, None, refl, sym, subst, ◌∙◌, inl, inr, arith}
+use Rattle.std.specs.List.Sorted.{IsPermutation}
 use Rattle.cheap_moves.specs.declared.leads.Lead.{Lead}
 use Rattle.cheap_moves.specs.Leads.{AreLeads, EntryLeaves, HasEntry, IsUpTo, LeadAdded, LeastAs, LeastOf}
 use Rattle.cheap_moves.proofs.Joining.{one_added}
@@ -19,6 +20,7 @@ use Rattle.residual_keys.specs.declared.residual.Next.{Next}
 use Rattle.residual_keys.specs.Residuals.{State, closes}
 use Rattle.residual_keys.specs.Steps.{Leaves}
 use Rattle.residual_keys.proofs.OneNext.{direction}
+use Rattle.residual_keys.proofs.SortedWords.{same_elements}
 use Rattle.law_lemmas.proofs.EachOne.{each_in}
 use Rattle.law_lemmas.proofs.Members.{in_left, in_right}
 use Rattle.law_lemmas.proofs.Options.{some_one}
@@ -120,3 +122,7 @@ leads_are b q r bound table leads t has c k rest s = record {
 
     x : (l : Lead) × IsIn l leads × (l.outline ≡ e.outline) × (l.total ≤ e.price + rest)
     x = has e found.1 c.mv.role c.mv.slot c.next rest by s
+
+-- leads in another order
+pub leads_again : (b : Book) (q : Request) (r : State) (bound : State → Option ℕ) (old new : List Lead) → IsPermutation old new → AreLeads b q r bound old → AreLeads b q r bound new
+leads_again b q r bound old new moves h c k rest e = let l = h c k rest e in record { lead = l.lead; within = (same_elements l.lead old new moves).0 l.within; outlines = l.outlines; below = l.below }

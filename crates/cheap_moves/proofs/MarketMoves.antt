@@ -4,7 +4,7 @@ use Rattle.cheap_moves.specs.declared.component.Flown.{Flown}
 use Rattle.cheap_moves.specs.Making.{IsGroupMove, IsOver, IsWithinFiled, Of}
 use Rattle.cheap_moves.specs.Prospects.{HasProspects, IsProspectMove, prospect_as}
 use Rattle.cheap_moves.proofs.FareMoves.{row_at}
-use Rattle.component_table.specs.declared.markets.Market.{Market}
+use Rattle.fare_ends.specs.declared.markets.Market.{Market}
 use Rattle.fare_book.specs.Keeping.{NoFare}
 use Rattle.fare_groups.specs.declared.group.FareGroup.{FareGroup}
 use Rattle.fare_groups.specs.declared.group.GroupedFare.{GroupedFare}

@@ -5,9 +5,9 @@ use Rattle.cheap_moves.specs.Making.{IsFlown, IsOver, IsWithinFiled, IsWithinOn,
 use Rattle.cheap_moves.specs.Sought.{AreSought, StartWanted}
 use Rattle.cheap_moves.specs.Within.{CountsWithin, IsMoveWithin}
 use Rattle.cheap_moves.proofs.Joining.{differs_before, same_map, taken_in}
-use Rattle.component_table.specs.declared.markets.Market.{Market}
-use Rattle.component_table.specs.declared.markets.MarketKey.{MarketKey}
-use Rattle.component_table.specs.Markets.{AreMarkets, IsMarket, StandsAt}
+use Rattle.fare_ends.specs.declared.markets.Market.{Market}
+use Rattle.fare_ends.specs.declared.markets.MarketKey.{MarketKey}
+use Rattle.fare_ends.specs.Markets.{AreMarkets, IsMarket, StandsAt}
 use Rattle.fare_book.specs.Keeping.{Limited}
 use Rattle.fare_law.specs.declared.flights.Flight.{Flight}
 use Rattle.fare_law.specs.declared.moves.Move.{Move}

@@ -6,7 +6,7 @@ use Rattle.cheap_moves.specs.Making.{IsGroupMove, IsOver, Of}
 use Rattle.cheap_moves.specs.Prospects.{IsProspectMove}
 use Rattle.cheap_moves.proofs.FareMoves.{one_place, row_at}
 use Rattle.cheap_moves.proofs.Joining.{differs_before, of_more, one_of_key, same_map}
-use Rattle.component_table.specs.declared.markets.Market.{Market}
+use Rattle.fare_ends.specs.declared.markets.Market.{Market}
 use Rattle.fare_groups.specs.declared.group.FareGroup.{FareGroup}
 use Rattle.fare_groups.specs.declared.group.GroupedFare.{GroupedFare}
 use Rattle.fare_groups.specs.Groups.{group_of}

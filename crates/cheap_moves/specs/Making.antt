@@ -4,7 +4,7 @@ use Rattle.cheap_moves.specs.declared.component.Component.{Component}
 use Rattle.cheap_moves.specs.declared.component.Flown.{Flown}
 use Rattle.cheap_moves.specs.declared.component.Onward.{Onward}
 use Rattle.cheap_moves.specs.Within.{CountsWithin, IsWithin}
-use Rattle.component_table.specs.declared.markets.Market.{Market}
+use Rattle.fare_ends.specs.declared.markets.Market.{Market}
 use Rattle.fare_groups.specs.declared.group.FareGroup.{FareGroup}
 use Rattle.fare_groups.specs.declared.group.GroupedFare.{GroupedFare}
 use Rattle.fare_groups.specs.Grouping.{IsRowIn}

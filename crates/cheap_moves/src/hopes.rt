@@ -1,10 +1,11 @@
-//! What the leads within a limit tell of the paths on which a move may be within it: how they begin, where they end, and
-//! their classes. Other paths are looked at no further.
-ghost use Rattle.std.specs.Prelude.{◌≡◌, ◌≢◌, [], false, List as Items, Option as Maybe, Some, true, slice_get, IfOk, IfSome, IsTrue, OnOk};
-ghost use Rattle.cheap_moves.specs.Hopes.{AreHopes, HasHopes, HopeAdded, IsClass, begins_with, class_of, marked, start_of};
+//! What the leads within a limit tell of the paths on which a move may be within it: how they begin, where they end, their
+//! classes, and the groups of fares of each class. Other paths and groups are looked at no further.
+ghost use Rattle.std.specs.Cmp.{IsEquivalence};
+ghost use Rattle.std.specs.Prelude.{◌≡◌, [], List as Items, Some, true, slice_get, IfNone, IfOk, IfSome, IsSome, OnOk};
+ghost use Rattle.cheap_moves.specs.Hopes.{AreHopes, GroupAdded, HasHopes, HopeAdded, IsClass, begins_with, class_of, groups_of, marked, start_of};
 ghost use Rattle.cheap_moves.specs.Leads.{AreLeads};
 ghost use Rattle.fare_law.specs.declared.flights.Flight.{Flight as DatedFlight};
-ghost use Rattle.fare_law.specs.Lists.{OnFirst, OnLast};
+ghost use Rattle.fare_law.specs.Lists.{Each, OnFirst, OnLast};
 ghost use Rattle.fare_law.specs.Parts.{Numbers};
 ghost use Rattle.flight_paths.specs.Plans.{HasPlan};
 
@@ -12,8 +13,9 @@ use crate::MoveSearch;
 use crate::bounds::ResidualBounds;
 use crate::fares::is_within;
 use crate::leads::Lead;
+use crate::prospects::{Prospect, Prospects, prospect_of};
 use fare_book::Book;
-use fare_law::{Carrier, Flight, List, Mem, Place};
+use fare_law::{Carrier, Flight, Mem, Place};
 use flight_paths::{Ends, Path, Position};
 use indexmap::IndexMap;
 use outlines::Outline;
@@ -39,13 +41,13 @@ pub struct PathStart {
     pub carrier: Carrier,
 }
 
-/// The leads within a limit, and how the paths begin that have their outlines, where they end, and their classes.
+/// How the paths begin that have the outlines of the leads within a limit, where they end, and their classes, each with
+/// the groups of its leads.
 #[derive(Drop)]
 pub struct Hopes {
-    pub leads: List<Lead>,
     pub starts: IndexMap<PathStart, bool>,
     pub ends: IndexMap<Place, bool>,
-    pub classes: IndexMap<PathClass, bool>,
+    pub classes: IndexMap<PathClass, Prospects>,
 }
 
 impl Ends for Hopes {
@@ -56,7 +58,8 @@ impl Ends for Hopes {
     }
 }
 
-/// The leads of moves within the limit, and the beginnings, ends and classes that these moves have.
+/// The beginnings, ends, classes and groups that the moves within the limit have. It takes less time where the leads are in
+/// the order of their groups.
 pub fn hopes_of<B: ResidualBounds>(
     alloc: Global,
     search: &MoveSearch<'_, B>,
@@ -68,34 +71,57 @@ pub fn hopes_of<B: ResidualBounds>(
     within(alloc, leads, search.limit)
 }
 
-/// The leads that are within the limit, with their beginnings, ends and classes.
+/// The beginnings, ends and classes of the leads that are within the limit, with their groups.
 fn within(alloc: Global, leads: &[Lead], limit: Option<u128>) -> Result<Hopes, Mem>
     ensures { IfOk result (HasHopes ⟦<PathStart as PartialEq>⟧.eq ⟦<Place as PartialEq>⟧.eq ⟦<PathClass as PartialEq>⟧.eq limit leads.now) }
 {
     let mut hopes = Hopes {
-        leads: List::new(alloc),
         starts: IndexMap::new(alloc),
         ends: IndexMap::new(alloc),
         classes: IndexMap::new(alloc),
     };
     for lead in leads {
-        add_lead(&mut hopes, lead, limit)?;
+        add_lead(alloc, &mut hopes, lead, limit)?;
     }
     Ok(hopes)
 }
 
-/// Adds a lead, its beginning, its end and its class, where it is within the limit.
-fn add_lead(hopes: &mut Hopes, lead: &Lead, limit: Option<u128>) -> Result<(), Mem>
+/// Adds the beginning, the end and the class of a lead with its group, where it is within the limit.
+fn add_lead(alloc: Global, hopes: &mut Hopes, lead: &Lead, limit: Option<u128>) -> Result<(), Mem>
     ensures { OnOk result (HopeAdded ⟦<PathStart as PartialEq>⟧.eq ⟦<Place as PartialEq>⟧.eq ⟦<PathClass as PartialEq>⟧.eq limit lead.now hopes.old hopes.new) }
 {
     if !is_within(limit, lead.total) {
         return Ok(());
     }
-    hopes.leads.push(*lead)?;
+    let group = prospect_of(&lead.outline);
     mark(&mut hopes.starts, start_of(&lead.outline))?;
     mark(&mut hopes.ends, lead.outline.end)?;
-    mark(&mut hopes.classes, class_of(&lead.outline))
+    add_group(alloc, &mut hopes.classes, class_of(&lead.outline), group)
 }
+
+/// Adds a group to those of a class.
+fn add_group<K: Hash + Eq + Drop>(
+    alloc: Global,
+    classes: &mut IndexMap<K, Prospects>,
+    class: K,
+    group: Prospect,
+) -> Result<(), Mem>
+    ensures { OnOk result (GroupAdded K.eq class group classes.old classes.new) }
+{
+    keys_equivalence::<K>();
+    if let Some(known) = classes.get_mut(&class) {
+        return known.put(group);
+    }
+    let mut new = Prospects::new(alloc);
+    new.put(group)?;
+    classes.insert(class, new)?;
+    Ok(())
+}
+
+// The test of keys is an equivalence.
+fn keys_equivalence<K: Eq>()
+    ensures { IsEquivalence K.eq }
+{}
 
 /// Marks a key.
 fn mark<K: Hash + Eq + Copy + Drop>(marks: &mut IndexMap<K, bool>, key: K) -> Result<(), Mem>
@@ -140,26 +166,20 @@ pub fn may_begin(hopes: &Hopes, flight: &Flight) -> bool
     hopes.starts.get(&start).copied().unwrap_or(false)
 }
 
-/// Whether it is known that no move on a path is within the limit.
-pub fn is_hopeless(book: &Book, hopes: &Hopes, path: &Path) -> bool
-    ensures { IsTrue result → (fs : Items DatedFlight) → Numbers book.now path.now.flights fs → (x : PathClass) × IsClass x path.now.after fs × (marked ⟦<PathClass as PartialEq>⟧.eq hopes.now.classes x ≡ false) }
+/// The groups with which a move on a path of a class may be within the limit.
+pub fn groups_of<'h>(hopes: &'h Hopes, class: &PathClass) -> &'h [Prospect]
+    ensures { result.now ≡ groups_of ⟦<PathClass as PartialEq>⟧.eq hopes.now.classes class.now }
 {
-    match class_over(book, path) {
-        Some(class) => !has(hopes, &class),
-        None => false,
+    match hopes.classes.get(class) {
+        Some(known) => known.groups.as_slice(),
+        None => &[],
     }
 }
 
-/// Whether some lead within the limit has this class.
-fn has(hopes: &Hopes, class: &PathClass) -> bool
-    ensures { result ≡ marked ⟦<PathClass as PartialEq>⟧.eq hopes.now.classes class.now }
-{
-    hopes.classes.get(class).copied().unwrap_or(false)
-}
-
-/// The class of a path.
-fn class_over(book: &Book, path: &Path) -> Option<PathClass>
-    ensures { IfSome result (λ x. (fs : Items DatedFlight) → Numbers book.now path.now.flights fs → IsClass x path.now.after fs) }
+/// The class of a path. None where it has no flights of the book.
+pub fn class_over(book: &Book, path: &Path) -> Option<PathClass>
+    ensures some { IfSome result (λ x. (fs : Items DatedFlight) → Numbers book.now path.now.flights fs → IsClass x path.now.after fs) }
+    ensures none { IfNone result ((fs : Items DatedFlight) → Numbers book.now path.now.flights fs → fs ≡ []) }
 {
     let all = schedule_of(book).flights();
     let first = first_flight(all, path.flights.as_slice())?;
@@ -175,7 +195,8 @@ fn class_over(book: &Book, path: &Path) -> Option<PathClass>
 
 /// The flight of the first of some numbers.
 fn first_flight(all: &[Flight], numbers: &[u32]) -> Option<Flight>
-    ensures { IfSome result (λ f. OnFirst (λ n. slice_get all.now n ≡ Some f) numbers.now) }
+    ensures some { IfSome result (λ f. OnFirst (λ n. slice_get all.now n ≡ Some f) numbers.now) }
+    ensures none { IfNone result (Each (λ n. IsSome (slice_get all.now n)) numbers.now → numbers.now ≡ []) }
 {
     match numbers {
         [first, ..] => flight_of(all, *first),
@@ -185,7 +206,8 @@ fn first_flight(all: &[Flight], numbers: &[u32]) -> Option<Flight>
 
 /// The flight of the last of some numbers.
 fn last_flight(all: &[Flight], numbers: &[u32]) -> Option<Flight>
-    ensures { IfSome result (λ f. OnLast (λ n. slice_get all.now n ≡ Some f) numbers.now) }
+    ensures some { IfSome result (λ f. OnLast (λ n. slice_get all.now n ≡ Some f) numbers.now) }
+    ensures none { IfNone result (Each (λ n. IsSome (slice_get all.now n)) numbers.now → numbers.now ≡ []) }
 {
     match numbers {
         [.., last] => flight_of(all, *last),

@@ -1,5 +1,6 @@
 //! The outlines of a position by which moves of a residual count, with their least totals.
 ghost use Rattle.std.specs.Prelude.{◌≡◌, ◌≤◌, ◌+◌, ℕ, false, true, IfOk, OnOk};
+ghost use Rattle.std.specs.List.Sorted.{IsPermutation};
 ghost use Rattle.cheap_moves.specs.Leads.{AreLeads, IsUpTo, LeadAdded, LeastAs, LeastOf};
 ghost use Rattle.component_table.specs.Tables.{IsTable};
 ghost use Rattle.fare_law.specs.Limits.{IsRequest};
@@ -9,6 +10,7 @@ ghost use Rattle.outlines.specs.Outlines.{piece_of};
 
 use crate::MoveSearch;
 use crate::bounds::{ResidualBounds, rest_after};
+use crate::prospects::prospect_of;
 use fare_law::{List, Mem, Role};
 use open_unit::Facts;
 use outlines::{Entry, Outline, facts_of};
@@ -37,6 +39,23 @@ pub fn leads_of<B: ResidualBounds>(
         add_entry(&mut leads, search, entry)?;
     }
     Ok(leads)
+}
+
+/// The leads in the order of their groups.
+pub fn by_group(alloc: Global, leads: &[Lead]) -> Result<List<Lead>, Mem>
+    ensures { IfOk result (IsPermutation leads.now) }
+{
+    let mut sorted = Vec::with_capacity(alloc, leads.len())?;
+    for lead in leads {
+        sorted.push(*lead)?;
+    }
+    sorted.sort_unstable_by_key(group_code);
+    Ok(List::from_vec(sorted))
+}
+
+/// The number of a lead's group.
+fn group_code(lead: &Lead) -> u32 {
+    prospect_of(&lead.outline).code()
 }
 
 /// Adds an entry of the table to the leads, where moves count by it.

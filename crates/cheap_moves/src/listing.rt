@@ -3,7 +3,7 @@ ghost use Rattle.std.specs.Prelude.{◌≡◌, ◌<◌, ◌+◌, length, IfOk};
 ghost use Rattle.cheap_moves.specs.Leads.{AreLeads};
 ghost use Rattle.cheap_moves.specs.LeastMoves.{AreLeastMoves, Counts, IsSooner};
 ghost use Rattle.cheap_moves.specs.Tails.{AreTailsOver};
-ghost use Rattle.component_table.specs.Markets.{AreMarkets};
+ghost use Rattle.fare_ends.specs.Markets.{AreMarkets};
 ghost use Rattle.fare_law.specs.Limits.{IsRequest};
 ghost use Rattle.fare_law.specs.Lists.{KLeast};
 
@@ -11,7 +11,7 @@ use crate::MoveSearch;
 use crate::bounds::ResidualBounds;
 use crate::bucket::{add_counted, cut, is_full};
 use crate::hopes::hopes_of;
-use crate::leads::Lead;
+use crate::leads::{Lead, by_group};
 use crate::least::{CountedMove, keep_first};
 use crate::paths::hoped_paths;
 use crate::ways::add_path;
@@ -42,6 +42,7 @@ pub fn least_moves<B: ResidualBounds>(
     ensures least { IfOk result (AreLeastMoves search.now.book.now search.now.request.now search.now.residual.now (B.bound search.now.bounds.now) wanted) }
 {
     let limit = guessed_limit(alloc, leads, wanted)?;
+    let leads = by_group(alloc, leads)?;
     let guessed = MoveSearch {
         book: search.book,
         request: search.request,
@@ -49,7 +50,7 @@ pub fn least_moves<B: ResidualBounds>(
         bounds: search.bounds,
         limit,
     };
-    let least = least_within(alloc, &guessed, leads, tails, markets, wanted)?;
+    let least = least_within(alloc, &guessed, leads.as_slice(), tails, markets, wanted)?;
     if least.len() == wanted {
         return Ok(least);
     }
@@ -62,7 +63,7 @@ pub fn least_moves<B: ResidualBounds>(
                 bounds: search.bounds,
                 limit: None,
             };
-            least_within(alloc, &all, leads, tails, markets, wanted)
+            least_within(alloc, &all, leads.as_slice(), tails, markets, wanted)
         }
         None => Ok(least),
     }

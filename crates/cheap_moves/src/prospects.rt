@@ -1,13 +1,11 @@
-//! The groups of fares with which moves on a path may be within the limit.
-ghost use Rattle.std.specs.Prelude.{◌≡◌, ◌≢◌, ◌↔◌, [], IfOk, IsTrue, OnOk};
-ghost use Rattle.cheap_moves.specs.Prospects.{AreProspects, ProspectAdded, prospect_of};
+//! The groups of fares with which moves on the paths of a class may be within the limit.
+ghost use Rattle.std.specs.Prelude.{◌≡◌, ◌↔◌, ◌≤◌, IsTrue, OnOk};
+ghost use Rattle.cheap_moves.specs.Prospects.{AreOnce, IsPut, code_of, prospect_of};
 ghost use Rattle.fare_law.specs.Lists.{IsIn};
 
-use crate::leads::Lead;
 use fare_groups::GroupKey;
-use fare_law::{Flight, List, Mem};
+use fare_law::{FareKind, List, Mem};
 use outlines::Outline;
-use residual_keys::{first_of, last_of};
 use std::alloc::Global;
 
 /// A group of fares by its key, and whether they are filed from a path's end to its beginning.
@@ -24,40 +22,54 @@ impl Prospect {
     {
         self.key.is(other.key) && self.reverse == other.reverse
     }
+
+    /// A number by which groups are put in order.
+    pub fn code(self) -> u32
+        ensures { result ≡ code_of self }
+    {
+        let kind = match self.key.kind {
+            FareKind::O => 0,
+            FareKind::R => 1,
+            FareKind::S => 2,
+        };
+        u32::from(self.key.number) * 8 + kind * 2 + u32::from(self.reverse)
+    }
 }
 
-/// The groups of those of some leads that suit flights, each once.
-pub fn prospects_of(
-    alloc: Global,
-    leads: &[Lead],
-    flights: &[Flight],
-) -> Result<List<Prospect>, Mem>
-    requires { flights.now ≢ [] }
-    ensures { IfOk result (AreProspects leads.now flights.now) }
-{
-    let first = first_of(flights);
-    let last = last_of(flights);
-    let mut prospects = List::new(alloc);
-    for lead in leads {
-        if suits(&lead.outline, first, last) {
-            add(&mut prospects, prospect_of(&lead.outline))?;
+/// Groups, each once. None has a greater code than is noted.
+#[derive(Drop)]
+pub struct Prospects {
+    pub groups: List<Prospect>,
+    greatest: u32,
+}
+
+impl Prospects {
+    /// None.
+    pub fn new(alloc: Global) -> Prospects
+        ensures { AreOnce result }
+    {
+        Prospects {
+            groups: List::new(alloc),
+            greatest: 0,
         }
     }
-    Ok(prospects)
-}
 
-/// Whether a component with the outline may begin and end with these flights.
-fn suits(outline: &Outline, first: &Flight, last: &Flight) -> bool
-    ensures { IsTrue result ↔ ((outline.now.first ≡ first.now.day) × (outline.now.last ≡ last.now.day) × (outline.now.carrier ≡ first.now.carrier) × (outline.now.end ≡ last.now.to)) }
-{
-    outline.first == first.day
-        && outline.last == last.day
-        && outline.carrier.is(first.carrier)
-        && outline.end.is(last.to)
+    /// Adds a group, where it isn't there. Groups that come in the order of their codes aren't looked for.
+    pub fn put(&mut self, group: Prospect) -> Result<(), Mem>
+        ensures { OnOk result (IsPut group self.old self.new) }
+    {
+        let code = group.code();
+        if code <= self.greatest && is_among(group, self.groups.as_slice()) {
+            return Ok(());
+        }
+        self.groups.push(group)?;
+        self.greatest = greater(self.greatest, code);
+        Ok(())
+    }
 }
 
 /// The group of the fares that an outline's components have.
-fn prospect_of(outline: &Outline) -> Prospect
+pub fn prospect_of(outline: &Outline) -> Prospect
     ensures { result ≡ prospect_of outline.now }
 {
     Prospect {
@@ -70,14 +82,12 @@ fn prospect_of(outline: &Outline) -> Prospect
     }
 }
 
-/// Adds a group, where it isn't there.
-fn add(prospects: &mut List<Prospect>, prospect: Prospect) -> Result<(), Mem>
-    ensures { OnOk result (ProspectAdded prospect prospects.old prospects.new) }
+/// The greater of two numbers.
+fn greater(one: u32, other: u32) -> u32
+    ensures one { one ≤ result }
+    ensures other { other ≤ result }
 {
-    if is_among(prospect, prospects.as_slice()) {
-        return Ok(());
-    }
-    prospects.push(prospect)
+    if one < other { other } else { one }
 }
 
 /// Whether a group is one of these.

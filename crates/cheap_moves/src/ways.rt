@@ -1,9 +1,9 @@
 //! The moves of a path: with the fares that are filed from its beginning to its end, and those in reverse.
-ghost use Rattle.std.specs.Prelude.{◌≢◌, [], OnOk};
+ghost use Rattle.std.specs.Prelude.{◌≡◌, ◌≢◌, [], IfOk, OnOk};
 ghost use Rattle.cheap_moves.specs.Hopes.{AreHopes};
 ghost use Rattle.cheap_moves.specs.Making.{IsFlown, IsOver, IsWithinFiled, IsWithinOn};
 ghost use Rattle.cheap_moves.specs.Prospects.{HasProspects, IsProspectMove};
-ghost use Rattle.component_table.specs.Markets.{AreMarkets};
+ghost use Rattle.fare_ends.specs.Markets.{AreMarkets};
 ghost use Rattle.fare_law.specs.declared.flights.Flight.{Flight as DatedFlight};
 ghost use Rattle.std.specs.Prelude.{List as Items};
 ghost use Rattle.fare_law.specs.Limits.{IsRequest};
@@ -14,8 +14,8 @@ use crate::MoveSearch;
 use crate::bounds::ResidualBounds;
 use crate::component::Flown;
 use crate::groups::add_group;
-use crate::hopes::{Hopes, PathClass, PathStart, is_hopeless};
-use crate::prospects::{Prospect, prospects_of};
+use crate::hopes::{Hopes, PathClass, PathStart, class_over, groups_of};
+use crate::prospects::Prospect;
 use component_table::{Market, MarketKey, Markets};
 use fare_groups::{classes_of_all, place_of};
 use fare_law::{Flight, List, Mem, Place};
@@ -40,12 +40,16 @@ pub fn add_path<B: ResidualBounds>(
     ensures markets { AreMarkets search.now.book.now markets.new.kept.items }
     ensures moves { OnOk result (Adds (IsWithinOn search.now.book.now search.now.request.now search.now.residual.now (B.bound search.now.bounds.now) search.now.limit path.now) found.old found.new) }
 {
-    if is_hopeless(search.book, hopes, path) {
+    let Some(class) = class_over(search.book, path) else {
+        return Ok(());
+    };
+    let groups = groups_of(hopes, &class);
+    if groups.is_empty() {
         return Ok(());
     }
+    let prospects = copied(alloc, groups)?;
     let way = Way::of(search.book, search.request, path);
     let classes = classes_of_all(way.legs.as_slice());
-    let prospects = prospects_of(alloc, hopes.leads.as_slice(), way.flights.as_slice())?;
     let flown = Flown {
         way,
         classes,
@@ -56,6 +60,17 @@ pub fn add_path<B: ResidualBounds>(
         return Ok(());
     }
     add_way(alloc, found, search, markets, &flown, true)
+}
+
+/// The same groups.
+fn copied(alloc: Global, groups: &[Prospect]) -> Result<List<Prospect>, Mem>
+    ensures { IfOk result (λ ps. ps ≡ groups.now) }
+{
+    let mut copy = Vec::with_capacity(alloc, groups.len())?;
+    for group in groups {
+        copy.push(*group)?;
+    }
+    Ok(List::from_vec(copy))
 }
 
 /// Adds the moves on a path that are within the limit, with the fares that are filed from its beginning

@@ -1,43 +1,36 @@
--- Where the groups of a carrier stand among others.
-use Rattle.std.proofs.Common.{◌≡◌, ℕ, zero, suc, ◌+◌, ◌<◌, ◌≤◌, List, length, get_or, slice_get, Some, sym, ap, ◌∙◌, inl, inr, arith}
+-- The fare of a component is filed between its ends.
+use Rattle.std.proofs.Common.{◌≡◌, Bool, true, false, MatchBool, sym, ap, subst, ◌∙◌}
+use Rattle.fare_book.specs.Keeping.{NoFare}
+use Rattle.fare_ends.specs.Reaches.{end_from, end_to}
+use Rattle.fare_law.specs.declared.names.Place.{Place}
+use Rattle.fare_law.specs.declared.requests.Request.{Request}
+use Rattle.fare_law.specs.Book.{Book, live_fare}
+use Rattle.fare_law.specs.Lists.{AllDifferent, Each, IsIn}
 use Rattle.fare_groups.specs.declared.group.FareGroup.{FareGroup}
-use Rattle.fare_law.specs.declared.names.Carrier.{Carrier}
-use Rattle.law_lemmas.proofs.Lists.{got_within, read_got}
-use Rattle.law_lemmas.proofs.Numbers.{here_or_before}
-use Rattle.law_lemmas.proofs.Options.{some_one}
+use Rattle.fare_groups.specs.declared.group.GroupKey.{GroupKey}
+use Rattle.flight_paths.specs.declared.positions.Position.{Position}
+use Rattle.law_lemmas.proofs.Options.{not_both}
+use Rattle.outlines.specs.declared.outline.Outline.{Outline}
+use Rattle.outlines.specs.Outlines.{Outlined}
+use Rattle.std.proofs.Common.{ℕ, ◌≢◌, List, [], ◌∷◌, map, inl, inr}
 
--- none of the first groups is of the carrier
-abbrev pub NoneBefore : List FareGroup → Carrier → ℕ → Type 0
-NoneBefore gs carrier n = (i : ℕ) (g : FareGroup) → i < n → slice_get gs i ≡ Some g → g.key.carrier ≡ carrier → ⊥
+-- so some fare is filed its way
+pub filed_some : (b : Book) (q : Request) (at : Position) (o : Outline) (price : ℕ) (h : Outlined b q at o price) (begin end : Place) → h.piece.begin ≡ begin → h.piece.end ≡ end → NoFare b (end_from o.reverse begin end) (end_to o.reverse begin end) → ⊥
+filed_some b q at o price h begin end begin_is end_is none = go h.piece.reverse h.stands.filed (subst (λ r. NoFare b (end_from r begin end) (end_to r begin end)) h.outline.reverse none)
+  where
+    go : (r : Bool) → MatchBool r ((h.piece.fare.key.from ≡ h.piece.end) × (h.piece.fare.key.to ≡ h.piece.begin)) ((h.piece.fare.key.from ≡ h.piece.begin) × (h.piece.fare.key.to ≡ h.piece.end)) → NoFare b (end_from r begin end) (end_to r begin end) → ⊥
+    go true f n = not_both (live_fare b h.piece.fare.key) h.piece.fare h.stands.fare (n h.piece.fare.key (f.0 ∙ end_is) (f.1 ∙ begin_is))
+    go false f n = not_both (live_fare b h.piece.fare.key) h.piece.fare h.stands.fare (n h.piece.fare.key (f.0 ∙ begin_is) (f.1 ∙ end_is))
 
--- those of the first groups that are of the carrier stand before this place
-abbrev pub PastBefore : List FareGroup → Carrier → ℕ → ℕ → Type 0
-PastBefore gs carrier n past = (i : ℕ) (g : FareGroup) → i < n → slice_get gs i ≡ Some g → g.key.carrier ≡ carrier → i < past
+differs : (x : FareGroup) (gs : List FareGroup) → Each (λ (k : GroupKey). x.key ≢ k) (map (λ (g : FareGroup). g.key) gs) → (y : FareGroup) → IsIn y gs → x.key ≡ y.key → ⊥
+differs x [] a y i e = i
+differs x (g ∷ gs) a y (inl s) e = a.0 (e ∙ ap (λ (z : FareGroup). z.key) s)
+differs x (g ∷ gs) a y (inr i) e = differs x gs a.1 y i e
 
-module _ (gs : List FareGroup) (carrier : Carrier) where
-  -- the group at this place is read
-  read_is : (n : ℕ) (d x g : FareGroup) → n < length gs → x ≡ get_or gs n d → slice_get gs n ≡ Some g → x ≡ g
-  read_is n d x g lt e got = some_one (slice_get gs n) x g (read_got gs n d x lt e) got
-
-  pub none_more : (n : ℕ) (d x : FareGroup) → n < length gs → x ≡ get_or gs n d → (x.key.carrier ≡ carrier → ⊥) → NoneBefore gs carrier n → NoneBefore gs carrier (n + 1)
-  none_more n d x lt e other h i g l got own = elim (here_or_before i n l) [
-    | inl k ↦ h i g k got own
-    | inr s ↦ other (ap (λ (y : FareGroup). y.key.carrier) (read_is n d x g lt e (ap (slice_get gs) (sym s) ∙ got)) ∙ own)
-  ]
-
-  pub none_at : (n i : ℕ) (g : FareGroup) → NoneBefore gs carrier n → slice_get gs i ≡ Some g → g.key.carrier ≡ carrier → n ≤ i
-  none_at n i g h got own = not_lt n i (λ l. h i g l got own)
-    where
-      not_lt : (n i : ℕ) → (i < n → ⊥) → n ≤ i
-      not_lt zero i h = omega arith
-      not_lt (suc n) zero h = absurd (h (omega arith))
-      not_lt (suc n) (suc i) h = let le = not_lt n i (λ l. h (omega (arith, l))) in omega (arith, le)
-
-  pub past_other : (n past : ℕ) (d x : FareGroup) → n < length gs → x ≡ get_or gs n d → (x.key.carrier ≡ carrier → ⊥) → PastBefore gs carrier n past → PastBefore gs carrier (n + 1) past
-  past_other n past d x lt e other h i g l got own = elim (here_or_before i n l) [
-    | inl k ↦ h i g k got own
-    | inr s ↦ absurd (other (ap (λ (y : FareGroup). y.key.carrier) (read_is n d x g lt e (ap (slice_get gs) (sym s) ∙ got)) ∙ own))
-  ]
-
-  pub past_all : (n past : ℕ) (i : ℕ) (g : FareGroup) → length gs ≤ n → PastBefore gs carrier n past → slice_get gs i ≡ Some g → g.key.carrier ≡ carrier → i < past
-  past_all n past i g long h got own = let lt = got_within gs i g got in h i g (omega (arith, lt, long)) got own
+-- groups of a sheet that have one key are one
+pub one_group : (gs : List FareGroup) → AllDifferent (map (λ (g : FareGroup). g.key) gs) → (x y : FareGroup) → IsIn x gs → IsIn y gs → x.key ≡ y.key → x ≡ y
+one_group [] a x y i j e = absurd i
+one_group (g ∷ gs) a x y (inl s) (inl t) e = s ∙ sym t
+one_group (g ∷ gs) a x y (inl s) (inr j) e = absurd (differs g gs a.0 y j (sym (ap (λ (z : FareGroup). z.key) s) ∙ e))
+one_group (g ∷ gs) a x y (inr i) (inl t) e = absurd (differs g gs a.0 x i (sym (ap (λ (z : FareGroup). z.key) t) ∙ sym e))
+one_group (g ∷ gs) a x y (inr i) (inr j) e = one_group gs a.1 x y i j e

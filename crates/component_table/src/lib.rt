@@ -1,36 +1,18 @@
-//! The table of a position: each outline that some component from there has, with its least price. The fares of a
-//! market stand in groups. These are found once for a search, as are the classes with seats on a flight, the tails of
-//! a slice, and those of the tails that a place needs.
+//! The table of a position: each outline that some component from there has, with its least price. What begins with a flight is
+//! found once for a leg of a slice, and the table of a position is the merge of what begins with each of its flights. The tails
+//! of a slice, and those of them that a place needs, are found once for a search.
+//!
+//! What begins with a flight: `begun` goes over the paths, `landed` prices groups of fares on those that end in their slice, and
+//! `crossing` joins those that cross into the next with its tails. What is found is put in by outlines with their least prices.
 #![tactic(auto)]
 
-mod adding;
-mod barring;
-mod classes;
-mod ends;
-mod filed;
-mod gaps;
-mod gathering;
-mod growing;
-mod kinds;
-mod markets;
-mod masks;
-mod narrowing;
+mod begun;
+mod crossing;
+mod landed;
 mod networks;
-mod recent;
-mod rows;
-mod same;
-mod scenes;
-mod serving;
-mod settled;
-mod skipping;
-mod spots;
+mod slice_tails;
 mod tables;
-mod tail_ends;
-mod visiting;
-mod ways;
 
-pub use markets::{Market, MarketKey, Markets};
-pub use masks::Masks;
+pub use fare_ends::{Market, MarketKey, Markets, Masks, same_position};
 pub use networks::{FareTails, Network, PlaceTails};
-pub use same::same_position;
 pub use tables::outlines_of;

@@ -1,37 +1,20 @@
 //! What is found once for a search, and kept for all its positions.
 ghost use Rattle.std.specs.Prelude.{◌<◌, ℕ, IfOk, IfSome};
-ghost use Rattle.component_table.specs.Networks.{AreGapsAt, ArePlaceTails, AreTailsAt, IsNetwork, TailsStand};
+ghost use Rattle.component_table.specs.Networks.{ArePlaceTails, IsNetwork, KeepsRoom, TailsStand};
 ghost use Rattle.component_table.specs.Tails.{FareTailsStand};
 ghost use Rattle.fare_law.specs.declared.names.Place.{Place as PlaceName};
 ghost use Rattle.fare_law.specs.declared.requests.Request.{Request as Asked};
 ghost use Rattle.fare_law.specs.Book.{Book as Version};
 
-use crate::gaps::CarrierGaps;
-use crate::gathering::schedule_of;
-use crate::kinds::{Kinds, kinds_of};
-use crate::markets::Markets;
-use crate::masks::Masks;
-use crate::narrowing::fare_tails;
-use crate::tail_ends::{TailEnds, ends_of};
+use crate::slice_tails::SliceTails;
+use crate::tables::TableRoom;
 use fare_book::Book;
+use fare_ends::{Markets, Masks, TableCase, ends_of, fare_tails, schedule_of};
 use fare_law::{List, Mem, Place, Request};
-use flight_paths::{Path, SomeTails, marks_of, tails};
+use flight_paths::{SomeTails, marks_of, tails};
 use indexmap::IndexMap;
+use joint_paths::{JoinEnds, classes_of_tails};
 use std::alloc::Global;
-use std::mem;
-
-/// The tails of a slice.
-#[derive(Drop)]
-pub struct SliceTails {
-    pub slice: u8,
-    pub paths: List<Path>,
-    /// The marks of the places where their flights arrive.
-    pub marks: List<u64>,
-    /// What is known of them.
-    pub kinds: Kinds,
-    /// Where they end.
-    pub ends: TailEnds,
-}
 
 /// The tails of a slice that end where a fare is filed from a place or to it.
 #[derive(Drop)]
@@ -42,16 +25,12 @@ pub struct FareTails {
     pub among: usize,
     /// Their numbers among those of the slice.
     pub numbers: List<usize>,
-    /// Those that the heads of a carrier don't need, by carriers, as far as they were asked for.
-    pub gaps: Vec<CarrierGaps>,
 }
 
-/// The tails of a slice that a place needs, and what is known of the tails of the slice, and where they end.
+/// The tails of a slice that a place needs.
 #[derive(Clone, Copy)]
 pub struct PlaceTails<'a> {
     pub some: SomeTails<'a>,
-    pub kinds: &'a Kinds,
-    pub ends: &'a TailEnds,
 }
 
 /// What the tails of a slice that a place needs are looked up by.
@@ -68,14 +47,10 @@ pub struct Network {
     pub masks: Masks,
     pub tails: Vec<SliceTails>,
     pub fare_tails: Vec<FareTails>,
-    /// How many more gaps may be kept.
-    pub room: usize,
     /// Where the tails of a slice that a place needs may stand.
     pub places: IndexMap<TailsKey, usize>,
+    pub room: TableRoom,
 }
-
-/// So many gaps are kept at most, but for those of one carrier: some 32 megabytes.
-const MOST_GAPS: usize = 4_000_000;
 
 impl Network {
     /// Nothing yet.
@@ -87,8 +62,8 @@ impl Network {
             masks: Masks::new(alloc),
             tails: Vec::new(alloc),
             fare_tails: Vec::new(alloc),
-            room: MOST_GAPS,
             places: IndexMap::new(alloc),
+            room: TableRoom::new(alloc),
         }
     }
 
@@ -102,6 +77,7 @@ impl Network {
     ) -> Result<usize, Mem>
         requires { IsNetwork book.now request.now self.old }
         ensures network { IsNetwork book.now request.now self.new }
+        ensures room { KeepsRoom self.old.room self.new.room }
         ensures tails { IfOk result (TailsStand self.new.tails.items slice) }
     {
         if let Some(at) = known(self.tails.as_slice(), slice) {
@@ -110,13 +86,24 @@ impl Network {
         let at = self.tails.len();
         let paths = tails(alloc, schedule_of(book), request, slice)?;
         let marks = marks_of(alloc, schedule_of(book), paths.as_slice())?;
-        let kinds = kinds_of(alloc, book, request, &mut self.masks, paths.as_slice())?;
         let ends = ends_of(alloc, book, paths.as_slice())?;
+        let case = TableCase {
+            alloc,
+            book,
+            request,
+        };
+        let classes = classes_of_tails(
+            &case,
+            &mut self.masks,
+            &mut self.room.known.positions,
+            paths.as_slice(),
+        )?;
         self.tails.push(SliceTails {
             slice,
             paths,
             marks,
-            kinds,
+            classes,
+            joins: JoinEnds::new(alloc),
             ends,
         })?;
         Ok(at)
@@ -149,7 +136,6 @@ impl Network {
             slice,
             among,
             numbers,
-            gaps: Vec::new(alloc),
         })?;
         Ok(at)
     }
@@ -159,7 +145,6 @@ impl Network {
         requires network { IsNetwork book.now request.now self.now }
         requires tails { (place : PlaceName) × (slice : ℕ) × FareTailsStand self.now.fare_tails.items place slice at }
         ensures tails { (place : PlaceName) (slice : ℕ) → FareTailsStand self.now.fare_tails.items place slice at → ArePlaceTails book.now request.now place slice result }
-        ensures at { AreTailsAt self.now at result }
     {
         let _ = book;
         let _ = request;
@@ -171,40 +156,6 @@ impl Network {
                 marks: slice.marks.as_slice(),
                 numbers: numbered.numbers.as_slice(),
             },
-            kinds: &slice.kinds,
-            ends: &slice.ends,
-        }
-    }
-
-    /// Takes the gaps of the tails that stand there, which then have none.
-    pub fn take_gaps(
-        &mut self,
-        alloc: Global,
-        book: &Book,
-        request: &Request,
-        at: usize,
-    ) -> Vec<CarrierGaps>
-        requires network { IsNetwork book.now request.now self.old }
-        requires tails { (place : PlaceName) × (slice : ℕ) × FareTailsStand self.old.fare_tails.items place slice at }
-        ensures network { IsNetwork book.now request.now self.new }
-        ensures tails { (place : PlaceName) (slice : ℕ) → FareTailsStand self.old.fare_tails.items place slice at → FareTailsStand self.new.fare_tails.items place slice at }
-        ensures gaps { AreGapsAt book.now request.now self.new at result.items }
-    {
-        let _ = book;
-        let _ = request;
-        mem::replace(&mut self.fare_tails[at].gaps, Vec::new(alloc))
-    }
-
-    /// Gives gaps to the tails that stand there.
-    pub fn put_gaps(&mut self, book: &Book, request: &Request, at: usize, gaps: Vec<CarrierGaps>)
-        requires network { IsNetwork book.now request.now self.old }
-        requires gaps { AreGapsAt book.now request.now self.old at gaps.items }
-        ensures network { IsNetwork book.now request.now self.new }
-    {
-        let _ = book;
-        let _ = request;
-        if at < self.fare_tails.len() {
-            self.fare_tails[at].gaps = gaps;
         }
     }
 }

@@ -1,9 +1,10 @@
 //! The search.
-ghost use Rattle.std.specs.Prelude.{IfErr, IfOk, OnOk, ◌≡◌};
+ghost use Rattle.std.specs.Prelude.{IfErr, IfOk, None, OnOk, ◌≡◌};
 ghost use Rattle.certificate.specs.Checks.{Checks};
 ghost use Rattle.fare_component.specs.Keys.{Asked, asked};
 ghost use Rattle.fare_law.specs.declared.market.OfferKey.{OfferKey};
 ghost use Rattle.fare_law.specs.Limits.{IsRequest};
+ghost use Rattle.fare_law.specs.Requests.{judged, known_places};
 ghost use Rattle.graph_walk.specs.Steps.{AreLive, rows_of};
 ghost use Rattle.pricing_graph.specs.Graphs.{IsGraph};
 ghost use Rattle.residual_keys.specs.AskedKeys.{Keys};
@@ -41,10 +42,31 @@ pub fn search<O: OfferSource>(
     ensures stays { (a : Asked) → O.settled offers.old a → O.settled offers.new a }
 {
     request_ok(book, request)?;
-    answers_meet_checks(book, request);
     let mut steps = SearchSteps::new(alloc, book, request);
-    let graph = Graph::build(alloc, budget, &mut steps, offers)?;
-    Ok(answer_by(alloc, &graph, &mut steps)?)
+    searched(alloc, budget, &mut steps, offers)
+}
+
+/// The answer of a request that is right, with the steps of its search.
+fn searched<O: OfferSource>(
+    alloc: Global,
+    budget: u32,
+    steps: &mut SearchSteps,
+    offers: &mut O,
+) -> Result<Answer, SearchFault>
+    requires request { IsRequest steps.old.case.request.now }
+    requires right { judged (known_places steps.old.case.book.now) steps.old.case.request.now ≡ None }
+    ensures answer { IfOk result (IsAnswer steps.old.case.book.now steps.old.case.request.now) }
+    ensures checks { IfOk result (λ a. Checks a.certificate steps.old.case.book.now steps.old.case.request.now) }
+    ensures fits { OnOk result (Searchable steps.old.case.book.now steps.old.case.request.now budget) }
+    ensures cause { IfErr result (HasCause steps.old.case.book.now steps.old.case.request.now budget) }
+    ensures settled { OnOk result ((key : OfferKey) → Keys steps.old.case.book.now steps.old.case.request.now key → O.settled offers.new (asked key)) }
+    ensures base { O.base offers.new ≡ O.base offers.old }
+    ensures stays { (a : Asked) → O.settled offers.old a → O.settled offers.new a }
+{
+    let case = steps.case();
+    answers_meet_checks(case.book, case.request);
+    let graph = Graph::build(alloc, budget, steps, offers)?;
+    Ok(answer_by(alloc, &graph, steps)?)
 }
 
 /// The answer of a graph with its steps.

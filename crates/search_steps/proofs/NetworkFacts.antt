@@ -2,8 +2,9 @@
 use Rattle.std.proofs.Common.{◌≡◌, ℕ, get_or, subst, sym, ◌∙◌}
 use Rattle.cheap_moves.specs.Tails.{AreTailsOver as AreTailsFor}
 use Rattle.component_table.specs.declared.networks.Network.{Network}
-use Rattle.component_table.specs.declared.networks.SliceTails.{SliceTails}
-use Rattle.component_table.specs.Networks.{AreTailsOver, IsNetwork, TailsStand}
+use Rattle.component_table.specs.declared.slice_tails.SliceTails.{SliceTails}
+use Rattle.component_table.specs.Networks.{IsNetwork, TailsStand}
+use Rattle.fare_ends.specs.Tails.{AreTailsOver}
 use Rattle.fare_law.specs.declared.requests.Request.{Request}
 use Rattle.fare_law.specs.Book.{Book}
 use Rattle.law_lemmas.proofs.EachOne.{each_got}

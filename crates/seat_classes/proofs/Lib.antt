@@ -1,3 +1,4 @@
+pub mod NameOrder
 pub mod SeatKeys
 pub mod HeldLemmas
 pub mod GivenLemmas

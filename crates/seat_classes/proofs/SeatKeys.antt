@@ -1,13 +1,14 @@
 -- Seat keys, compared and tested: each tells whether two keys are equal. What comparisons tell is given on to the crates above.
-use Rattle.std.proofs.Common.{◌≡◌, ◌&&◌, ℕ, ℤ, true, List, Option, Some, None, Decides, refl, ap, sym, subst, ◌∙◌}
+use Rattle.std.proofs.Common.{◌≡◌, ◌&&◌, ℕ, ℤ, true, List, Option, Some, None, Decides, refl, ap, sym, ◌∙◌}
 use Rattle.std.specs.Cmp.{IsEquivalence}
 use Rattle.std.specs.Cmp.Lexicographic.{slice_cmp}
 use Rattle.std.specs.Option.{option_cmp}
 use Rattle.std.specs.Ordering.{MatchOrdering, int_cmp, is_eq, nat_cmp, ordering_then}
 use Rattle.std.specs.declared.cmp.Ordering.{Ordering}
 use Rattle.std.specs.declared.cmp.Ordering.TheVariants.{Less as Lower, Equal, Greater}
-use Rattle.std.proofs.lemmas.Bool.Decides.{Decides-like, Decides-and, same_from_decides}
+use Rattle.std.proofs.lemmas.Bool.Decides.{Decides-like, same_from_decides}
 use Rattle.std.proofs.lemmas.Cmp.{int_cmp_total, int_ranked, nat_cmp_total, nat_list_cmp_total, ranked, tied_itself}
+use Rattle.seat_classes.specs.Names.{compare_letters, flight_code, names_total, place_code}
 use Rattle.seat_classes.specs.contracts.row_name.RowNameOrd.TheImpl as name
 use Rattle.fare_law.specs.declared.filings.SeatKey.{SeatKey}
 use Rattle.fare_law.specs.Book.{same_seat_key}
@@ -43,18 +44,27 @@ then_eq Lower r = refl
 then_eq Equal r = refl
 then_eq Greater r = refl
 
+both_tied : (o r : Ordering) → is_eq (ordering_then o r) ≡ true → (is_eq o ≡ true) × (is_eq r ≡ true)
+both_tied Lower r t = absurd (cc)
+both_tied Equal r t = (refl, t)
+both_tied Greater r t = absurd (cc)
+
 -- ---- keys
 keys_tell : (a b : SeatKey) → Decides (is_eq (name.ghosts.cmp a b)) (a ≡ b)
-keys_tell a b =
-    let c = slice_cmp nat_cmp a.carrier.0 b.carrier.0 in
-    let n = nat_cmp a.number b.number in
-    let f = slice_cmp nat_cmp a.from.0 b.from.0 in
-    let d = option_cmp int_cmp a.day b.day in
-    let parts : is_eq (ordering_then c (ordering_then n (ordering_then f d))) ≡ (is_eq c && (is_eq n && (is_eq f && is_eq d))) =
-    then_eq c (ordering_then n (ordering_then f d)) ∙ ap (λ x. is_eq c && x) (then_eq n (ordering_then f d) ∙ ap (λ x. is_eq n && x) (then_eq f d)) in
-    subst (λ x. Decides x (a ≡ b)) (sym parts)
-    (Decides-like _ (λ e. seat_key_whole a b (carrier_whole _ _ e.0) e.1.0 (place_whole _ _ e.1.1.0) e.1.1.1) (λ e. (ap (λ x. x.carrier.0) e, (ap (λ x. x.number) e, (ap (λ x. x.from.0) e, ap (λ x. x.day) e))))
-    (Decides-and _ _ (words_tell a.carrier.0 b.carrier.0) (Decides-and _ _ (numbers_tell a.number b.number) (Decides-and _ _ (words_tell a.from.0 b.from.0) (days_tell a.day b.day)))))
+keys_tell a b = (whole, λ e. ap is_eq (ap (name.ghosts.cmp a) (sym e) ∙ tied_itself names_total a))
+  where
+    by_letters : is_eq (option_cmp int_cmp a.day b.day) ≡ true → is_eq (compare_letters a b) ≡ true → a ≡ b
+    by_letters day tied =
+        let letters = both_tied (slice_cmp nat_cmp a.carrier.0 b.carrier.0) (ordering_then (nat_cmp a.number b.number) (slice_cmp nat_cmp a.from.0 b.from.0)) tied in
+        let rest = both_tied (nat_cmp a.number b.number) (slice_cmp nat_cmp a.from.0 b.from.0) letters.1 in
+        seat_key_whole a b (carrier_whole _ _ ((words_tell a.carrier.0 b.carrier.0).0 letters.0)) ((numbers_tell a.number b.number).0 rest.0) (place_whole _ _ ((words_tell a.from.0 b.from.0).0 rest.1)) ((days_tell a.day b.day).0 day)
+
+    whole : is_eq (name.ghosts.cmp a b) ≡ true → a ≡ b
+    whole tied =
+        let days = ordering_then (option_cmp int_cmp a.day b.day) (compare_letters a b) in
+        let places = both_tied (nat_cmp (flight_code a) (flight_code b)) (ordering_then (nat_cmp (place_code a) (place_code b)) days) tied in
+        let rest = both_tied (option_cmp int_cmp a.day b.day) (compare_letters a b) (both_tied (nat_cmp (place_code a) (place_code b)) days places.1).1 in
+        by_letters rest.0 rest.1
 
 -- comparing as equal is the law's test
 pub keys_compared : (λ (a b : SeatKey). is_eq (name.ghosts.cmp a b)) ≡ same_seat_key

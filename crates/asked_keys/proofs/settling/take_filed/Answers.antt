@@ -1,7 +1,7 @@
 use Rattle.std.proofs.Common.{◌≡◌, ◌≤◌, MatchOption, ap, length, subst, sym, vec_len, ◌∙◌, arith}
 use Rattle.asked_keys.proofs.TakenKeys.{key_of_market, way_some}
-use Rattle.component_table.specs.declared.markets.Market.{Market}
-use Rattle.component_table.specs.Markets.{IsMarket, StandsAt}
+use Rattle.fare_ends.specs.declared.markets.Market.{Market}
+use Rattle.fare_ends.specs.Markets.{IsMarket, StandsAt}
 use Rattle.fare_book.specs.Keeping.{NoFare}
 use Rattle.residual_keys.specs.AskedKeys.{IsKey}
 use Rattle.residual_keys.specs.Steps.{MarketOver}

@@ -51,9 +51,10 @@ loop-path-preserved g c =
         tails = before.network.tails;
         marks = before.network.marks;
         masks = before.network.masks;
-        kinds = before.network.kinds;
         ends = before.network.ends;
+        slices = before.network.slices;
         fare_tails = before.network.fare_tails;
+        room = before.network.room;
       };
       base = now.base ∙ before.base;
       stays = λ a h. now.stays a (before.stays a h);

@@ -6,5 +6,5 @@ use Rattle.cheap_moves.proofs.hopes.add_lead.Goals as goal
 
 pub returns : goal.returns
 returns c =
-    lead_added start.ghosts.eq place.ghosts.eq class.ghosts.eq c.args.limit c.args.lead.now c.args.hopes.now (record { leads = c.push.new.self; starts = c.mark.new.marks; ends = c.mark-2.new.marks; classes = c.mark-3.new.marks }) c.start_of.result c.class_of.result c.mark-3.result
-    c.in_ok-push.ensures.items c.start_of.ensures c.class_of.ensures c.in_ok-mark.ensures.has c.in_ok-mark.ensures.keeps c.in_ok-mark-2.ensures.has c.in_ok-mark-2.ensures.keeps c.mark-3.ensures.has c.mark-3.ensures.keeps
+    lead_added start.ghosts.eq place.ghosts.eq class.ghosts.eq c.args.limit c.args.lead.now c.args.hopes.now (record { starts = c.mark.new.marks; ends = c.mark-2.new.marks; classes = c.add_group.new.classes }) c.start_of.result c.class_of.result c.prospect_of-group.result
+    c.add_group.result c.start_of.ensures c.class_of.ensures c.prospect_of-group.ensures c.in_ok-mark.ensures.has c.in_ok-mark.ensures.keeps c.in_ok-mark-2.ensures.has c.in_ok-mark-2.ensures.keeps c.add_group.ensures

@@ -3,7 +3,7 @@ use Rattle.cheap_moves.specs.contracts.hopes.PathClassPartialEq.TheImpl as class
 use Rattle.cheap_moves.specs.contracts.hopes.PathStartPartialEq.TheImpl as start
 use Rattle.cheap_moves.specs.Hopes.{AreHopes}
 use Rattle.cheap_moves.specs.LeastMoves.{AreKept, CountsOn}
-use Rattle.component_table.specs.Markets.{AreMarkets}
+use Rattle.fare_ends.specs.Markets.{AreMarkets}
 use Rattle.fare_law.specs.contracts.names.PlacePartialEq.TheImpl as place
 use Rattle.cheap_moves.proofs.listing.least_within.Given as goal
 

@@ -1,7 +1,7 @@
 use Rattle.std.proofs.Common.{MatchOption, Some, ap, subst, sym, ◌∙◌}
 use Rattle.cheap_moves.proofs.MarketMoves.{no_market}
 use Rattle.cheap_moves.proofs.PathMoves.{market_over}
-use Rattle.component_table.specs.Markets.{StandsAt}
+use Rattle.fare_ends.specs.Markets.{StandsAt}
 use Rattle.fare_book.specs.Keeping.{NoFare}
 use Rattle.residual_keys.specs.Steps.{MarketOver}
 use Rattle.law_lemmas.proofs.Lists.{got_is}

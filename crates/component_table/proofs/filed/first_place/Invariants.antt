@@ -1,5 +1,0 @@
-use Rattle.component_table.proofs.FiledFacts.{NoneBefore}
-use Rattle.component_table.proofs.filed.first_place.Given as goal
-
-abbrev pub invariant-loop-at : goal.invariant-loop-at
-invariant-loop-at l = NoneBefore l.groups l.carrier l.at

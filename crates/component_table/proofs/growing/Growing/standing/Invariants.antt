@@ -1,4 +1,0 @@
-use Rattle.component_table.proofs.growing.Growing.standing.Given as goal
-
-abbrev pub decreases-loop-end : goal.decreases-loop-end
-decreases-loop-end l = l.end

@@ -1,0 +1,13 @@
+pub mod Halves
+pub mod Begins
+pub mod Legs
+pub mod Floors
+pub mod OpenPaths
+pub mod Markets
+pub mod Masks
+pub mod Reaches
+pub mod NumberedFlights
+pub mod Rungs
+pub mod Rules
+pub mod Ends
+pub mod Tails

@@ -1,0 +1,14 @@
+pub mod Ranged
+pub mod InOrder
+pub mod HeadFacts
+pub mod CallFacts
+pub mod OpenFacts
+pub mod SaidFacts
+pub mod CostFacts
+pub mod FreeFacts
+pub mod JoinFacts
+pub mod FitFacts
+pub mod RuledFacts
+pub mod PairFacts
+pub mod SeekSteps
+pub mod JoinSteps

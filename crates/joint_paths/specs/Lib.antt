@@ -1,0 +1,9 @@
+pub mod Said
+pub mod Costs
+pub mod Heads
+pub mod Tails
+pub mod Ordered
+pub mod JoinEnds
+pub mod Fits
+pub mod Ruled
+pub mod Joins
