@@ -39,7 +39,7 @@ copy=$(mktemp -d)
 trap 'rm -rf "$copy"' EXIT
 tar --exclude='crates/*/out' -cf - crates crates.txt HANDLES edits | tar -xf - -C "$copy"
 # What `rt ci` keeps of these sources on this machine needs no second proof.
-python3 docs/authors/kept-libraries "$copy" 2>/dev/null || true
+python3 docs/authors/kept-libraries "$copy" ${names[@]+"${names[@]}"} 2>/dev/null || true
 mapfile -t batches < <(python3 edits/verdicts.py due "$copy" ${anew[@]+"${anew[@]}"} ${names[@]+"${names[@]}"})
 if [ ${#batches[@]} -eq 0 ]; then
   echo 'the verdict of each edit is of its crate as it stands'

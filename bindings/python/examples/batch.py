@@ -102,8 +102,7 @@ def main() -> int:
     cluster = LocalCluster(n_workers=given.workers, threads_per_worker=1, processes=True, dashboard_address=None)
     with cluster, Client(cluster) as client:
         # Each worker opens its book before the clock starts.
-        for done in client.map(price, [case] * given.workers, [log] * given.workers, [[]] * given.workers, pure=False):
-            done.result()
+        client.run(price, case, log, [])
         began = time.monotonic()
         waiting = as_completed(client.submit(price, case, log, piece, pure=False, retries=9) for piece in pieces)
         told: dict[int, str] = {}
