@@ -52,17 +52,18 @@ fn text_of(bytes: &[u8]) -> &str {
     str::from_utf8(bytes).unwrap_or("")
 }
 
-/// How many nodes the first desk builds for this script, which has two requests, and how many the others; none where it isn't done. Once the first desk has an answer, a fare of another market is
-/// filed.
+/// How many nodes the first desk builds for this script, which has two requests, and how many the others; none where it isn't done.
+/// Once the first desk has an answer, this is filed, where it is anything.
 fn built_for<R: Threads + Wait + Sync>(
     rt: &R,
     alloc: Global,
     script: &str,
+    later: &str,
 ) -> Result<(u64, u64), Mem> {
     let case = serve_case(
         alloc,
         ROUND_TRIP.book,
-        [ELSEWHERE, ""],
+        [later, ""],
         [ROUND_TRIP.request, ONE_WAY.request],
         script,
     )?;
@@ -75,32 +76,45 @@ fn built_for<R: Threads + Wait + Sync>(
     }
 }
 
-/// Scripts for which the first desk builds as many nodes as for its first search, and a second one none.
-const SCRIPTS: [(&str, &str); 4] = [
-    ("one search twice", "desks 1\n1 search 1\n1 search 1\n"),
+/// Scripts, with what is filed meanwhile, for which the first desk builds as many nodes as for one search by the first request, and a
+/// second one none. By the one in which nothing is filed the second request isn't taken for the first.
+const SCRIPTS: [(&str, &str, &str); 5] = [
+    (
+        "one search twice",
+        "desks 1\n1 search 1\n1 search 1\n",
+        ELSEWHERE,
+    ),
+    (
+        "another search first",
+        "desks 1\n1 search 2\n1 search 1\n",
+        "",
+    ),
     (
         "one search, another, and the first again",
         "desks 1\n1 search 1\n1 search 2\n1 search 1\n",
+        ELSEWHERE,
     ),
     (
         "the same of another version",
         "desks 1\n1 search 1\n1 wait 1\n1 search 1\n",
+        ELSEWHERE,
     ),
     (
         "two desks, each twice",
         "desks 2\n1 search 1\n2 wait 1\n2 search 1\n2 search 1\n1 search 1\n",
+        ELSEWHERE,
     ),
 ];
 
 /// How many nodes are built for one search and for several.
 fn of_nodes<R: Threads + Wait + Sync>(rt: &R, alloc: Global) -> Result<Vec<u8>, Mem> {
     let mut told = Vec::new(alloc);
-    let (once, _others) = built_for(rt, alloc, "desks 1\n1 search 1\n")?;
+    let (once, _others) = built_for(rt, alloc, "desks 1\n1 search 1\n", ELSEWHERE)?;
     let what = if once > 1 { "several" } else { "too few" };
     let line = format!(in alloc; "one search: {what} nodes\n")?;
     told.extend_from_slice(line.as_bytes())?;
-    for (name, script) in SCRIPTS {
-        let (first, others) = built_for(rt, alloc, script)?;
+    for (name, script, later) in SCRIPTS {
+        let (first, others) = built_for(rt, alloc, script, later)?;
         let what = if first == once && others == 0 {
             "as many"
         } else {
