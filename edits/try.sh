@@ -8,9 +8,9 @@
 #   edits/try.sh [--anew] COMMIT    of the crates whose files or edits differ from that commit's
 #   edits/try.sh [--anew] CRATE..   of these crates
 #
-# With --anew those are tried too whose verdict is up to date. Each takes ten to thirty seconds, and the first of a crate a whole
-# check where none is kept. It works at the lowest priority and with one job, or as many as RT_JOBS says, over a copy of the files
-# as they stand when it starts: so it can run for a night beside other work.
+# With --anew those are tried too whose verdict is up to date. A crate takes a whole check, in which most of its edits are tried
+# together (edits/together.py), and ten to sixty seconds for each check after it. It works at the lowest priority and with one job,
+# or as many as RT_JOBS says, over a copy of the files as they stand when it starts: so it can run for a night beside other work.
 set -euo pipefail
 top=$(dirname "$(dirname "$(readlink -f "${BASH_SOURCE[0]}")")")
 cd "$top"
@@ -40,14 +40,14 @@ trap 'rm -rf "$copy"' EXIT
 tar --exclude='crates/*/out' -cf - crates crates.txt HANDLES edits | tar -xf - -C "$copy"
 # What `rt ci` keeps of these sources on this machine needs no second proof.
 python3 docs/authors/kept-libraries "$copy" ${names[@]+"${names[@]}"} 2>/dev/null || true
-mapfile -t batches < <(python3 edits/verdicts.py due "$copy" ${anew[@]+"${anew[@]}"} ${names[@]+"${names[@]}"})
-if [ ${#batches[@]} -eq 0 ]; then
+mapfile -t lines < <(python3 edits/verdicts.py due "$copy" ${anew[@]+"${anew[@]}"} ${names[@]+"${names[@]}"})
+if [ ${#lines[@]} -eq 0 ]; then
   echo 'the verdict of each edit is of its crate as it stands'
   exit 0
 fi
-echo "$(for batch in "${batches[@]}"; do wc -w <<<"$batch"; done | awk '{ n += $1 - 1 } END { print n }') edits to try"
+echo "$(for line in "${lines[@]}"; do wc -w <<<"$line"; done | awk '{ n += $1 - 1 } END { print n }') edits to try"
 
-# So that each is tried beside no other than those of its batch.
+# So that no other edit is tried than those that are named.
 for folder in "$copy"/crates/*/must-fail; do
   [ -d "$folder" ] || continue
   crate=$(basename "$(dirname "$folder")")
@@ -56,22 +56,25 @@ for folder in "$copy"/crates/*/must-fail; do
   rm -r "$folder"
 done
 
-# Whether the crate is proved as it stands: over one that isn't, each edit would seem refused. The edits begin with what is kept here.
+# Whether the crate is proved as it stands: over one that isn't, each edit would seem refused.
 is_proved() {
+  # The mark of kept-libraries at what the gate proved.
+  if [ -e "$copy/crates/$1/out/rlib/of_gate" ]; then return; fi
   if (cd "$copy/crates/$1" && rt check --jobs "$RT_JOBS") >"$copy/checked" 2>&1; then return; fi
   tail -n 20 "$copy/checked"
   echo "$1: it isn't proved as it stands, so none of its edits is tried"
   return 1
 }
 
-# Tries some edits of a crate.
-try_batch() {
+# Tries some edits of a crate, each in a check of its own.
+try_alone() {
   local crate=$1 edit folder=$copy/crates/$1/must-fail
   shift
   rm -rf "$folder"
   mkdir "$folder"
   for edit in "$@"; do cp "$copy/edits/$crate/$edit.edit" "$folder"; done
   (cd "$copy" && rt must-fail "$crate" ${anew[@]+"${anew[@]}"}) >"$copy/said" 2>&1 || true
+  rm -rf "$folder"
   python3 edits/verdicts.py record . "$copy" "$crate" "$copy/said" || return
   if [ "$(grep -cE '^rt: must-fail [^ ]+: (refused|NOT REFUSED|BAD EDIT)' "$copy/said")" -ne $# ]; then
     echo "$crate: not each of its edits was tried: $(grep -E '^rt: .*NOT TRIED' "$copy/said" || tail -n 3 "$copy/said")"
@@ -79,14 +82,23 @@ try_batch() {
   fi
 }
 
-status=0 crate='' proved=''
-for batch in "${batches[@]}"; do
-  read -ra words <<<"$batch"
-  if [ "${words[0]}" != "$crate" ]; then
-    crate=${words[0]}
-    proved=1
-    is_proved "$crate" || proved=''
-  fi
-  if [ -z "$proved" ] || ! try_batch "${words[@]}"; then status=1; fi
+# Tries the edits of a crate, many in one check, and then those that such a check can't tell of.
+try_crate() {
+  local crate=$1 status=0 alone
+  shift
+  python3 edits/together.py "$copy" "$crate" "$@" >"$copy/together"
+  if ! python3 edits/verdicts.py record . "$copy" "$crate" "$copy/together"; then status=1; fi
+  read -ra alone < <(sed -n 's/^alone://p' "$copy/together")
+  while [ ${#alone[@]} -gt 0 ]; do
+    if ! try_alone "$crate" "${alone[@]:0:8}"; then status=1; fi
+    alone=("${alone[@]:8}")
+  done
+  return "$status"
+}
+
+status=0
+for line in "${lines[@]}"; do
+  read -ra words <<<"$line"
+  if ! is_proved "${words[0]}" || ! try_crate "${words[@]}"; then status=1; fi
 done
 exit "$status"

@@ -16,7 +16,7 @@ don't count, or a change of the lowest would make each verdict old at once. VERD
 
 An edit whose check was killed has no line, and is tried again.
 
-  verdicts.py due TOP [--anew] CRATE..     the edits that are to be tried, a crate and up to BATCH of its edits a line
+  verdicts.py due TOP [--anew] CRATE..     the edits that are to be tried, a crate and its edits a line
   verdicts.py record TOP FROM CRATE FILE   takes what `rt must-fail CRATE` wrote to FILE about the sources in the folder FROM
 """
 import fcntl
@@ -26,7 +26,6 @@ import pathlib
 import re
 import sys
 
-BATCH = 8
 REFUSED = "refused"
 SAID = re.compile(r"rt: must-fail (\w+)/([\w.-]+)\.edit: (refused, as it must be|NOT REFUSED|BAD EDIT)(.*)")
 # What `rt must-fail` says in brackets of a refusal that isn't the contract's.
@@ -77,12 +76,12 @@ def verdicts(top):
 
 
 def due(top, names, anew):
-    """The edits of these crates without a verdict on their crate as it stands, in batches."""
+    """The edits of these crates without a verdict on their crate as it stands, by crate."""
     known, sums = verdicts(top), Sums(top)
     for crate in (it for it in crates_with_edits(top) if it in names):
         left = [it for it, file in edits_of(top, crate).items() if anew or known.get((crate, it), ("",))[0] != sums.of(crate, file)]
-        for at in range(0, len(left), BATCH):
-            yield crate, left[at : at + BATCH]
+        if left:
+            yield crate, left
 
 
 def without_folders(text):

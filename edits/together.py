@@ -1,0 +1,213 @@
+#!/usr/bin/env python3
+"""Tries many edits of a crate in one check, for edits/try.sh, and says what becomes of each as `rt must-fail` would.
+
+A function is proved by itself, from its own contract and those of what it calls. So edits in the bodies of different functions don't
+touch one another's verdicts, and one check of the crate has all of them: an edit is refused where its function isn't proved any more.
+The checker doesn't try a function that calls one which isn't proved, so such edits wait for the next check, as a function's second
+edit does. What doesn't fit in, as an edit of a contract or of two functions, and an edit whose function is still proved, is to be
+tried alone.
+
+  together.py TOP CRATE EDIT..     TOP is a copy of the repository that it may change; the edits are those of TOP/edits/CRATE
+"""
+import os
+import pathlib
+import re
+import subprocess
+import sys
+
+FUNCTION = re.compile(r"^( *)(?:pub(?:\([a-z ]+\))? )?(?:const )?(?:unsafe )?fn (\w+)")
+IMPL = re.compile(r"^impl\b.*?\b(\w+)(?:<[^{]*>)?\s*(?:where\b.*|\{)?$")
+VERDICT = re.compile(r"^fn (\S+): (proved|not proved|no proof|could not tell)\b(.*)")
+WAITS = re.compile(r"[:;] it calls .* not proved$")
+PLACE = re.compile(r"^(?:note: )?(?:\./)?(\S+?):(\d+):\d+:")
+# What says only that a proof file names what the edit took away, as `rt must-fail` judges it.
+NAMES = re.compile(r"(note: )?(\./)?proofs/.*(has no field|is not in scope|has no `|was not admitted)")
+WAITING, ALONE = "waiting", "alone"
+BY_NAME = " (only because a proof file names what the edit took away)"
+
+
+class Body:
+    """The body of one function: its file below the crate, its name and lines, and the type that it is a method of, where it is one."""
+
+    def __init__(self, file, name, owner, first, start, last):
+        self.file, self.name, self.owner, self.first, self.start, self.last = file, name, owner, first, start, last
+
+    def module(self):
+        parts = list(pathlib.PurePath(self.file).with_suffix("").parts[1:])
+        return parts if parts not in (["lib"], ["main"]) else []
+
+    def is_named(self, path):
+        """Whether a path of the checker's, without the crate, may be this function's."""
+        inside = self.module()
+        if path[: len(inside)] != inside or path[-1] != self.name:
+            return False
+        between = path[len(inside) : -1]
+        return not between if self.owner is None else len(between) == 1 and self.owner in between[0]
+
+
+def bodies(file, text):
+    """The functions of a formatted file that have a body, the inner ones last."""
+    lines, found = text.split("\n"), []
+    owner = None
+    for at, line in enumerate(lines):
+        if line and not line[0].isspace():
+            named = IMPL.match(line)
+            owner = named[1] if named else None
+        head = FUNCTION.match(line)
+        if not head:
+            continue
+        indent = head[1]
+        start = at if line.endswith(" {") else next((it for it in range(at + 1, len(lines)) if lines[it] == indent + "{"), None)
+        # A signature over several lines ends with its brace.
+        broken = next((it for it in range(at + 1, len(lines)) if lines[it].startswith(indent + ")")), None)
+        if not line.endswith(" {") and "(" in line and ")" not in line and broken is not None and lines[broken].endswith("{"):
+            start = broken
+        last = next((it for it in range(at, len(lines)) if lines[it] == indent + "}"), None)
+        if start is None or last is None or start > last:
+            continue
+        found.append(Body(file, head[2], owner if indent else None, at, start, last))
+    return found
+
+
+def pairs_of(edit):
+    """The file that an edit changes and its pairs of texts, or None where it changes several."""
+    file, old, pairs = None, None, []
+    for line in edit.read_text().split("\n"):
+        if line.startswith("file: "):
+            if file is not None and file != line[6:].strip():
+                return None
+            file = line[6:].strip()
+        elif line.startswith("old: "):
+            old = line[5:]
+        elif line.startswith("new:"):
+            pairs.append((old, line[4:].removeprefix(" ")))
+    return file, pairs
+
+
+def body_of(folder, edit):
+    """The one function in whose body the edit is, or None."""
+    found = pairs_of(edit)
+    if not found or not found[0].startswith("src/") or not (folder / found[0]).is_file():
+        return None
+    file, pairs = found
+    text = (folder / file).read_text()
+    inside = None
+    for old, _ in pairs:
+        if text.count(old) != 1:
+            return None
+        line = text[: text.index(old)].count("\n")
+        around = [it for it in bodies(file, text) if it.start <= line <= it.last]
+        if not around or inside is not None and around[-1].first != inside.first:
+            return None
+        inside = around[-1]
+    return inside
+
+
+def next_round(waiting):
+    """Of each function the first edit that waits, and the others."""
+    now, later, taken = [], [], set()
+    for edit, body in waiting:
+        place = body.file, body.first
+        (later if place in taken else now).append((edit, body))
+        taken.add(place)
+    return now, later
+
+
+def check(folder, tries):
+    """What the checker says of the crate with these edits; the files are put back."""
+    texts = {}
+    for edit, _ in tries:
+        file, pairs = pairs_of(edit)
+        text = texts.setdefault(file, (folder / file).read_text())
+        for old, new in pairs:
+            text = text.replace(old, new)
+        texts[file] = text
+    was = {file: (folder / file).read_text() for file in texts}
+    try:
+        for file, text in texts.items():
+            (folder / file).write_text(text)
+        words = ["rt", "check", "--jobs", os.environ.get("RT_JOBS", "1")]
+        ran = subprocess.run(words, cwd=folder, stdout=subprocess.PIPE, stderr=subprocess.STDOUT, errors="replace")
+        return ran.stdout
+    finally:
+        for file, text in was.items():
+            (folder / file).write_text(text)
+
+
+def told(said, crate):
+    """By each function's path: its verdict, whether only since another isn't proved, and the lines that say why."""
+    lines, notes, found = said.split("\n"), [], {}
+    errors = [(place[1], line) for line in lines if (place := PLACE.match(line)) and ": error" in line]
+    for line in lines:
+        verdict = VERDICT.match(line)
+        if verdict:
+            path = verdict[1].split("::")
+            if path[0] == crate:
+                own = "proofs/" + "/".join(path[1:]) + "/"
+                why = [it for file, it in errors if file.startswith(own)] + notes
+                found["::".join(path[1:])] = verdict[2], bool(WAITS.search(verdict[3])), why
+        if re.match(r"(fn|impl|struct|enum) ", line):
+            notes = []
+        elif line.startswith("note: ") and PLACE.match(line):
+            notes.append(line)
+    return found
+
+
+def judged(body, edit, crate, found):
+    """What this check says of an edit: its line, that it waits, or that it is to be tried alone."""
+    named = [it for it in found if body.is_named(it.split("::"))]
+    if len(named) != 1:
+        return ALONE
+    verdict, waits, why = found[named[0]]
+    if waits:
+        return WAITING
+    if verdict not in ("not proved", "no proof"):
+        return ALONE
+    first = next((it for it in why if not NAMES.match(it)), "")
+    by_name = f"{BY_NAME}: {why[0][:160]}" if why and not first else ""
+    return f"rt: must-fail {crate}/{edit.name}: refused, as it must be{by_name}{': ' * bool(first)}{first[:160]}"
+
+
+def settle(folder, crate, tries):
+    """The lines of these edits, those that wait, and those that are to be tried alone. Where the checker rejects the whole, by halves."""
+    found = told(check(folder, tries), crate)
+    if not found:
+        if len(tries) == 1:
+            return [], [], [tries[0][0]]
+        half = len(tries) // 2
+        one, other = settle(folder, crate, tries[:half]), settle(folder, crate, tries[half:])
+        return tuple(first + second for first, second in zip(one, other))
+    lines, waiting, alone = [], [], []
+    for edit, body in tries:
+        said = judged(body, edit, crate, found)
+        if said is WAITING:
+            waiting.append((edit, body))
+        elif said is ALONE:
+            alone.append(edit)
+        else:
+            lines.append(said)
+    return lines, waiting, alone
+
+
+def main(top, crate, *names):
+    top = pathlib.Path(top)
+    folder = top / "crates" / crate
+    edits = [top / "edits" / crate / f"{name}.edit" for name in names]
+    placed = [(edit, body_of(folder, edit)) for edit in edits]
+    alone = [edit for edit, body in placed if body is None]
+    waiting = [it for it in placed if it[1] is not None]
+    while waiting:
+        now, later = next_round(waiting)
+        lines, still, left = settle(folder, crate, now)
+        alone += left
+        for line in lines:
+            print(line, flush=True)
+        if len(still) == len(now):
+            alone += [edit for edit, _ in still]
+            still = []
+        waiting = still + later
+    print("alone:", *(it.stem for it in alone))
+
+
+if __name__ == "__main__":
+    main(*sys.argv[1:])
