@@ -1,15 +1,25 @@
 """Finds the proved program and runs a command of it over bytes.
 
-It is the one that the environment's LOWFARE names, else `./lowfare` of this repository, which proves the program where that has
-to be done yet and says so on standard error. A binding that calls the engine from Python would stand beside `Command`, with
-the same call `run`, and be chosen in `find`.
+It is the one that the environment's LOWFARE names; else the library that LOWFARE_LIBRARY names, or that `make_lib` built of these
+very sources, which runs the same commands in this process; else `./lowfare` of this repository, which proves the program where
+that has to be done yet and says so on standard error.
 """
+import functools
+import importlib
 import os
 import pathlib
 import subprocess
+import sys
+from collections.abc import Callable
 from dataclasses import dataclass
 
 TOP = pathlib.Path(__file__).resolve().parents[3]
+BINDING = str(TOP / "bindings" / "python")
+# The archive beside the shared library is the one that is kept by the sum of these sources and of the kit.
+IS_OF_THESE_SOURCES = """
+top=$PWD && source launch/proved.sh && source launch/library.sh && cmp -s "$(kept_library "$(library_sum)")" out/liblowfare.a &&
+  [ ! out/liblowfare.a -nt out/liblowfare.so ]
+"""
 
 DONE = 0
 REFUSED = 1
@@ -51,6 +61,43 @@ class Command:
         return Result(ran.returncode, ran.stdout.decode("utf-8", "replace"))
 
 
+@dataclass(frozen=True)
+class Library:
+    """The program as a call of the library, in this process."""
+
+    call: Callable[..., tuple[int, bytes]]
+
+    def run(self, words, given=b""):
+        """Runs the program with these words over these bytes."""
+        try:
+            status, text = self.call(words, given)
+        except MemoryError:
+            raise CannotRun(f"the library wanted memory and answered nothing; see {PAGE}") from None
+        return Result(status, text.decode("utf-8", "replace"))
+
+
+@functools.cache
+def is_built():
+    """Whether `make_lib` built the library of these very sources."""
+    if not (TOP / "out" / "liblowfare.so").exists():
+        return False
+    ran = subprocess.run(["bash", "-c", IS_OF_THESE_SOURCES], cwd=TOP, stdin=subprocess.DEVNULL, capture_output=True, check=False)
+    return ran.returncode == 0
+
+
+def library():
+    """The library, where it is there."""
+    if not os.environ.get("LOWFARE_LIBRARY") and not is_built():
+        return None
+    if BINDING not in sys.path:
+        sys.path.append(BINDING)
+    try:
+        return Library(importlib.import_module("lowfare").run)
+    except (OSError, AttributeError) as bad:
+        raise CannotRun(f"the library can't be used: {bad}; see docs/EMBEDDING.md") from None
+
+
 def find():
     """The program to run."""
-    return Command(os.environ.get("LOWFARE") or str(TOP / "lowfare"))
+    named = os.environ.get("LOWFARE")
+    return Command(named) if named else library() or Command(str(TOP / "lowfare"))
