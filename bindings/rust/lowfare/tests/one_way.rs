@@ -101,6 +101,12 @@ fn a_command_runs_over_memory() {
 }
 
 #[test]
+fn a_book_may_go_to_other_threads() {
+    fn crosses<T: Send + Sync>() {}
+    crosses::<Book>();
+}
+
+#[test]
 fn threads_share_a_book() {
     let book = one_way();
     let expected = example("one-way.out");
