@@ -1,8 +1,9 @@
 #!/usr/bin/env python3
 """Tries many edits of a crate in one check, for edits/try.sh, and says what becomes of each as `rt must-fail` would.
 
-A function is proved by itself, from its own contract and those of what it calls. So edits in the bodies of different functions don't
-touch one another's verdicts, and one check of the crate has all of them: an edit is refused where its function isn't proved any more.
+A function is proved by itself, or with those of its cycle, from its own contract and those of what it calls. So edits in the bodies of
+different functions don't touch one another's verdicts, and one check of the crate has all of them: an edit is refused where its
+function isn't proved any more.
 The checker doesn't try a function that calls one which isn't proved, so such edits wait for the next check, as a function's second
 edit does. What doesn't fit in, as an edit of a contract or of two functions, and an edit whose function is still proved, is to be
 tried alone.
@@ -14,9 +15,11 @@ import pathlib
 import re
 import subprocess
 import sys
+from dataclasses import dataclass
+from typing import Optional
 
 FUNCTION = re.compile(r"^( *)(?:pub(?:\([a-z ]+\))? )?(?:const )?(?:unsafe )?fn (\w+)")
-IMPL = re.compile(r"^impl\b.*?\b(\w+)(?:<[^{]*>)?\s*(?:where\b.*|\{)?$")
+CYCLE = re.compile(r"^ *#\[cycle\((\w+)\)\]")
 VERDICT = re.compile(r"^fn (\S+): (proved|not proved|no proof|could not tell)\b(.*)")
 WAITS = re.compile(r"[:;] it calls .* not proved$")
 PLACE = re.compile(r"^(?:note: )?(?:\./)?(\S+?):(\d+):\d+:")
@@ -26,11 +29,22 @@ WAITING, ALONE = "waiting", "alone"
 BY_NAME = " (only because a proof file names what the edit took away)"
 
 
+@dataclass(frozen=True)
 class Body:
-    """The body of one function: its file below the crate, its name and lines, and the type that it is a method of, where it is one."""
+    """The body of one function: its file below the crate, its name and lines, the type that it is a method of, and the cycle of calls
+    that it is proved with, where it is one or has one."""
 
-    def __init__(self, file, name, owner, first, start, last):
-        self.file, self.name, self.owner, self.first, self.start, self.last = file, name, owner, first, start, last
+    file: str
+    name: str
+    owner: Optional[str]
+    cycle: Optional[str]
+    first: int
+    start: int
+    last: int
+
+    def place(self):
+        """What is proved by itself."""
+        return self.cycle or (self.file, self.first)
 
     def module(self):
         parts = list(pathlib.PurePath(self.file).with_suffix("").parts[1:])
@@ -45,14 +59,27 @@ class Body:
         return not between if self.owner is None else len(between) == 1 and self.owner in between[0]
 
 
+def owner_of(head):
+    """The type of a head of an `impl` block."""
+    rest = head.removeprefix("impl")
+    if rest.startswith("<"):
+        depth = 0
+        for at, letter in enumerate(rest):
+            depth += (letter == "<") - (letter == ">" and rest[at - 1] != "-")
+            if depth == 0:
+                rest = rest[at + 1 :]
+                break
+    named = re.match(r"[&\s]*(?:\w+::)*(\w+)", rest.rpartition(" for ")[2])
+    return named[1] if named else None
+
+
 def bodies(file, text):
     """The functions of a formatted file that have a body, the inner ones last."""
     lines, found = text.split("\n"), []
     owner = None
     for at, line in enumerate(lines):
         if line and not line[0].isspace():
-            named = IMPL.match(line)
-            owner = named[1] if named else None
+            owner = owner_of(line) if re.match(r"impl\b", line) else None
         head = FUNCTION.match(line)
         if not head:
             continue
@@ -65,7 +92,8 @@ def bodies(file, text):
         last = next((it for it in range(at, len(lines)) if lines[it] == indent + "}"), None)
         if start is None or last is None or start > last:
             continue
-        found.append(Body(file, head[2], owner if indent else None, at, start, last))
+        cycle = next((named[1] for line in lines[max(0, at - 3) : at] if (named := CYCLE.match(line))), None)
+        found.append(Body(file, head[2], owner if indent else None, cycle, at, start, last))
     return found
 
 
@@ -97,7 +125,7 @@ def body_of(folder, edit):
             return None
         line = text[: text.index(old)].count("\n")
         around = [it for it in bodies(file, text) if it.start <= line <= it.last]
-        if not around or inside is not None and around[-1].first != inside.first:
+        if not around or inside not in (None, around[-1]):
             return None
         inside = around[-1]
     return inside
@@ -107,9 +135,8 @@ def next_round(waiting):
     """Of each function the first edit that waits, and the others."""
     now, later, taken = [], [], set()
     for edit, body in waiting:
-        place = body.file, body.first
-        (later if place in taken else now).append((edit, body))
-        taken.add(place)
+        (later if body.place() in taken else now).append((edit, body))
+        taken.add(body.place())
     return now, later
 
 
@@ -135,7 +162,7 @@ def check(folder, tries):
 
 
 def told(said, crate):
-    """By each function's path: its verdict, whether only since another isn't proved, and the lines that say why."""
+    """By each function's path: its verdict, whether only since another isn't proved, and the notes on it; and the errors by their files."""
     lines, notes, found = said.split("\n"), [], {}
     errors = [(place[1], line) for line in lines if (place := PLACE.match(line)) and ": error" in line]
     for line in lines:
@@ -143,26 +170,26 @@ def told(said, crate):
         if verdict:
             path = verdict[1].split("::")
             if path[0] == crate:
-                own = "proofs/" + "/".join(path[1:]) + "/"
-                why = [it for file, it in errors if file.startswith(own)] + notes
-                found["::".join(path[1:])] = verdict[2], bool(WAITS.search(verdict[3])), why
+                found["/".join(path[1:])] = verdict[2], bool(WAITS.search(verdict[3])), notes
         if re.match(r"(fn|impl|struct|enum) ", line):
             notes = []
         elif line.startswith("note: ") and PLACE.match(line):
             notes.append(line)
-    return found
+    return found, errors
 
 
-def judged(body, edit, crate, found):
+def judged(body, edit, crate, found, errors):
     """What this check says of an edit: its line, that it waits, or that it is to be tried alone."""
-    named = [it for it in found if body.is_named(it.split("::"))]
+    named = [it for it in found if body.is_named(it.split("/"))]
     if len(named) != 1:
         return ALONE
-    verdict, waits, why = found[named[0]]
+    verdict, waits, notes = found[named[0]]
     if waits:
         return WAITING
     if verdict not in ("not proved", "no proof"):
         return ALONE
+    own = f"proofs/{named[0]}/"
+    why = [line for file, line in errors if file.startswith(own) or body.cycle and f"/+{body.cycle}/" in file] + notes
     first = next((it for it in why if not NAMES.match(it)), "")
     by_name = f"{BY_NAME}: {why[0][:160]}" if why and not first else ""
     return f"rt: must-fail {crate}/{edit.name}: refused, as it must be{by_name}{': ' * bool(first)}{first[:160]}"
@@ -170,7 +197,7 @@ def judged(body, edit, crate, found):
 
 def settle(folder, crate, tries):
     """The lines of these edits, those that wait, and those that are to be tried alone. Where the checker rejects the whole, by halves."""
-    found = told(check(folder, tries), crate)
+    found, errors = told(check(folder, tries), crate)
     if not found:
         if len(tries) == 1:
             return [], [], [tries[0][0]]
@@ -179,7 +206,7 @@ def settle(folder, crate, tries):
         return tuple(first + second for first, second in zip(one, other))
     lines, waiting, alone = [], [], []
     for edit, body in tries:
-        said = judged(body, edit, crate, found)
+        said = judged(body, edit, crate, found, errors)
         if said is WAITING:
             waiting.append((edit, body))
         elif said is ALONE:
