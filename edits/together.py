@@ -6,17 +6,23 @@ different functions don't touch one another's verdicts, and one check of the cra
 function isn't proved any more.
 The checker doesn't try a function that calls one which isn't proved, so such edits wait for the next check, as a function's second
 edit does. What doesn't fit in, as an edit of a contract or of two functions, and an edit whose function is still proved, is to be
-tried alone.
+tried alone: their names are the last line that it prints. The verdicts are recorded after each check.
 
-  together.py TOP CRATE EDIT..     TOP is a copy of the repository that it may change; the edits are those of TOP/edits/CRATE
+  together.py TOP COPY CRATE EDIT..     COPY is a copy of the repository TOP that it may change; the edits are those of COPY/edits/CRATE
 """
 import os
 import pathlib
 import re
+import resource
 import subprocess
 import sys
 from dataclasses import dataclass
 from typing import Optional
+
+import verdicts
+
+# A check that takes longer is of an edit on which the prover finds no end.
+MOST_SECONDS = 1200
 
 FUNCTION = re.compile(r"^( *)(?:pub(?:\([a-z ]+\))? )?(?:const )?(?:unsafe )?fn (\w+)")
 CYCLE = re.compile(r"^ *#\[cycle\((\w+)\)\]")
@@ -154,8 +160,9 @@ def check(folder, tries):
         for file, text in texts.items():
             (folder / file).write_text(text)
         words = ["rt", "check", "--jobs", os.environ.get("RT_JOBS", "1")]
-        ran = subprocess.run(words, cwd=folder, stdout=subprocess.PIPE, stderr=subprocess.STDOUT, errors="replace")
-        return ran.stdout
+        limit = lambda: resource.setrlimit(resource.RLIMIT_CPU, (MOST_SECONDS, MOST_SECONDS))
+        how = {"stdout": subprocess.PIPE, "stderr": subprocess.STDOUT, "errors": "replace", "preexec_fn": limit}
+        return subprocess.run(words, cwd=folder, **how).stdout
     finally:
         for file, text in was.items():
             (folder / file).write_text(text)
@@ -216,10 +223,10 @@ def settle(folder, crate, tries):
     return lines, waiting, alone
 
 
-def main(top, crate, *names):
-    top = pathlib.Path(top)
-    folder = top / "crates" / crate
-    edits = [top / "edits" / crate / f"{name}.edit" for name in names]
+def main(top, copy, crate, *names):
+    top, copy = pathlib.Path(top), pathlib.Path(copy)
+    folder = copy / "crates" / crate
+    edits = [copy / "edits" / crate / f"{name}.edit" for name in names]
     placed = [(edit, body_of(folder, edit)) for edit in edits]
     alone = [edit for edit, body in placed if body is None]
     waiting = [it for it in placed if it[1] is not None]
@@ -227,8 +234,8 @@ def main(top, crate, *names):
         now, later = next_round(waiting)
         lines, still, left = settle(folder, crate, now)
         alone += left
-        for line in lines:
-            print(line, flush=True)
+        if lines:
+            verdicts.record(top, copy, crate, "\n".join(lines))
         if len(still) == len(now):
             alone += [edit for edit, _ in still]
             still = []

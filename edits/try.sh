@@ -86,8 +86,8 @@ try_alone() {
 try_crate() {
   local crate=$1 status=0 alone
   shift
-  python3 edits/together.py "$copy" "$crate" "$@" >"$copy/together"
-  if ! python3 edits/verdicts.py record . "$copy" "$crate" "$copy/together"; then status=1; fi
+  python3 edits/together.py . "$copy" "$crate" "$@" | tee "$copy/together" | sed '/^alone:/d'
+  if grep -qE '^[^ ]+: (let-through|bad|refused-by)' "$copy/together"; then status=1; fi
   read -ra alone < <(sed -n 's/^alone://p' "$copy/together")
   while [ ${#alone[@]} -gt 0 ]; do
     if ! try_alone "$crate" "${alone[@]:0:8}"; then status=1; fi

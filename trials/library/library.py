@@ -15,11 +15,12 @@ from lowfare.library import LIBRARY, Handle, take_text
 from survey import LATE, Survey, ran
 
 BUDGET = 100_000
-REFUSED = 1
+REFUSED, USAGE = 1, 2
 
 
 def parts_of(case):
-    """The text of the search case, its request, and the text of the section behind it, where there is one."""
+    """The text of the search case, its request, and the text of the section behind it, where there is one; without empty lines."""
+    case = b"".join(line + b"\n" for line in case.split(b"\n") if line)
     head, _, rest = case.partition(b"\n#request\n")
     request, _, rest = rest.partition(b"\n")
     last = rest.removesuffix(b"#end\n")
@@ -28,7 +29,12 @@ def parts_of(case):
 
 
 def option(words, name, default):
-    return int(words[words.index(name) + 1]) if name in words else default
+    """The value of an option in words that are a command line: `name value` or `name=value`."""
+    for word, value in zip(words, [*words[1:], ""]):
+        start, equals, rest = word.partition("=")
+        if start == name:
+            return int(rest if equals else value)
+    return default
 
 
 def on_book(words, case):
@@ -42,7 +48,7 @@ def on_book(words, case):
         "check": (LIBRARY.lowfare_check, [lines, len(lines)]),
         "verdict": (LIBRARY.lowfare_verdict, [lines, len(lines)]),
     }
-    if command not in calls or "--at" in words or command == "check" and best:
+    if command not in calls or option(words, "--at", None) is not None or command == "check" and best:
         return None
     call, more = calls[command]
     book, answer = Handle(), Handle()
@@ -63,14 +69,14 @@ def main(program, first, count, done):
         told = ran(program, words, case)
         if told == LATE:
             return ["the program took too long"], None
-        seen = outcomes(words, *told)
+        seen = list(outcomes(words, *told))
         status, text = run(words, case)
         found = {"run": (text, status)}
-        if told[1] != REFUSED and b"\r" not in case and words and words[0] in ("search", "calendar", "check", "verdict"):
+        if told[1] not in (REFUSED, USAGE) and b"\r" not in case:
             answer = on_book(words, case)
-            if answer is not None and told[1] != 2:
+            if answer is not None:
                 found["book"] = answer
-                seen = [*seen, f"on a book: {words[0]}"]
+                seen.append(f"on a book: {words[0]}")
         wrong = [name for name, answer in found.items() if answer != told]
         if not wrong:
             return seen, None
