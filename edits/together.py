@@ -2,11 +2,11 @@
 """Tries many edits of a crate in one check, for edits/try.sh, and says what becomes of each as `rt must-fail` would.
 
 A function is proved by itself, or with those of its cycle, from its own contract and those of what it calls. So edits in the bodies of
-different functions don't touch one another's verdicts, and one check of the crate has all of them: an edit is refused where its
-function isn't proved any more.
+different functions don't touch one another's verdicts, and one check of the crate has all of them: an edit is refused where a goal of
+its function isn't proved any more.
 The checker doesn't try a function that calls one which isn't proved, so such edits wait for the next check, as a function's second
-edit does. What doesn't fit in, as an edit of a contract or of two functions, and an edit whose function is still proved, is to be
-tried alone: their names are the last line that it prints. The verdicts are recorded after each check.
+edit does. What doesn't fit in, as an edit of a contract or of two functions, and an edit of which no goal tells, since its function
+is still proved or only a name is missing, is to be tried alone: their names are the last line that it prints. The verdicts are recorded after each check.
 
   together.py TOP COPY CRATE EDIT..     COPY is a copy of the repository TOP that it may change; the edits are those of COPY/edits/CRATE
 """
@@ -32,7 +32,6 @@ PLACE = re.compile(r"^(?:note: )?(?:\./)?(\S+?):(\d+):\d+:")
 # What says only that a proof file names what the edit took away, as `rt must-fail` judges it.
 NAMES = re.compile(r"(note: )?(\./)?proofs/.*(has no field|is not in scope|has no `|was not admitted)")
 WAITING, ALONE = "waiting", "alone"
-BY_NAME = " (only because a proof file names what the edit took away)"
 
 
 @dataclass(frozen=True)
@@ -62,7 +61,7 @@ class Body:
         if path[: len(inside)] != inside or path[-1] != self.name:
             return False
         between = path[len(inside) : -1]
-        return not between if self.owner is None else len(between) == 1 and self.owner in between[0]
+        return not between if self.owner is None else len(between) == 1 and between[0].startswith(self.owner)
 
 
 def owner_of(head):
@@ -146,6 +145,10 @@ def next_round(waiting):
     return now, later
 
 
+def limited():
+    resource.setrlimit(resource.RLIMIT_CPU, (MOST_SECONDS, MOST_SECONDS))
+
+
 def check(folder, tries):
     """What the checker says of the crate with these edits; the files are put back."""
     texts = {}
@@ -160,8 +163,7 @@ def check(folder, tries):
         for file, text in texts.items():
             (folder / file).write_text(text)
         words = ["rt", "check", "--jobs", os.environ.get("RT_JOBS", "1")]
-        limit = lambda: resource.setrlimit(resource.RLIMIT_CPU, (MOST_SECONDS, MOST_SECONDS))
-        how = {"stdout": subprocess.PIPE, "stderr": subprocess.STDOUT, "errors": "replace", "preexec_fn": limit}
+        how = {"stdout": subprocess.PIPE, "stderr": subprocess.STDOUT, "errors": "replace", "preexec_fn": limited}
         return subprocess.run(words, cwd=folder, **how).stdout
     finally:
         for file, text in was.items():
@@ -198,8 +200,8 @@ def judged(body, edit, crate, found, errors):
     own = f"proofs/{named[0]}/"
     why = [line for file, line in errors if file.startswith(own) or body.cycle and f"/+{body.cycle}/" in file] + notes
     first = next((it for it in why if not NAMES.match(it)), "")
-    by_name = f"{BY_NAME}: {why[0][:160]}" if why and not first else ""
-    return f"rt: must-fail {crate}/{edit.name}: refused, as it must be{by_name}{': ' * bool(first)}{first[:160]}"
+    # A name may be missing for another edit's sake.
+    return f"rt: must-fail {crate}/{edit.name}: refused, as it must be: {first[:160]}" if first else ALONE
 
 
 def settle(folder, crate, tries):

@@ -3,8 +3,9 @@
 
 usage: library.py PROGRAM FIRST COUNT DONE
 
-Each case goes through `lowfare_run`. Where the program takes it as it stands, without `--at`, the call on an open book that answers
-the same is compared too: a refusal names a line of the text that it is of, which there isn't the whole case.
+Each case goes through `lowfare_run`. Where the program takes it as it stands, without `--at`, without `--best` for a check and with no
+carriage return, the call on an open book that answers the same is compared too: a refusal names a line of the text that it is of, which
+there isn't the whole case.
 """
 import sys
 
