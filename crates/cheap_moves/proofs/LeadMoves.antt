@@ -25,7 +25,7 @@ use Rattle.law_lemmas.proofs.EachOne.{each_in}
 use Rattle.law_lemmas.proofs.Members.{in_left, in_right}
 use Rattle.law_lemmas.proofs.Options.{some_one}
 use Rattle.law_lemmas.proofs.Tests.{true_false}
-use Rattle.outlines.proofs.Growing.{places}
+use Rattle.residual_keys.proofs.RolesHad.{places}
 
 module _ (q : Request) (r : State) (bound : State → Option ℕ) (e : Entry) where
   way_is : (role : Role) (slot : ℕ) (next : Next) → EntryLeaves q r e role slot next → e.outline.reverse ≡ closes role

@@ -16,7 +16,7 @@ use Rattle.residual_keys.proofs.Adding.{adds_like, adds_none, adds_then}
 use Rattle.residual_keys.proofs.OneNext.{direction, units_one}
 use Rattle.law_lemmas.proofs.Options.{some_one}
 use Rattle.law_lemmas.proofs.Tests.{true_false}
-use Rattle.outlines.proofs.Growing.{places}
+use Rattle.residual_keys.proofs.RolesHad.{places}
 
 none_some : {X : Type 0} (o : Option X) (x : X) → o ≡ None → o ≡ Some x → ⊥
 none_some o x h k = cc

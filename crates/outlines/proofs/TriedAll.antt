@@ -1,5 +1,5 @@
 -- A position's table, tried in each role and slot, gives the outcomes of a residual there. Given on to the crates above.
-use Rattle.std.proofs.Common.{◌≡◌, ℕ, ◌≤◌, List, [], Some, refl, sym, subst, arith}
+use Rattle.std.proofs.Common.{◌≡◌, ℕ, ◌≤◌, List, Some, refl, sym, subst, arith}
 use Rattle.fare_law.specs.declared.moves.Role.{Role}
 use Rattle.fare_law.specs.declared.requests.Request.{Request}
 use Rattle.fare_law.specs.Book.{Book, live_rule}
@@ -7,7 +7,7 @@ use Rattle.fare_law.specs.Lists.{Each, IsIn}
 use Rattle.outlines.specs.declared.outline.Entry.{Entry}
 use Rattle.outlines.specs.declared.outline.Outcome.{Outcome}
 use Rattle.outlines.specs.declared.outline.Outline.{Outline}
-use Rattle.outlines.specs.Outcomes.{AreOutcomes, GivesOutcomes, Grows, HasRule, IsAttained, IsTried, LeastAreOutcomes, Tabled, TriedAreOutcomes}
+use Rattle.outlines.specs.Outcomes.{AreOutcomes, HasRule, IsAttained, IsTried, LeastAreOutcomes, Tabled}
 use Rattle.outlines.specs.Outlines.{Acts, Outlined, piece_of}
 use Rattle.outlines.proofs.ByOutline.{acts_all}
 use Rattle.residual_keys.specs.declared.residual.Chosen.{Chosen}
@@ -15,7 +15,6 @@ use Rattle.residual_keys.specs.Residuals.{State}
 use Rattle.residual_keys.specs.Steps.{IsChosen, Leaves}
 use Rattle.residual_keys.proofs.StepTaken.{whole}
 use Rattle.law_lemmas.proofs.EachOne.{each_from, each_in}
-use Rattle.law_lemmas.proofs.Numbers.{le_itself}
 use Rattle.law_lemmas.proofs.Options.{some_one}
 
 module _ (b : Book) (q : Request) (r : State) (table : List Entry) (outcomes : List Outcome) (rules : Each (HasRule b) table) (tabled : Tabled b q r.at table) (tried : (o : Outcome) → IsIn o outcomes → IsTried q r table o)
@@ -56,10 +55,3 @@ module _ (b : Book) (q : Request) (r : State) (table : List Entry) (outcomes : L
 
 pub least_are_outcomes : (b : Book) (q : Request) (r : State) → LeastAreOutcomes b q r
 least_are_outcomes b q r table outcomes rules tabled tried least = all_outcomes b q r table outcomes rules tabled tried least
-
-pub tried_are_outcomes : (b : Book) (q : Request) (r : State) → TriedAreOutcomes b q r
-tried_are_outcomes b q r table outcomes rules tabled are = least_are_outcomes b q r table outcomes rules tabled (λ o i. (are o).0 i) (λ t h. (t, (are t).1 h, refl, le_itself t.price))
-
--- what was added to none is the whole list
-pub grown_gives : (q : Request) (r : State) (table : List Entry) (outcomes : List Outcome) → Grows (IsTried q r table) [] outcomes → GivesOutcomes q r table outcomes
-grown_gives q r table outcomes g b rules tabled = tried_are_outcomes b q r table outcomes rules tabled (λ o. (λ i. (g.are o).0 (subst (IsIn o) g.joined i), λ t. subst (IsIn o) (sym g.joined) ((g.are o).1 t)))

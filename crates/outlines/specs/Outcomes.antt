@@ -59,15 +59,7 @@ pub record Grows (P : Outcome → Type 0) (old new : List Outcome) : Type 0 wher
   pub joined : new ≡ old ++ more
   pub are : (o : Outcome) → IsIn o more ↔ P o
 
--- A position's table, tried entry by entry in each role and slot, gives what a residual there leads to.
-abbrev pub TriedAreOutcomes : Book → Request → State → Type 0
-TriedAreOutcomes b q r = (table : List Entry) (outcomes : List Outcome) → Each (HasRule b) table → Tabled b q r.at table → ((o : Outcome) → IsIn o outcomes ↔ IsTried q r table o) → AreOutcomes b q r outcomes
-
--- the same of a list that has, for each outcome of a trial, one of the same next residual that costs no more
+-- A list of what a position's table gives, tried entry by entry in each role and slot, that has for each outcome of a trial one of the same next residual that costs no more, is what a residual there leads to.
 abbrev pub LeastAreOutcomes : Book → Request → State → Type 0
 LeastAreOutcomes b q r = (table : List Entry) (outcomes : List Outcome) → Each (HasRule b) table → Tabled b q r.at table → ((o : Outcome) → IsIn o outcomes → IsTried q r table o)
     → ((t : Outcome) → IsTried q r table t → (o : Outcome) × IsIn o outcomes × (o.next ≡ t.next) × (o.price ≤ t.price)) → AreOutcomes b q r outcomes
-
--- so it is with the outcomes of a table, whichever book it is of
-abbrev pub GivesOutcomes : Request → State → List Entry → List Outcome → Type 0
-GivesOutcomes q r table outcomes = (b : Book) → Each (HasRule b) table → Tabled b q r.at table → AreOutcomes b q r outcomes
