@@ -1,6 +1,6 @@
 -- The first of the best tickets is a cheapest one, and where the best are none there is no lawful ticket: for `cells_have_the_best`.
 use Rattle.std.proofs.Common.{◌≡◌, ℕ, ◌≤◌, ◌<◌, inl, inr, List, [], ◌∷◌, refl, subst, arith}
-use Rattle.calendar_law.specs.Cells.{CellHas, CellsLeast, LeastPrice, cell, over_days}
+use Rattle.fare_calendar.specs.Cells.{CellHas, CellsLeast, LeastPrice, cell, over_days}
 use Rattle.fare_calendar.specs.BestOfCells.{CellsAreEmpty, CellsCost, FirstCosts}
 use Rattle.fare_law.specs.declared.requests.Request.{Request}
 use Rattle.fare_law.specs.declared.tickets.Ticket.{Ticket}

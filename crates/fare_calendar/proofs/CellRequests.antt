@@ -3,7 +3,7 @@ use Rattle.std.proofs.Common.{◌≡◌, ℕ, ℤ, pos, ◌+ℤ◌, ◌≤ℤ◌
 use Rattle.std.specs.List.{list_all}
 use Rattle.std.proofs.lemmas.Bool.{and_parts}
 use Rattle.std.proofs.lemmas.Int.{ints}
-use Rattle.calendar_law.specs.Cells.{cell, in_days, two_slices}
+use Rattle.fare_calendar.specs.Cells.{cell, in_days, two_slices}
 use Rattle.fare_calendar.specs.declared.spans.Spans.{Spans}
 use Rattle.fare_calendar.specs.Calendars.{IsAsked, span_fits, spans_fit}
 use Rattle.fare_law.specs.declared.names.Place.{Place}

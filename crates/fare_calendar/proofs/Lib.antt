@@ -1,3 +1,4 @@
+pub mod Windows
 pub mod BestPrices
 pub mod CellRequests
 pub mod DayPairs

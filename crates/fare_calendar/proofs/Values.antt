@@ -1,6 +1,6 @@
 -- What a search's answer tells of a cell: for `calendar`.
 use Rattle.std.proofs.Common.{◌≡◌, ℕ, ℤ, List, [], ◌∷◌, map, sym, subst, arith}
-use Rattle.calendar_law.specs.Cells.{cell}
+use Rattle.fare_calendar.specs.Cells.{cell}
 use Rattle.fare_calendar.specs.declared.cell.Cell.{Cell}
 use Rattle.fare_calendar.specs.declared.cell.CellValue.{CellValue}
 use Rattle.fare_calendar.specs.CalendarText.{HasDates}

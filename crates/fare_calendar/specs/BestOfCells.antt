@@ -1,6 +1,6 @@
 -- What the cells of a calendar have to do with the best tickets over all their days.
 use Rattle.std.specs.Prelude.{◌≡◌, ℕ, ◌≤◌, ◌<◌, List, [], ◌∷◌}
-use Rattle.calendar_law.specs.Cells.{CellsLeast, cell}
+use Rattle.fare_calendar.specs.Cells.{CellsLeast, cell}
 use Rattle.fare_law.specs.declared.requests.Request.{Request}
 use Rattle.fare_law.specs.declared.tickets.Ticket.{Ticket}
 use Rattle.fare_law.specs.Best.{Best, Costs}

@@ -1,6 +1,6 @@
 -- The calendar of a request of two slices, and why there is none.
 use Rattle.std.specs.Prelude.{◌≡◌, ◌≢◌, ℕ, zero, suc, pos, ◌+ℤ◌, Bool, true, false, int_le, ◌&&◌, List, [], ◌∷◌, ◌++◌, length, map, flat_map, None, Some}
-use Rattle.calendar_law.specs.Cells.{cell}
+use Rattle.fare_calendar.specs.Cells.{cell}
 use Rattle.fare_calendar.specs.declared.cell.Cell.{Cell}
 use Rattle.fare_calendar.specs.declared.cell.CellValue.{CellValue}
 use Rattle.fare_calendar.specs.declared.cell.CellValue.TheVariants.{Price, NoTicket, TooLarge}

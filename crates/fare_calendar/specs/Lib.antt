@@ -1,3 +1,4 @@
+pub mod Cells
 pub mod Calendars
 pub mod CalendarText
 pub mod BestOfCells

@@ -1,6 +1,6 @@
 //! The request of a cell.
 ghost use Rattle.std.specs.Prelude.{◌≡◌, ◌≤ℤ◌, length, pos};
-ghost use Rattle.calendar_law.specs.Cells.{cell, in_days};
+ghost use Rattle.fare_calendar.specs.Cells.{cell, in_days};
 ghost use Rattle.fare_calendar.specs.Calendars.{span_fits, spans_fit};
 ghost use Rattle.fare_law.specs.Limits.{IsRequest, IsSlice};
 ghost use Rattle.fare_law.specs.Lists.{Each};

@@ -1,6 +1,6 @@
 //! The cells of a calendar, one search each.
 ghost use Rattle.std.specs.Prelude.{◌≡◌, ◌<◌, ◌++◌, ℕ, List as Items, [], ◌∷◌, length, map, None, IfOk, OnOk};
-ghost use Rattle.calendar_law.specs.Cells.{cell};
+ghost use Rattle.fare_calendar.specs.Cells.{cell};
 ghost use Rattle.fare_calendar.specs.Calendars.{HasValue, IsAsked, IsCell, value_told, with_backs};
 ghost use Rattle.fare_calendar.specs.CalendarText.{HasDates};
 ghost use Rattle.fare_law.specs.Limits.{IsRequest};

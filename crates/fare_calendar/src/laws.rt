@@ -1,13 +1,19 @@
-//! A law for callers' proofs. It has no code.
-ghost use Rattle.std.specs.Prelude.{◌≡◌, ◌≤◌, ◌<◌, ℕ, List, [], length};
-ghost use Rattle.calendar_law.specs.Cells.{cell, over_days};
+//! Laws for callers' proofs. They have no code.
+ghost use Rattle.fare_calendar.specs.Cells.{CellHas, CellsLeast, LeastPrice, over_days, cell};
 ghost use Rattle.fare_calendar.specs.BestOfCells.{CellsAreEmpty, CellsCost, FirstCosts};
 ghost use Rattle.fare_law.specs.Best.{Best};
 ghost use Rattle.fare_law.specs.Book.{Book};
+ghost use Rattle.fare_law.specs.Lawful.{Lawful};
 ghost use Rattle.fare_law.specs.declared.requests.Request.{Request};
 ghost use Rattle.fare_law.specs.declared.tickets.Ticket.{Ticket};
+ghost use Rattle.std.specs.Prelude.{◌≡◌, ℕ, ◌↔◌, length, ◌≤◌, ◌<◌, List, []};
 
-use calendar_law::cells_cover;
+/// A ticket is lawful for the request over all days exactly where it is lawful for a cell. So the least price over
+/// all days is the least over the cells.
+pub fn cells_cover()
+    ensures lawful { (t : Ticket) (b : Book) (q : Request) (outs backs : ℕ) → length q.slices ≡ 2 → Lawful t b (over_days q outs backs) ↔ CellHas b q outs backs t }
+    ensures least { (b : Book) (q : Request) (outs backs price : ℕ) → length q.slices ≡ 2 → LeastPrice b (over_days q outs backs) price ↔ CellsLeast b q outs backs price }
+{}
 
 /// The best ticket over all the days of a calendar costs the least of what the cells' best tickets cost, and there is
 /// none exactly where no cell has one.

@@ -13,7 +13,7 @@ use Rattle.fare_law.specs.declared.flights.Flight.{Flight}
 use Rattle.fare_law.specs.declared.requests.Request.{Request}
 use Rattle.fare_law.specs.declared.requests.Slice.{Slice}
 use Rattle.fare_law.specs.declared.tickets.Ticket.{Ticket}
-use Rattle.calendar_law.specs.Cells.{CellHas, CellsLeast, LeastPrice, in_days, over_days, two_slices}
+use Rattle.fare_calendar.specs.Cells.{CellHas, CellsLeast, LeastPrice, in_days, over_days, two_slices}
 use Rattle.std.specs.Prelude.{Some}
 use Rattle.law_lemmas.proofs.Ends.{on_last}
 
