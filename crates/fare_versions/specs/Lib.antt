@@ -1,3 +1,6 @@
+pub mod Filings
+pub mod Histories
+pub mod Steps
 pub mod Filed
 pub mod Growing
 pub mod Published

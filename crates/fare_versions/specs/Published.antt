@@ -2,7 +2,7 @@
 use Rattle.std.specs.Prelude.{◌≡◌}
 use Rattle.fare_law.specs.Book.{Book}
 use Rattle.fare_law.specs.Lists.{IsPrefix}
-use Rattle.filing_log.specs.Histories.{House, HouseHistory}
+use Rattle.fare_versions.specs.Histories.{House, HouseHistory}
 
 pub record Published : Type 0 where
   pub house : House

@@ -3,7 +3,7 @@ use Rattle.std.specs.Prelude.{◌≡◌, ◌≤◌, List, [], length, Option, un
 use Rattle.fare_law.specs.Book.{Book}
 use Rattle.fare_law.specs.Lists.{IsPrefix}
 use Rattle.fare_law.specs.declared.filings.Filing.{Filing}
-use Rattle.filing_log.specs.Histories.{House, HouseHistory}
+use Rattle.fare_versions.specs.Histories.{House, HouseHistory}
 use Rattle.fare_versions.specs.Published.{Published}
 
 -- the book that it saw last, and the longest list of entries that it was told of

@@ -5,7 +5,7 @@ ghost use Rattle.fare_law.specs.FilingLimits.{IsFiling};
 ghost use Rattle.fare_versions.specs.Filed.{HasCause};
 ghost use Rattle.fare_versions.specs.Published.{Grows, history_of};
 ghost use Rattle.fare_versions.specs.Writing.{pending, shown};
-ghost use Rattle.filing_log.specs.Filings.{IsFaultless, book_with};
+ghost use Rattle.fare_versions.specs.Filings.{IsFaultless, book_with};
 
 use crate::edition::Edition;
 use crate::faults::FileFault;
@@ -14,7 +14,7 @@ use crate::store::{EditionWriter, publish_at_last};
 use core::mem::replace_with;
 use fare_book::Book;
 use fare_law::Filing;
-use filing_log::FilingLog;
+use crate::FilingLog;
 use std::alloc::Global;
 use std::marker::Model;
 use std::sync::{Arc, Wait};

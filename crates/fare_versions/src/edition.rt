@@ -8,7 +8,7 @@ ghost use Rattle.fare_versions.specs.Published.{history_of};
 use crate::receipt::Receipt;
 use fare_book::Book;
 use fare_law::Mem;
-use filing_log::Front;
+use crate::Front;
 use left_right::Absorb;
 use std::alloc::AllocError;
 use std::marker::Model;

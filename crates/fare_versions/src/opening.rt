@@ -11,7 +11,7 @@ use crate::store::{EditionWriter, Shares, publish};
 use crate::watch::Watch;
 use fare_book::Book;
 use fare_law::{Filing, List, Mem};
-use filing_log::FilingLog;
+use crate::FilingLog;
 use std::alloc::Global;
 use std::sync::{Arc, Wait};
 

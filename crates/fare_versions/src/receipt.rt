@@ -2,7 +2,7 @@
 ghost use Rattle.std.specs.Prelude.{◌≡◌, ◌≤◌, length};
 ghost use Rattle.fare_law.specs.declared.limits.TheConstants.{MOST_ENTRIES};
 
-use filing_log::Front;
+use crate::Front;
 use std::marker::Model;
 
 /// What was filed with a house when it was made. A clerk alone makes receipts; they may go to other threads.
@@ -14,7 +14,7 @@ pub struct Receipt {
 impl Model for Receipt {
     ghost use Rattle.std.specs.Prelude.{◌≤◌, length};
     ghost use Rattle.fare_law.specs.declared.limits.TheConstants.{MOST_ENTRIES};
-    ghost use Rattle.filing_log.specs.Histories.{HouseHistory};
+    ghost use Rattle.fare_versions.specs.Histories.{HouseHistory};
 
     ghost Value = { HouseHistory };
 

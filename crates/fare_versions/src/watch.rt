@@ -12,7 +12,7 @@ use crate::store::{EditionReader, Sees};
 use core::mem::replace_with;
 use fare_book::Book;
 use fare_law::Mem;
-use filing_log::Front;
+use crate::Front;
 use std::marker::Model;
 use std::sync::Arc;
 

@@ -8,7 +8,7 @@ use Rattle.fare_law.specs.declared.requests.Request.{Request}
 use Rattle.fare_law.specs.Book.{Book}
 use Rattle.fare_law.specs.Lists.{Each}
 use Rattle.run_core.specs.Counting.{IsNoLower, NeverFall}
-use Rattle.filing_log.specs.Filings.{book_with}
+use Rattle.fare_versions.specs.Filings.{book_with}
 use Rattle.run_core.specs.Worlds.{AnswersFrom, ComesOf, StepsTo, WorldView, opened, sight}
 use Rattle.run_core.specs.declared.events.Event.{Event}
 use Rattle.run_core.specs.declared.events.Event.TheVariants.{File, Look, Fetch, Keep, Answer}

@@ -6,7 +6,7 @@ use Rattle.fare_law.specs.declared.requests.Request.{Request}
 use Rattle.fare_law.specs.Book.{Book}
 use Rattle.fare_law.specs.Requests.{judged, known_places}
 use Rattle.run_core.specs.Records.{Records}
-use Rattle.filing_log.specs.Filings.{IsFaultless, book_with}
+use Rattle.fare_versions.specs.Filings.{IsFaultless, book_with}
 use Rattle.run_core.specs.Worlds.{AnswersFrom, Fetches, Files, KeepsOffers, Sees, WorldView}
 use Rattle.run_core.specs.declared.events.Recorded.{Recorded}
 use Rattle.run_core.proofs.ListEnds.{any_of_in, in_of_any}

@@ -7,7 +7,7 @@ use Rattle.fare_law.specs.declared.filings.Filing.{Filing}
 use Rattle.fare_law.specs.declared.requests.Request.{Request}
 use Rattle.fare_law.specs.Book.{Book}
 use Rattle.run_core.specs.Counting.{AreRecorded, IsRecordOf, askings, book_after, filed_at_look, filings}
-use Rattle.filing_log.specs.Filings.{book_with}
+use Rattle.fare_versions.specs.Filings.{book_with}
 use Rattle.run_core.specs.Outcomes.{IsOutcome}
 use Rattle.run_core.specs.Records.{Records, tickets_of}
 use Rattle.run_core.specs.Worlds.{AnswersFrom, ComesOf, StepsTo, WorldView, opened, sight}

@@ -8,7 +8,7 @@ use Rattle.fare_law.specs.Book.{Book}
 use Rattle.fare_law.specs.FilingLimits.{IsFiling}
 use Rattle.fare_law.specs.Lists.{IsIn}
 use Rattle.fare_law.specs.Requests.{judged, known_places}
-use Rattle.filing_log.specs.Filings.{IsFaultless, book_with}
+use Rattle.fare_versions.specs.Filings.{IsFaultless, book_with}
 use Rattle.run_core.specs.declared.events.Event.{Event}
 use Rattle.run_core.specs.declared.events.Event.TheVariants.{File, Look, Fetch, Keep, Answer}
 use Rattle.run_core.specs.declared.events.Recorded.{Recorded}

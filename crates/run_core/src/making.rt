@@ -4,7 +4,7 @@ ghost use Rattle.std.specs.Arc.{arc_value};
 ghost use Rattle.fare_component.specs.Keys.{IsKey, asked};
 ghost use Rattle.fare_law.specs.FilingLimits.{IsFiling};
 ghost use Rattle.fare_law.specs.Requests.{judged, known_places};
-ghost use Rattle.filing_log.specs.Filings.{IsFaultless, book_with};
+ghost use Rattle.fare_versions.specs.Filings.{IsFaultless, book_with};
 ghost use Rattle.run_core.specs.Causes.{IsRefusedFiling, IsRefusedSearch};
 ghost use Rattle.run_core.specs.Records.{Records};
 

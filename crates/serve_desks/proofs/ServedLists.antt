@@ -2,7 +2,7 @@
 use Rattle.std.proofs.Common.{◌≡◌, ◌<◌, ℕ, zero, suc, List, [], ◌∷◌, ◌++◌, length, slice_index_or, Result, IfOk, subst, refl, arith}
 use Rattle.std.proofs.lemmas.List.{length-append}
 use Rattle.fare_law.specs.declared.filings.Filing.{Filing}
-use Rattle.filing_log.specs.Histories.{House}
+use Rattle.fare_versions.specs.Histories.{House}
 use Rattle.serve_desks.specs.Served.{AllServed, IsServed}
 use Rattle.serve_desks.specs.Terms.{Rightness, Terms}
 use Rattle.serve_desks.specs.declared.serving.Served.{Served}

@@ -3,7 +3,7 @@ use Rattle.std.specs.Prelude.{◌≡◌, List, length}
 use Rattle.std.specs.Arc.{arc_value}
 use Rattle.fare_law.specs.Book.{Book}
 use Rattle.fare_law.specs.declared.filings.Filing.{Filing}
-use Rattle.filing_log.specs.Histories.{House}
+use Rattle.fare_versions.specs.Histories.{House}
 use Rattle.serve_desks.specs.declared.beside.Filings.{Filings}
 use Rattle.serve_desks.specs.Judging.{Judged}
 

@@ -3,7 +3,7 @@ use Rattle.std.specs.Prelude.{◌≡◌, ℕ, ◌+◌, List, [], ◌∷◌, ◌+
 use Rattle.fare_law.specs.declared.filings.Filing.{Filing}
 use Rattle.fare_law.specs.Book.{Timetable}
 use Rattle.fare_law.specs.Faults.{Fault}
-use Rattle.filing_log.specs.Filings.{IsFaultless}
+use Rattle.fare_versions.specs.Filings.{IsFaultless}
 use Rattle.serve_desks.specs.declared.log.Filed.{Filed}
 use Rattle.serve_desks.specs.declared.log.Filed.TheVariants.{Accepted, Refused}
 

@@ -2,7 +2,7 @@
 use Rattle.std.specs.Prelude.{◌≡◌, ℕ, ◌≤◌, ◌<◌, List, length, slice_index_or, take, Result, IfOk}
 use Rattle.fare_law.specs.Lists.{Each}
 use Rattle.fare_law.specs.declared.filings.Filing.{Filing}
-use Rattle.filing_log.specs.Histories.{House}
+use Rattle.fare_versions.specs.Histories.{House}
 use Rattle.serve_desks.specs.declared.log.Entry.{Entry}
 use Rattle.serve_desks.specs.declared.serving.Served.{Served}
 use Rattle.serve_desks.specs.Terms.{IsRight, Rightness, Terms}

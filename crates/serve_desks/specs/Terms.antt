@@ -2,7 +2,7 @@
 use Rattle.std.specs.Prelude.{◌≡◌, ℕ, ◌-◌, List, slice_get, Some}
 use Rattle.fare_law.specs.Book.{Book, Timetable}
 use Rattle.fare_law.specs.declared.filings.Filing.{Filing}
-use Rattle.filing_log.specs.Histories.{House}
+use Rattle.fare_versions.specs.Histories.{House}
 use Rattle.serve_desks.specs.declared.log.Body.{Body}
 use Rattle.serve_desks.specs.declared.workload.Ask.{Ask}
 

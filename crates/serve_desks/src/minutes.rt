@@ -10,7 +10,7 @@ use std::sync::{Condvar, Mutex, Wait};
 
 /// Names the clerk's history, what is asked, and over which timetable. A call picks it.
 pub(crate) trait House {
-    ghost use Rattle.filing_log.specs.Histories.{House as Name};
+    ghost use Rattle.fare_versions.specs.Histories.{House as Name};
     ghost use Rattle.serve_desks.specs.Terms.{Terms};
 
     ghost name: { Name };

@@ -1,7 +1,7 @@
 //! Those who answer requests.
 ghost use Rattle.std.specs.Prelude.{◌≡◌, ◌<◌, ◌≤◌, ℕ, List, length, IfOk};
 ghost use Rattle.std.specs.Arc.{arc_value};
-ghost use Rattle.filing_log.specs.Histories.{House as HouseName};
+ghost use Rattle.fare_versions.specs.Histories.{House as HouseName};
 ghost use Rattle.fare_law.specs.Book.{Timetable};
 ghost use Rattle.fare_law.specs.Lists.{IsPrefix};
 ghost use Rattle.fare_law.specs.declared.filings.Filing.{Filing as Entry};

@@ -6,7 +6,7 @@ use Rattle.fare_book.specs.declared.faults.BookFault.TheVariants.{Refused as Boo
 use Rattle.fare_law.specs.Book.{Book}
 use Rattle.fare_law.specs.declared.filings.Filing.{Filing}
 use Rattle.fare_law.specs.declared.filings.Refused.{Refused as Refusal}
-use Rattle.filing_log.specs.Filings.{IsFaultless}
+use Rattle.fare_versions.specs.Filings.{IsFaultless}
 
 -- such a filing isn't refused
 pub none_refused : (b : Book) (f same : Filing) (fault : BookFault) (why : Refusal) → fault ≡ BookRefused why → same ≡ f → IsFaultless b f → HasCause b same fault → ⊥

@@ -4,7 +4,7 @@ use Rattle.std.proofs.lemmas.List.{drop_more, get_or-set_other, get_or-set_same,
 use Rattle.desk_teller.specs.Outcomes.{version_of}
 use Rattle.fare_law.specs.Book.{Book, Timetable}
 use Rattle.fare_law.specs.declared.filings.Filing.{Filing}
-use Rattle.filing_log.specs.Filings.{IsFaultless}
+use Rattle.fare_versions.specs.Filings.{IsFaultless}
 use Rattle.serve_desks.specs.Judging.{Judged}
 use Rattle.serve_desks.specs.declared.log.Filed.{Filed}
 use Rattle.serve_desks.specs.declared.log.Filed.TheVariants.{Accepted, Refused}

@@ -4,7 +4,7 @@ use Rattle.desk_teller.specs.Outcomes.{version_of}
 use Rattle.fare_law.specs.Book.{Book, Timetable}
 use Rattle.fare_law.specs.declared.filings.Filing.{Filing}
 use Rattle.fare_law.specs.declared.requests.Request.{Request}
-use Rattle.filing_log.specs.Filings.{IsFaultless, book_with}
+use Rattle.fare_versions.specs.Filings.{IsFaultless, book_with}
 use Rattle.serve_desks.specs.declared.log.Body.{Body}
 use Rattle.serve_desks.specs.declared.log.Filed.{Filed}
 use Rattle.serve_desks.specs.declared.log.Filed.TheVariants.{Accepted, Refused}

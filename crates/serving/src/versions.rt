@@ -3,7 +3,7 @@
 ghost use Rattle.std.specs.Prelude.{◌≡◌, ◌<◌, ◌+◌, [], All, length, map, slice_set, vec_len, IfOk, OnOk};
 ghost use Rattle.std.specs.Arc.{arc_value};
 ghost use Rattle.fare_law.specs.FilingLimits.{IsFiling};
-ghost use Rattle.filing_log.specs.Filings.{IsFaultless, book_with};
+ghost use Rattle.fare_versions.specs.Filings.{IsFaultless, book_with};
 ghost use Rattle.serve_desks.specs.Judging.{Judged};
 ghost use Rattle.serving.specs.Replaying.{HasTexts, HasTextsBetween, IsJudged, IsNext, KeepsOthers, history_after};
 

@@ -1,6 +1,6 @@
 use Rattle.std.proofs.Common.{subst, ◌∙◌}
 use Rattle.fare_law.specs.Book.{Book}
-use Rattle.filing_log.specs.Filings.{IsFaultless}
+use Rattle.fare_versions.specs.Filings.{IsFaultless}
 use Rattle.fare_versions.proofs.clerk.next_edition.Goals as goal
 
 pub returns-clause-right : goal.returns-clause-right

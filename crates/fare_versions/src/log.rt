@@ -1,6 +1,6 @@
 //! The end of a history, which adds to it.
 ghost use Rattle.std.specs.Prelude.{◌≡◌, ◌<◌, ◌^◌, [], ◌∷◌, ◌++◌, length, IsTrue, MatchBool};
-ghost use Rattle.filing_log.specs.Steps.{word_of};
+ghost use Rattle.fare_versions.specs.Steps.{word_of};
 
 use crate::front::Front;
 use crate::rule::{Add, Counting, NoTrade};
@@ -17,8 +17,8 @@ pub struct FilingLog {
 
 impl Model for FilingLog {
     ghost use Rattle.std.specs.Prelude.{◌≡◌};
-    ghost use Rattle.filing_log.specs.Histories.{HouseHistory};
-    ghost use Rattle.filing_log.specs.Steps.{word_of};
+    ghost use Rattle.fare_versions.specs.Histories.{HouseHistory};
+    ghost use Rattle.fare_versions.specs.Steps.{word_of};
 
     ghost Value = { HouseHistory };
 

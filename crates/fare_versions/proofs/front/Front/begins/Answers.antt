@@ -1,8 +1,8 @@
 use Rattle.std.proofs.Common.{subst, ap, refl, List}
 use mathlib.Core.List.{IsPrefix}
 use Rattle.fare_law.specs.declared.filings.Filing.{Filing}
-use Rattle.filing_log.proofs.Beginnings.{either_begins}
-use Rattle.filing_log.proofs.front.Front.begins.Goals as goal
+use Rattle.fare_versions.proofs.Beginnings.{either_begins}
+use Rattle.fare_versions.proofs.front.Front.begins.Goals as goal
 
 pub returns : goal.returns
 returns c =

@@ -8,7 +8,7 @@ pub struct Counting;
 impl Rule<Filing, u64> for Counting {
     ghost use Rattle.std.specs.Prelude.{[]};
     ghost use base.Fml.{ftrue};
-    ghost use Rattle.filing_log.specs.Steps.{IsCounted};
+    ghost use Rattle.fare_versions.specs.Steps.{IsCounted};
 
     ghost holds = { IsCounted };
 
@@ -36,7 +36,7 @@ impl Gain<Filing, u64> for NoTrade {
 pub struct Add;
 
 impl Play<Filing, u64> for Add {
-    ghost use Rattle.filing_log.specs.Steps.{Adds};
+    ghost use Rattle.fare_versions.specs.Steps.{Adds};
 
     ghost then = { Adds };
 }

@@ -6,8 +6,8 @@ use mathlib.Core.List.{IsPrefix}
 use prog.Atomic.{either}
 use Rattle.logbook.specs.Pages.{Cell, cell, keeps, no_nib, step, Moves, Goes}
 use Rattle.fare_law.specs.declared.filings.Filing.{Filing}
-use Rattle.filing_log.specs.Steps.{IsCounted, Adds}
-use Rattle.filing_log.proofs.Beginnings.{whole_beginning}
+use Rattle.fare_versions.specs.Steps.{IsCounted, Adds}
+use Rattle.fare_versions.proofs.Beginnings.{whole_beginning}
 
 abbrev pub shown : List Filing → List Filing
 shown log = []

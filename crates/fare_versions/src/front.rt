@@ -16,7 +16,7 @@ pub struct Front {
 
 impl Model for Front {
     ghost use Rattle.std.specs.Prelude.{◌≡◌, length};
-    ghost use Rattle.filing_log.specs.Histories.{HouseHistory};
+    ghost use Rattle.fare_versions.specs.Histories.{HouseHistory};
 
     ghost Value = { HouseHistory };
 

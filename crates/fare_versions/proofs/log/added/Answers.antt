@@ -1,6 +1,6 @@
 use Rattle.std.proofs.Common.{sym, ◌∙◌, ap, length}
-use Rattle.filing_log.proofs.AddingSteps.{adds_moves}
-use Rattle.filing_log.proofs.log.added.Goals as goal
+use Rattle.fare_versions.proofs.AddingSteps.{adds_moves}
+use Rattle.fare_versions.proofs.log.added.Goals as goal
 
 pub compare_exchange-found-requires : goal.compare_exchange-found-requires
 compare_exchange-found-requires c =

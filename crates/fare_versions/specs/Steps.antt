@@ -2,7 +2,7 @@
 use Rattle.std.specs.Prelude.{◌≡◌, ℕ, ◌==◌, true, List, [], ◌∷◌, ◌++◌, length, MatchBool}
 use Rattle.logbook.specs.Pages.{Cell, Named, Step, View}
 use Rattle.fare_law.specs.declared.filings.Filing.{Filing}
-use Rattle.filing_log.specs.Histories.{House}
+use Rattle.fare_versions.specs.Histories.{House}
 
 -- the first word is the length of the history; the second isn't used
 abbrev pub IsCounted : List Cell → List Filing → Type 0

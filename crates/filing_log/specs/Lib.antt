@@ -1,3 +1,0 @@
-pub mod Filings
-pub mod Histories
-pub mod Steps
