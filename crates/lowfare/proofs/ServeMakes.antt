@@ -2,7 +2,7 @@
 use Rattle.std.proofs.Common.{◌≡◌, ◌<◌, ℕ, zero, suc, All, List, [], ◌∷◌, length, map, slice_index_or, arith, Global, Option, None, Result, Ok, IfOk, sym, subst}
 use Rattle.std.specs.Arc.{arc_value}
 use Rattle.std.specs.declared.sync.Arc.{Arc}
-use Rattle.desk_teller.specs.Tellers.{AreAllowed}
+use Rattle.search_desk.specs.Tellers.{AreAllowed}
 use Rattle.fare_law.specs.Book.{Book}
 use Rattle.fare_law.specs.Lists.{Each}
 use Rattle.fare_law.specs.Requests.{judged, known_places}

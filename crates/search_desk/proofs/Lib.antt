@@ -1,2 +1,4 @@
+pub mod Asking
+pub mod Recorded
 pub mod Settling
 pub mod Remembering

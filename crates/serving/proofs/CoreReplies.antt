@@ -1,7 +1,7 @@
 -- The replies of a log are recorded by the core: for `logs_are_recorded`.
 use Rattle.std.proofs.Common.{◌≤◌, List, [], ◌∷◌, length, take}
-use Rattle.desk_teller.specs.Events.{IsReplyOf}
-use Rattle.desk_teller.specs.Outcomes.{AnswersAsk}
+use Rattle.search_desk.specs.Events.{IsReplyOf}
+use Rattle.search_desk.specs.Outcomes.{AnswersAsk}
 use Rattle.fare_law.specs.Book.{Book}
 use Rattle.fare_law.specs.Lists.{Matched}
 use Rattle.fare_law.specs.declared.filings.Filing.{Filing}

@@ -1,7 +1,7 @@
 -- The history once more: where it ends, and which texts are made on the way.
 use Rattle.std.proofs.Common.{◌≡◌, ◌<◌, ◌≤◌, ◌+◌, inl, inr, ◌∙◌, ℕ, List, [], ◌∷◌, ◌++◌, length, drop, take, get_or, map, slice_index_or, slice_set, refl, ap, sym, subst, append_assoc, append-nil, arith}
 use Rattle.std.proofs.lemmas.List.{drop_more, get_or-set_other, get_or-set_same, get_or_default, length-append, take_at}
-use Rattle.desk_teller.specs.Outcomes.{version_of}
+use Rattle.search_desk.specs.Outcomes.{version_of}
 use Rattle.fare_law.specs.Book.{Book, Timetable}
 use Rattle.fare_law.specs.declared.filings.Filing.{Filing}
 use Rattle.fare_versions.specs.Filings.{IsFaultless}

@@ -2,7 +2,7 @@
 use Rattle.std.proofs.Common.{◌≡◌, ◌<◌, ◌≤◌, ◌+◌, ◌-◌, ◌∙◌, ℕ, zero, suc, max, List, [], ◌∷◌, ◌++◌, length, map, replicate, take, slice_index, slice_set, codes, refl, sym, subst, append_assoc, arith}
 use Rattle.std.proofs.lemmas.List.{length-replicate, length-set}
 use Rattle.answer_text.specs.Answer.{AnswerText, IsRight as IsRightTicket}
-use Rattle.desk_teller.specs.Outcomes.{AnswersAsk, version_of}
+use Rattle.search_desk.specs.Outcomes.{AnswersAsk, version_of}
 use Rattle.fare_law.specs.Best.{Costs}
 use Rattle.fare_law.specs.Book.{Book, Timetable}
 use Rattle.fare_law.specs.Lawful.{Lawful}

@@ -3,7 +3,7 @@ use Rattle.std.proofs.Common.{◌≡◌, ◌∙◌, List, ap, sym, subst}
 use Rattle.fare_law.specs.Book.{Book}
 use Rattle.fare_versions.specs.Published.{Published}
 use Rattle.fare_versions.specs.Seen.{HasSeen, Sight}
-use Rattle.desk_teller.specs.Tellers.{AreAllowed, TellerView}
+use Rattle.search_desk.specs.Tellers.{AreAllowed, TellerView}
 use Rattle.serve_desks.specs.Terms.{IsOf, Terms, terms_of}
 use Rattle.serve_desks.specs.declared.workload.Ask.{Ask}
 

@@ -1,6 +1,6 @@
 -- The whole text of a run: for `serve_text`.
 use Rattle.std.proofs.Common.{◌≡◌, ◌∙◌, ◌+◌, ℕ, List, [], ◌++◌, length, map, ap, sym, subst}
-use Rattle.desk_teller.specs.Outcomes.{AnswersAsk}
+use Rattle.search_desk.specs.Outcomes.{AnswersAsk}
 use Rattle.fare_law.specs.Book.{Book, Timetable}
 use Rattle.fare_law.specs.declared.filings.Filing.{Filing}
 use Rattle.script_text.specs.Script.{IsScript}

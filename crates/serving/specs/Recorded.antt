@@ -1,6 +1,6 @@
 -- What the replies of a run have to do with the core of events.
 use Rattle.std.specs.Prelude.{◌≡◌, ◌-◌, List, slice_get, Some}
-use Rattle.desk_teller.specs.Events.{IsReplyOf}
+use Rattle.search_desk.specs.Events.{IsReplyOf}
 use Rattle.fare_law.specs.Book.{Book}
 use Rattle.fare_law.specs.declared.filings.Filing.{Filing}
 use Rattle.serve_desks.specs.declared.log.Reply.{Reply}

@@ -1,6 +1,6 @@
 -- The history once more, version by version, and the texts of what came of each search.
 use Rattle.std.specs.Prelude.{◌≡◌, ℕ, ◌<◌, ◌≤◌, List, [], ◌∷◌, ◌++◌, length, slice_index_or, take}
-use Rattle.desk_teller.specs.Outcomes.{version_of}
+use Rattle.search_desk.specs.Outcomes.{version_of}
 use Rattle.fare_law.specs.Book.{Book, Timetable}
 use Rattle.fare_law.specs.declared.filings.Filing.{Filing}
 use Rattle.fare_law.specs.declared.requests.Request.{Request}

@@ -1,6 +1,6 @@
 -- The text of the replies to a script.
 use Rattle.std.specs.Prelude.{◌≡◌, ℕ, ◌+◌, ◌-◌, List, [], ◌∷◌, ◌++◌, take, slice_get, Some}
-use Rattle.desk_teller.specs.Outcomes.{version_of}
+use Rattle.search_desk.specs.Outcomes.{version_of}
 use Rattle.fare_law.specs.declared.filings.Filing.{Filing}
 use Rattle.script_text.specs.declared.lines.ScriptLine.{ScriptLine}
 use Rattle.script_text.specs.declared.lines.ScriptLine.TheVariants.{Search, Await}

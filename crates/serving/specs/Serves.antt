@@ -1,6 +1,6 @@
 -- What a serving run writes.
 use Rattle.std.specs.Prelude.{◌≡◌, ℕ, List, ◌++◌, length}
-use Rattle.desk_teller.specs.Outcomes.{AnswersAsk}
+use Rattle.search_desk.specs.Outcomes.{AnswersAsk}
 use Rattle.fare_law.specs.Book.{Book}
 use Rattle.serve_desks.specs.Logs.{Logged}
 use Rattle.serve_desks.specs.Terms.{terms_of}

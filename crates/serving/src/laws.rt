@@ -1,6 +1,6 @@
 //! A law for callers' proofs. It has no code.
 ghost use Rattle.std.specs.Prelude.{length};
-ghost use Rattle.desk_teller.specs.Outcomes.{AnswersAsk};
+ghost use Rattle.search_desk.specs.Outcomes.{AnswersAsk};
 ghost use Rattle.fare_law.specs.Book.{Book};
 ghost use Rattle.fare_law.specs.Lists.{Matched};
 ghost use Rattle.script_text.specs.Script.{IsScript};
@@ -10,7 +10,7 @@ ghost use Rattle.serve_desks.specs.declared.workload.Workload.{Workload};
 ghost use Rattle.serving.specs.Recorded.{IsRecordedReply};
 ghost use Rattle.serving.specs.Replies.{searches_from};
 
-use desk_teller::replies_are_recorded;
+use search_desk::replies_are_recorded;
 
 /// Each reply of a run is what the core records: the outcome of its ask for a desk that looked after the first entries of
 /// the run's history, as many as the reply's version has.

@@ -1,7 +1,7 @@
 //! A serving run.
 ghost use Rattle.std.specs.Prelude.{◌≡◌, ◌≤◌, ◌<◌, All, IfOk, length};
 ghost use Rattle.std.specs.Arc.{arc_value};
-ghost use Rattle.desk_teller.specs.Tellers.{AreAllowed};
+ghost use Rattle.search_desk.specs.Tellers.{AreAllowed};
 ghost use Rattle.fare_law.specs.FilingLimits.{IsFiling};
 ghost use Rattle.fare_law.specs.Lists.{Each};
 ghost use Rattle.fare_versions.specs.Seen.{HasSeen};
@@ -11,7 +11,7 @@ ghost use Rattle.serving.specs.Serves.{Serves};
 
 use crate::tellers::tellers_of;
 use crate::text::serve_text;
-use desk_teller::DeskTeller;
+use search_desk::DeskTeller;
 use fare_book::Book;
 use fare_law::{Gate, List, Mem};
 use fare_versions::{Clerk, Watch, begin};

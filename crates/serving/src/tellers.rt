@@ -1,11 +1,11 @@
 //! The tellers of a serving run.
 ghost use Rattle.std.specs.Prelude.{◌≡◌, ◌≤◌, All, IfOk, length};
-ghost use Rattle.desk_teller.specs.Tellers.{AreAllowed};
+ghost use Rattle.search_desk.specs.Tellers.{AreAllowed};
 ghost use Rattle.fare_law.specs.Lists.{Each};
 ghost use Rattle.fare_versions.specs.Seen.{HasSeen};
 ghost use Rattle.serve_desks.specs.Terms.{IsOf, terms_of};
 
-use desk_teller::DeskTeller;
+use search_desk::DeskTeller;
 use fare_law::{Gate, List, Mem};
 use fare_versions::{Clerk, Watch};
 use node_publish::NodeStore;

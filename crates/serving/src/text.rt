@@ -1,7 +1,7 @@
 //! The text of a serving run.
 ghost use Rattle.std.specs.Prelude.{All, IfOk, length};
 ghost use Rattle.std.specs.Arc.{arc_value};
-ghost use Rattle.desk_teller.specs.Outcomes.{AnswersAsk};
+ghost use Rattle.search_desk.specs.Outcomes.{AnswersAsk};
 ghost use Rattle.fare_law.specs.FilingLimits.{IsFiling};
 ghost use Rattle.script_text.specs.Script.{IsScript};
 ghost use Rattle.serve_desks.specs.Logs.{Logged};

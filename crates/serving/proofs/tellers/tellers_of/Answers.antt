@@ -1,7 +1,7 @@
 use Rattle.std.proofs.Common.{Some, length, ap, sym, subst, arith}
 use Rattle.std.proofs.lemmas.List.{length_push}
 use Rattle.std.proofs.lemmas.List.Elements.{All-pop}
-use Rattle.desk_teller.specs.declared.teller.DeskTeller.{DeskTeller}
+use Rattle.search_desk.specs.declared.teller.DeskTeller.{DeskTeller}
 use Rattle.fare_law.specs.Lists.{Each}
 use Rattle.fare_versions.specs.Seen.{HasSeen}
 use Rattle.serve_desks.specs.Terms.{IsOf, terms_of}

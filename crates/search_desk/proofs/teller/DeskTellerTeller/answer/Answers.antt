@@ -1,10 +1,10 @@
 use Rattle.std.proofs.Common.{◌≡◌, length, IfOk, subst}
-use Rattle.desk_teller.specs.Outcomes.{AnswersAsk}
-use Rattle.desk_teller.specs.Tellers.{TellerView}
+use Rattle.search_desk.specs.Outcomes.{AnswersAsk}
+use Rattle.search_desk.specs.Tellers.{TellerView}
 use Rattle.fare_law.specs.Lists.{IsPrefix}
 use Rattle.serve_desks.specs.Terms.{IsRight}
-use Rattle.desk_teller.proofs.Asking.{answered}
-use Rattle.desk_teller.proofs.teller.DeskTellerTeller.answer.Goals as goal
+use Rattle.search_desk.proofs.Asking.{answered}
+use Rattle.search_desk.proofs.teller.DeskTellerTeller.answer.Goals as goal
 
 pub returns-clause-answer : goal.returns-clause-answer
 returns-clause-answer g c =

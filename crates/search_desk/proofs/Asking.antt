@@ -1,6 +1,6 @@
 -- What is right for the ask of a number: for `DeskTeller::answer`.
 use Rattle.std.proofs.Common.{◌≡◌, ◌-◌, ℕ, List, length, slice_get, Some, Result, Ok, Err, IfOk, OnOk, subst}
-use Rattle.desk_teller.specs.Outcomes.{AnswersAsk}
+use Rattle.search_desk.specs.Outcomes.{AnswersAsk}
 use Rattle.fare_law.specs.Book.{Book, Timetable}
 use Rattle.fare_law.specs.Lists.{IsPrefix}
 use Rattle.fare_law.specs.declared.filings.Filing.{Filing}

@@ -1,7 +1,7 @@
 //! Searches and replies are what the core of events records. Laws for callers' proofs; they have no code.
 ghost use Rattle.std.specs.Prelude.{◌≡◌, ◌≤◌, ℕ, List, Result, IfErr, IfOk, IfSome, None, OnOk, Some, length, take};
-ghost use Rattle.desk_teller.specs.Events.{IsOfOffers, IsRefusedSearchOf, IsReplyOf, IsSearchOf, outcome_of};
-ghost use Rattle.desk_teller.specs.Outcomes.{AnswersAsk};
+ghost use Rattle.search_desk.specs.Events.{IsOfOffers, IsRefusedSearchOf, IsReplyOf, IsSearchOf, outcome_of};
+ghost use Rattle.search_desk.specs.Outcomes.{AnswersAsk};
 ghost use Rattle.fare_law.specs.Book.{Book};
 ghost use Rattle.fare_law.specs.Lists.{Each};
 ghost use Rattle.fare_law.specs.Requests.{judged, known_places};

@@ -1,5 +1,5 @@
-use Rattle.desk_teller.proofs.Recorded.{refused, searched}
-use Rattle.desk_teller.proofs.laws.searches_are_recorded.Goals as goal
+use Rattle.search_desk.proofs.Recorded.{refused, searched}
+use Rattle.search_desk.proofs.laws.searches_are_recorded.Goals as goal
 
 pub returns-clause-outcome : goal.returns-clause-outcome
 returns-clause-outcome c w desk q budget between result own = searched w desk q budget between result own

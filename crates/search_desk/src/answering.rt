@@ -1,6 +1,6 @@
 //! Answers to one ask.
 ghost use Rattle.std.specs.Prelude.{◌≡◌, ◌<◌, ◌≤◌, ◌-◌, length, slice_get, None, Some, IfOk, OnOk};
-ghost use Rattle.desk_teller.specs.Outcomes.{AnswersAsk};
+ghost use Rattle.search_desk.specs.Outcomes.{AnswersAsk};
 ghost use Rattle.fare_law.specs.Requests.{judged, known_places};
 ghost use Rattle.fare_versions.specs.Published.{Grows};
 ghost use Rattle.fare_versions.specs.Seen.{seen_by};
@@ -12,7 +12,7 @@ use fare_component::Plain;
 use fare_law::{Gate, List, Mem};
 use node_publish::NodeStore;
 use search_core::{SearchFault, search};
-use search_desk::Desk;
+use crate::Desk;
 use serve_desks::{Ask, Body, Reply};
 use std::alloc::Global;
 

@@ -1,8 +1,8 @@
 -- Searches and replies as the core records them: for the laws.
 use Rattle.std.proofs.Common.{◌≡◌, ℕ, ◌+◌, ◌<◌, ◌≤◌, List, [], ◌∷◌, ◌++◌, length, take, set, None, Some, Result, Ok, Err, IfErr, IfOk, IfSome, OnOk, ap, sym, subst, refl, arith, get_or-set_same, length-append, length-set}
 use Rattle.std.proofs.lemmas.List.{length-take}
-use Rattle.desk_teller.specs.Events.{IsOfOffers, IsRecorded, IsRefusedSearchOf, IsReplyOf, IsSearchOf, outcome_in, outcome_of}
-use Rattle.desk_teller.specs.Outcomes.{AnswersAsk, tickets_in, version_of}
+use Rattle.search_desk.specs.Events.{IsOfOffers, IsRecorded, IsRefusedSearchOf, IsReplyOf, IsSearchOf, outcome_in, outcome_of}
+use Rattle.search_desk.specs.Outcomes.{AnswersAsk, tickets_in, version_of}
 use Rattle.fare_law.specs.Book.{Book}
 use Rattle.fare_law.specs.Lists.{Each}
 use Rattle.fare_law.specs.Requests.{judged, known_places}

@@ -1,13 +1,13 @@
 //! The teller.
 ghost use Rattle.std.specs.Prelude.{◌≡◌};
-ghost use Rattle.desk_teller.specs.Tellers.{AreAllowed};
+ghost use Rattle.search_desk.specs.Tellers.{AreAllowed};
 
 use crate::answering::{ask_of, counted, reply_by, reply_from};
 use fare_book::Book;
 use fare_law::{Gate, List, Mem};
 use fare_versions::Receipt;
 use node_publish::NodeStore;
-use search_desk::Desk;
+use crate::Desk;
 use serve_desks::{Ask, Reply, Teller};
 use std::alloc::Global;
 use std::marker::Model;
@@ -27,7 +27,7 @@ pub struct DeskTeller<'a, G: Gate> {
 
 impl<'a, G: Gate> Model for DeskTeller<'a, G> {
     ghost use Rattle.std.specs.Prelude.{◌≡◌};
-    ghost use Rattle.desk_teller.specs.Tellers.{AreAllowed, TellerView};
+    ghost use Rattle.search_desk.specs.Tellers.{AreAllowed, TellerView};
 
     ghost Value = { TellerView };
 
@@ -59,7 +59,7 @@ impl<'a, G: Gate> DeskTeller<'a, G> {
 }
 
 impl<'a, G: Gate> Teller for DeskTeller<'a, G> {
-    ghost use Rattle.desk_teller.specs.Outcomes.{AnswersAsk};
+    ghost use Rattle.search_desk.specs.Outcomes.{AnswersAsk};
 
     ghost house = { λ t. t.sight.house };
 
