@@ -1,3 +1,8 @@
+pub mod Lines
+pub mod Sections
+pub mod Filings
+pub mod Made
+pub mod Taken
 pub mod Drawing
 pub mod Names
 pub mod Tables

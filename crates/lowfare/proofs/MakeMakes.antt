@@ -3,7 +3,7 @@ use Rattle.std.proofs.Common.{◌≡◌, ◌≤◌, ℕ, List, None, Result, IfO
 use Rattle.std.specs.Int.{IsInRange}
 use Rattle.case_maker.specs.MadeCase.{made_case}
 use Rattle.fare_law.specs.declared.mem.Mem.{Mem}
-use Rattle.made_law.specs.Taken.{AreTaken}
+use Rattle.case_maker.specs.Taken.{AreTaken}
 use Rattle.search_core.specs.declared.outcome.Answer.{Answer}
 use Rattle.whole_case.specs.declared.refusals.Refusal.{Refusal}
 use Rattle.whole_case.specs.declared.search.SearchCase.{SearchCase}

@@ -1,5 +1,0 @@
-use Rattle.made_law.proofs.WholeText.{text_of_lines}
-use Rattle.made_law.proofs.laws.made_cases_have_lines.Goals as goal
-
-pub returns : goal.returns
-returns c = λ seed size small. text_of_lines size small seed

@@ -1,5 +1,0 @@
-use Rattle.made_law.proofs.CaseTaken.{never_refused}
-use Rattle.made_law.proofs.taking.made_cases_are_taken.Goals as goal
-
-pub returns : goal.returns
-returns c = never_refused c.names_read_again.ensures
