@@ -13,7 +13,7 @@ use Rattle.fare_law.specs.Lawful.{Lawful, unit_of}
 use Rattle.fare_law.specs.Lists.{AllDifferent, Each, Matched, OnFirst}
 use Rattle.fare_law.specs.Parts.{Part, IsPart, ComponentLawful, price_of}
 use Rattle.market_time.specs.Dates.{day_spelled}
-use Rattle.ticket_demands.proofs.OneKind.{kind_once}
+use Rattle.ticket_whole.proofs.OneKind.{kind_once}
 use Rattle.ticket_whole.proofs.PartLookups.{numbers_known, part_is}
 use Rattle.answer_text.specs.Answer.{MatchedFrom, ComponentText, TicketText, AnswerText}
 use Rattle.answer_text.specs.Lines.{line, tickets_line, ticket_line, component_line, FlightLine}

@@ -15,7 +15,7 @@ use Rattle.fare_law.specs.Lawful.{Lawful, unit_of}
 use Rattle.fare_law.specs.Lists.{Each, Matched}
 use Rattle.fare_law.specs.Parts.{Part, IsPart, ComponentLawful, price_of}
 use Rattle.fare_law.specs.Units.{IsUnit, UnitLawful}
-use Rattle.ticket_demands.specs.Known.{part_of, parts_of}
+use Rattle.ticket_whole.specs.Known.{part_of, parts_of}
 use Rattle.ticket_whole.proofs.PartLookups.{part_is, parts_are}
 use Rattle.answer_text.specs.Answer.{MatchedFrom, FlightTexts, ComponentText, TicketText, AnswerText, IsRight}
 use Rattle.answer_text.specs.Lines.{Adds, FlightLine, component_line, ticket_line, tickets_line}

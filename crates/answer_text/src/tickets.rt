@@ -7,7 +7,7 @@ ghost use Rattle.fare_law.specs.Parts.{IsPart, Part};
 ghost use Rattle.fare_law.specs.Units.{IsUnit};
 ghost use Rattle.fare_law.specs.declared.requests.Request.{Request};
 ghost use Rattle.fare_law.specs.declared.rules.UnitKind.{UnitKind as Kind};
-ghost use Rattle.ticket_demands.specs.Known.{part_of, parts_of};
+ghost use Rattle.ticket_whole.specs.Known.{part_of, parts_of};
 ghost use Rattle.answer_text.specs.Answer.{AnswerText, ComponentText, FlightTexts, IsRight, TicketText};
 ghost use Rattle.answer_text.specs.Lines.{Adds};
 ghost use Rattle.answer_text.specs.Said.{SaysAll};

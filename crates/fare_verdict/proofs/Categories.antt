@@ -5,13 +5,13 @@ use Rattle.fare_law.specs.declared.tickets.Component.{Component}
 use Rattle.fare_law.specs.declared.tickets.Ticket.{Ticket}
 use Rattle.fare_law.specs.Book.{Book}
 use Rattle.fare_law.specs.Lawful.{comes_in}
-use Rattle.ticket_demands.specs.declared.demand.CategoryDemand.{CategoryDemand}
-use Rattle.ticket_demands.specs.declared.demand.Demand.TheVariants.{OfUnit}
-use Rattle.ticket_demands.specs.declared.demand.UnitDemand.{UnitDemand}
-use Rattle.ticket_demands.specs.declared.demand.UnitDemand.TheVariants.{Shape}
-use Rattle.ticket_demands.specs.Breaches.{PartMeets}
-use Rattle.ticket_demands.specs.Categories.{CategoryMeets}
-use Rattle.ticket_demands.specs.Known.{part_of, parts_of}
+use Rattle.ticket_whole.specs.declared.demand.CategoryDemand.{CategoryDemand}
+use Rattle.ticket_whole.specs.declared.demand.Demand.TheVariants.{OfUnit}
+use Rattle.ticket_whole.specs.declared.demand.UnitDemand.{UnitDemand}
+use Rattle.ticket_whole.specs.declared.demand.UnitDemand.TheVariants.{Shape}
+use Rattle.ticket_whole.specs.Breaches.{PartMeets}
+use Rattle.ticket_whole.specs.Categories.{CategoryMeets}
+use Rattle.ticket_whole.specs.Known.{part_of, parts_of}
 use Rattle.fare_verdict.specs.Findings.{FailsInUnit, Misses}
 use Rattle.fare_verdict.specs.Told.{AreCategories}
 use Rattle.law_lemmas.proofs.Tests.{not_true}

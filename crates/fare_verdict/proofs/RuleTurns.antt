@@ -5,16 +5,16 @@ use Rattle.fare_law.specs.declared.tickets.Component.{Component}
 use Rattle.fare_law.specs.declared.tickets.Ticket.{Ticket}
 use Rattle.fare_law.specs.Book.{Book}
 use Rattle.fare_law.specs.Parts.{Part}
-use Rattle.ticket_demands.specs.declared.demand.CategoryDemand.TheVariants.{Season, Advance, LeastStay, GreatestStay}
-use Rattle.ticket_demands.specs.declared.demand.Demand.{Demand}
-use Rattle.ticket_demands.specs.declared.demand.Demand.TheVariants.{HasComponent, OfComponent, OfJourney, Labels, OfUnit, EndOnEnd, Straddling}
-use Rattle.ticket_demands.specs.declared.demand.ComponentDemand.TheVariants.{KnownFlights, FlightCount, NoGap, PlacesOnce, LiveFare, FareEnds, Seats, DayTime, Flights, Stopovers, Transfers}
-use Rattle.ticket_demands.specs.declared.demand.JourneyDemand.TheVariants.{Slices, Length, Places, Connections, Window}
-use Rattle.ticket_demands.specs.declared.demand.UnitDemand.{UnitDemand}
-use Rattle.ticket_demands.specs.declared.demand.UnitDemand.TheVariants.{Shape, FareKind, FirstDay, TravelDates, Stay, Combination}
-use Rattle.ticket_demands.specs.Breaches.{Breaks, Met, PartMeets, StandingMeets, number_of}
-use Rattle.ticket_demands.specs.Categories.{CategoryMeets}
-use Rattle.ticket_demands.specs.Known.{part_of, parts_of}
+use Rattle.ticket_whole.specs.declared.demand.CategoryDemand.TheVariants.{Season, Advance, LeastStay, GreatestStay}
+use Rattle.ticket_whole.specs.declared.demand.Demand.{Demand}
+use Rattle.ticket_whole.specs.declared.demand.Demand.TheVariants.{HasComponent, OfComponent, OfJourney, Labels, OfUnit, EndOnEnd, Straddling}
+use Rattle.ticket_whole.specs.declared.demand.ComponentDemand.TheVariants.{KnownFlights, FlightCount, NoGap, PlacesOnce, LiveFare, FareEnds, Seats, DayTime, Flights, Stopovers, Transfers}
+use Rattle.ticket_whole.specs.declared.demand.JourneyDemand.TheVariants.{Slices, Length, Places, Connections, Window}
+use Rattle.ticket_whole.specs.declared.demand.UnitDemand.{UnitDemand}
+use Rattle.ticket_whole.specs.declared.demand.UnitDemand.TheVariants.{Shape, FareKind, FirstDay, TravelDates, Stay, Combination}
+use Rattle.ticket_whole.specs.Breaches.{Breaks, Met, PartMeets, StandingMeets, number_of}
+use Rattle.ticket_whole.specs.Categories.{CategoryMeets}
+use Rattle.ticket_whole.specs.Known.{part_of, parts_of}
 use Rattle.ticket_whole.proofs.DemandNumbers.{met_unbroken, number_low, number_same}
 use Rattle.fare_verdict.specs.declared.finding.Finding.{Finding}
 use Rattle.fare_verdict.specs.Findings.{AreAll, Fails, FailsInUnit, IsFinding, IsOf, OnComponent}

@@ -5,8 +5,8 @@ use Rattle.fare_law.specs.declared.tickets.Component.{Component}
 use Rattle.fare_law.specs.declared.tickets.Ticket.{Ticket}
 use Rattle.fare_law.specs.Book.{Book}
 use Rattle.fare_law.specs.Lists.{EachPair, IsIn}
-use Rattle.ticket_demands.specs.declared.demand.Demand.{Demand}
-use Rattle.ticket_demands.specs.Breaches.{number_of}
+use Rattle.ticket_whole.specs.declared.demand.Demand.{Demand}
+use Rattle.ticket_whole.specs.Breaches.{number_of}
 use Rattle.fare_verdict.specs.declared.finding.Finding.{Finding}
 use Rattle.fare_verdict.specs.Findings.{AreAll, Before, Fails, IsOf, OnComponent, OnWhole}
 use Rattle.fare_verdict.specs.Told.{AreCategories, Extends, IsAt, IsOnWhole, with_category}

@@ -11,10 +11,10 @@ use Rattle.fare_law.specs.Book.{Book, flight_at}
 use Rattle.fare_law.specs.Lawful.{comes_in, unit_of}
 use Rattle.fare_law.specs.Parts.{Part}
 use Rattle.fare_law.specs.Units.{IsUnit}
-use Rattle.ticket_demands.specs.declared.demand.Demand.TheVariants.{OfUnit}
-use Rattle.ticket_demands.specs.declared.demand.UnitDemand.TheVariants.{Shape}
-use Rattle.ticket_demands.specs.Breaches.{BrokenAt, FirstBroken, PartMeets, StandingMeets}
-use Rattle.ticket_demands.specs.Known.{IsUnknown, ends_of, known_flights, live_row, part_of, part_over, parts_of}
+use Rattle.ticket_whole.specs.declared.demand.Demand.TheVariants.{OfUnit}
+use Rattle.ticket_whole.specs.declared.demand.UnitDemand.TheVariants.{Shape}
+use Rattle.ticket_whole.specs.Breaches.{BrokenAt, FirstBroken, PartMeets, StandingMeets}
+use Rattle.ticket_whole.specs.Known.{IsUnknown, ends_of, known_flights, live_row, part_of, part_over, parts_of}
 use Rattle.fare_verdict.specs.Stages.{JoinedMet, KnownMet}
 use Rattle.fare_verdict.proofs.Stands.{split_long}
 use Rattle.law_lemmas.proofs.Options.{some_same}

@@ -6,17 +6,17 @@ use Rattle.fare_law.specs.declared.tickets.Ticket.{Ticket}
 use Rattle.fare_law.specs.Book.{Book}
 use Rattle.fare_law.specs.Lawful.{comes_in}
 use Rattle.fare_law.specs.Lists.{EachPair, IsIn}
-use Rattle.ticket_demands.specs.declared.demand.CategoryDemand.{CategoryDemand}
-use Rattle.ticket_demands.specs.declared.demand.CategoryDemand.TheVariants.{Season, Advance, LeastStay, GreatestStay}
-use Rattle.ticket_demands.specs.declared.demand.ComponentDemand.{ComponentDemand}
-use Rattle.ticket_demands.specs.declared.demand.ComponentDemand.TheVariants.{KnownFlights, FlightCount, NoGap, PlacesOnce, LiveFare, FareEnds, Seats, DayTime, Flights, Stopovers, Transfers}
-use Rattle.ticket_demands.specs.declared.demand.Demand.{Demand}
-use Rattle.ticket_demands.specs.declared.demand.Demand.TheVariants.{HasComponent, OfComponent, OfJourney, Labels, OfUnit, EndOnEnd, Straddling}
-use Rattle.ticket_demands.specs.declared.demand.UnitDemand.{UnitDemand}
-use Rattle.ticket_demands.specs.declared.demand.UnitDemand.TheVariants.{Shape, FareKind, FirstDay, TravelDates, Stay, Combination}
-use Rattle.ticket_demands.specs.Breaches.{FirstBroken, StandingMeets, TicketMeets, number_of}
-use Rattle.ticket_demands.specs.Categories.{CategoryMeets}
-use Rattle.ticket_demands.specs.Known.{part_of, parts_of}
+use Rattle.ticket_whole.specs.declared.demand.CategoryDemand.{CategoryDemand}
+use Rattle.ticket_whole.specs.declared.demand.CategoryDemand.TheVariants.{Season, Advance, LeastStay, GreatestStay}
+use Rattle.ticket_whole.specs.declared.demand.ComponentDemand.{ComponentDemand}
+use Rattle.ticket_whole.specs.declared.demand.ComponentDemand.TheVariants.{KnownFlights, FlightCount, NoGap, PlacesOnce, LiveFare, FareEnds, Seats, DayTime, Flights, Stopovers, Transfers}
+use Rattle.ticket_whole.specs.declared.demand.Demand.{Demand}
+use Rattle.ticket_whole.specs.declared.demand.Demand.TheVariants.{HasComponent, OfComponent, OfJourney, Labels, OfUnit, EndOnEnd, Straddling}
+use Rattle.ticket_whole.specs.declared.demand.UnitDemand.{UnitDemand}
+use Rattle.ticket_whole.specs.declared.demand.UnitDemand.TheVariants.{Shape, FareKind, FirstDay, TravelDates, Stay, Combination}
+use Rattle.ticket_whole.specs.Breaches.{FirstBroken, StandingMeets, TicketMeets, number_of}
+use Rattle.ticket_whole.specs.Categories.{CategoryMeets}
+use Rattle.ticket_whole.specs.Known.{part_of, parts_of}
 use Rattle.fare_verdict.specs.declared.finding.Finding.{Finding}
 use Rattle.fare_verdict.specs.Stages.{IsTested}
 

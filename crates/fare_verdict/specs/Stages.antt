@@ -2,13 +2,13 @@
 use Rattle.fare_law.specs.declared.requests.Request.{Request}
 use Rattle.fare_law.specs.declared.tickets.Ticket.{Ticket}
 use Rattle.fare_law.specs.Book.{Book}
-use Rattle.ticket_demands.specs.declared.demand.ComponentDemand.{ComponentDemand}
-use Rattle.ticket_demands.specs.declared.demand.ComponentDemand.TheVariants.{KnownFlights, FlightCount, NoGap, PlacesOnce, LiveFare, FareEnds, Seats, DayTime, Flights, Stopovers, Transfers}
-use Rattle.ticket_demands.specs.declared.demand.JourneyDemand.{JourneyDemand}
-use Rattle.ticket_demands.specs.declared.demand.JourneyDemand.TheVariants.{Slices, Length, Places, Connections, Window}
-use Rattle.ticket_demands.specs.declared.demand.Demand.{Demand}
-use Rattle.ticket_demands.specs.declared.demand.Demand.TheVariants.{HasComponent, OfComponent, OfJourney, Labels, OfUnit, EndOnEnd, Straddling}
-use Rattle.ticket_demands.specs.Breaches.{Met}
+use Rattle.ticket_whole.specs.declared.demand.ComponentDemand.{ComponentDemand}
+use Rattle.ticket_whole.specs.declared.demand.ComponentDemand.TheVariants.{KnownFlights, FlightCount, NoGap, PlacesOnce, LiveFare, FareEnds, Seats, DayTime, Flights, Stopovers, Transfers}
+use Rattle.ticket_whole.specs.declared.demand.JourneyDemand.{JourneyDemand}
+use Rattle.ticket_whole.specs.declared.demand.JourneyDemand.TheVariants.{Slices, Length, Places, Connections, Window}
+use Rattle.ticket_whole.specs.declared.demand.Demand.{Demand}
+use Rattle.ticket_whole.specs.declared.demand.Demand.TheVariants.{HasComponent, OfComponent, OfJourney, Labels, OfUnit, EndOnEnd, Straddling}
+use Rattle.ticket_whole.specs.Breaches.{Met}
 
 -- There are components, and each has 1 to 4 flights, which are known.
 pub record KnownMet (b : Book) (q : Request) (t : Ticket) : Type 0 where

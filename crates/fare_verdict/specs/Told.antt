@@ -4,11 +4,11 @@ use Rattle.fare_law.specs.declared.requests.Request.{Request}
 use Rattle.fare_law.specs.declared.tickets.Ticket.{Ticket}
 use Rattle.fare_law.specs.Book.{Book}
 use Rattle.fare_law.specs.Lists.{EachPair, IsIn}
-use Rattle.ticket_demands.specs.declared.demand.Demand.{Demand}
+use Rattle.ticket_whole.specs.declared.demand.Demand.{Demand}
 use Rattle.fare_verdict.specs.declared.finding.Finding.{Finding}
 use Rattle.fare_verdict.specs.declared.told.Stages.{Stages}
 use Rattle.fare_verdict.specs.Findings.{AreAll, OnComponent, OnWhole}
-use Rattle.ticket_demands.specs.Breaches.{number_of}
+use Rattle.ticket_whole.specs.Breaches.{number_of}
 use Rattle.fare_verdict.specs.Stages.{CutMet, JoinedMet, KnownMet}
 
 -- this is known of the ticket

@@ -1,5 +1,5 @@
 //! A demand with its number.
-use ticket_demands::Demand;
+use ticket_whole::Demand;
 
 /// A demand, and the number of its rule.
 #[derive(Clone, Copy)]

@@ -2,15 +2,15 @@
 ghost use Rattle.std.specs.Prelude.{◌≡◌, ◌⊎◌, ◌↔◌, ◌<◌, ◌≤◌, suc, length, true, map, IsTrue};
 ghost use Rattle.fare_law.specs.Limits.{IsRequest};
 ghost use Rattle.fare_law.specs.Lawful.{comes_in};
-ghost use Rattle.ticket_demands.specs.Breaches.{FirstBroken};
-ghost use Rattle.ticket_demands.specs.declared.demand.Demand.TheVariants.{Labels};
+ghost use Rattle.ticket_whole.specs.Breaches.{FirstBroken};
+ghost use Rattle.ticket_whole.specs.declared.demand.Demand.TheVariants.{Labels};
 ghost use Rattle.fare_verdict.specs.Findings as Findings;
 ghost use Rattle.fare_verdict.specs.Findings.{Fails, FailsInUnit};
 ghost use Rattle.fare_verdict.specs.Told.{AreCategories};
 
 use fare_book::Book;
 use fare_law::{ArrayVec, Component, MOST_COMPONENTS, Request, Ticket};
-use ticket_demands::{
+use ticket_whole::{
     CategoryDemand, ComponentDemand, Demand, UnitDemand, category_meets, component_meets,
     part_meets,
 };

@@ -3,8 +3,8 @@ ghost use Rattle.std.specs.Prelude.{◌≡◌, ◌↔◌, ◌<◌, ◌++◌, suc
 ghost use Rattle.fare_law.specs.Lawful.{Lawful};
 ghost use Rattle.fare_law.specs.Limits.{IsRequest};
 ghost use Rattle.fare_law.specs.Lists.{OnFirst};
-ghost use Rattle.ticket_demands.specs.Breaches.{FirstBreach, TicketMeets, number_of};
-ghost use Rattle.ticket_demands.specs.declared.breach.Breach.{Breach};
+ghost use Rattle.ticket_whole.specs.Breaches.{FirstBreach, TicketMeets, number_of};
+ghost use Rattle.ticket_whole.specs.declared.breach.Breach.{Breach};
 ghost use Rattle.fare_verdict.specs.Findings as Findings;
 ghost use Rattle.fare_verdict.specs.Findings.{AreFindings, IsOf};
 ghost use Rattle.fare_verdict.specs.Told.{Extends, IsAt, IsOnWhole, with_category};
@@ -17,7 +17,7 @@ use crate::stages::{is_tested, stages_of};
 use fare_book::Book;
 use fare_law::{List, Mem, Request, Ticket};
 use std::alloc::Global;
-use ticket_demands::Demand;
+use ticket_whole::Demand;
 use ticket_whole::{broken_at, lawful};
 
 /// The demands are numbered 1 to 26.

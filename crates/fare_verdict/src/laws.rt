@@ -5,8 +5,8 @@ ghost use Rattle.fare_law.specs.declared.tickets.Ticket.{Ticket};
 ghost use Rattle.fare_law.specs.Book.{Book};
 ghost use Rattle.fare_law.specs.Lawful.{Lawful};
 ghost use Rattle.fare_law.specs.Lists.{OnFirst};
-ghost use Rattle.ticket_demands.specs.Breaches.{FirstBreach};
-ghost use Rattle.ticket_demands.specs.declared.breach.Breach.{Breach};
+ghost use Rattle.ticket_whole.specs.Breaches.{FirstBreach};
+ghost use Rattle.ticket_whole.specs.declared.breach.Breach.{Breach};
 ghost use Rattle.fare_verdict.specs.Findings.{AreFindings};
 ghost use Rattle.fare_verdict.specs.declared.finding.Finding.{Finding};
 

@@ -4,15 +4,15 @@ ghost use Rattle.fare_law.specs.Limits.{IsRequest};
 ghost use Rattle.fare_law.specs.declared.requests.Request.{Request as RequestData};
 ghost use Rattle.fare_law.specs.declared.tickets.Ticket.{Ticket as TicketData};
 ghost use Rattle.fare_law.specs.Book.{Book as BookData};
-ghost use Rattle.ticket_demands.specs.Breaches.{Met};
-ghost use Rattle.ticket_demands.specs.declared.demand.Demand.TheVariants.{OfComponent};
+ghost use Rattle.ticket_whole.specs.Breaches.{Met};
+ghost use Rattle.ticket_whole.specs.declared.demand.Demand.TheVariants.{OfComponent};
 ghost use Rattle.fare_verdict.specs.Stages.{CutMet, IsComponentTested, IsJourneyTested, IsTested, JoinedMet, KnownMet};
 ghost use Rattle.fare_verdict.specs.Told.{AreStages};
 
 use crate::told::Stages;
 use fare_book::Book;
 use fare_law::{Request, Ticket};
-use ticket_demands::{ComponentDemand, Demand, JourneyDemand};
+use ticket_whole::{ComponentDemand, Demand, JourneyDemand};
 use ticket_whole::broken_at;
 
 /// What is known of the ticket.

@@ -10,15 +10,15 @@ use Rattle.fare_law.specs.Book.{Book, flight_at}
 use Rattle.fare_law.specs.Journey.{Joins, calls}
 use Rattle.fare_law.specs.Parts.{Part, IsPart, Filed, ComponentLawful, DayTimeHolds, FlightsHold, Seated, StopoversHold, TransfersHold}
 use Rattle.fare_law.specs.Lists.{EachPair, OnFirst, OnLast, AllDifferent}
-use Rattle.ticket_demands.specs.declared.demand.ComponentDemand.{ComponentDemand}
-use Rattle.ticket_demands.specs.declared.demand.ComponentDemand.TheVariants.{KnownFlights, FlightCount, NoGap, PlacesOnce, LiveFare, FareEnds, Seats, DayTime, Flights, Stopovers, Transfers}
+use Rattle.ticket_whole.specs.declared.demand.ComponentDemand.{ComponentDemand}
+use Rattle.ticket_whole.specs.declared.demand.ComponentDemand.TheVariants.{KnownFlights, FlightCount, NoGap, PlacesOnce, LiveFare, FareEnds, Seats, DayTime, Flights, Stopovers, Transfers}
 use Rattle.fare_law.specs.Offers.{FiledBetween}
-use Rattle.ticket_demands.specs.Breaches.{ComponentMeets, OnRow}
-use Rattle.ticket_demands.specs.Known.{known_flights, live_row, ends_of}
+use Rattle.ticket_whole.specs.Breaches.{ComponentMeets, OnRow}
+use Rattle.ticket_whole.specs.Known.{known_flights, live_row, ends_of}
 use Rattle.ticket_whole.proofs.PartLookups.{numbers_known, row_live}
 use Rattle.law_lemmas.proofs.LawFacts.{numbered_unknown}
 use Rattle.law_lemmas.proofs.Pairs.{matched_length}
-use Rattle.ticket_demands.proofs.FlightEnds.{on_last}
+use Rattle.ticket_whole.proofs.FlightEnds.{on_last}
 
 -- the row of a fare that stands over flights
 abbrev pub row_for : Piece → SheetRow

@@ -12,17 +12,17 @@ use Rattle.fare_law.specs.Book.{Book, flight_at, live_fare, live_rule}
 use Rattle.fare_law.specs.Journey.{Joins, calls}
 use Rattle.fare_law.specs.Parts.{Part, IsPart, Numbers, ComponentLawful, DayTimeHolds, FlightsHold, Seated, StopoversHold, TransfersHold}
 use Rattle.fare_law.specs.Lists.{EachPair, AllDifferent}
-use Rattle.ticket_demands.specs.declared.demand.ComponentDemand.{ComponentDemand}
-use Rattle.ticket_demands.specs.declared.demand.ComponentDemand.TheVariants.{KnownFlights, FlightCount, NoGap, PlacesOnce, LiveFare, FareEnds, Seats, DayTime, Flights, Stopovers, Transfers}
+use Rattle.ticket_whole.specs.declared.demand.ComponentDemand.{ComponentDemand}
+use Rattle.ticket_whole.specs.declared.demand.ComponentDemand.TheVariants.{KnownFlights, FlightCount, NoGap, PlacesOnce, LiveFare, FareEnds, Seats, DayTime, Flights, Stopovers, Transfers}
 use Rattle.fare_law.specs.Offers.{FiledBetween}
-use Rattle.ticket_demands.specs.Breaches.{ComponentMeets, OnRow}
-use Rattle.ticket_demands.specs.Known.{known_flights, live_row, last_of, ends_of, part_of, part_over}
+use Rattle.ticket_whole.specs.Breaches.{ComponentMeets, OnRow}
+use Rattle.ticket_whole.specs.Known.{known_flights, live_row, last_of, ends_of, part_of, part_over}
 use Rattle.ticket_whole.proofs.PartLookups.{looked_up}
 use Rattle.law_lemmas.proofs.Names.{places_told}
 use Rattle.law_lemmas.proofs.Options.{some_of, some_same}
 use Rattle.law_lemmas.proofs.Pairs.{matched_length}
-use Rattle.ticket_demands.proofs.FlightEnds.{last_on}
-use Rattle.ticket_demands.proofs.PriceSums.{numbered}
+use Rattle.ticket_whole.proofs.FlightEnds.{last_on}
+use Rattle.ticket_whole.proofs.PriceSums.{numbered}
 
 -- a component stands for this lawful part, and is looked up as it
 pub record StandsAs (b : Book) (q : Request) (c : Component) (part : Part) : Type 0 where

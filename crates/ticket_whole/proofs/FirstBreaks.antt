@@ -4,8 +4,8 @@ use Rattle.fare_law.specs.declared.requests.Request.{Request}
 use Rattle.fare_law.specs.declared.tickets.Component.{Component}
 use Rattle.fare_law.specs.declared.tickets.Ticket.{Ticket}
 use Rattle.fare_law.specs.Book.{Book}
-use Rattle.ticket_demands.specs.declared.demand.Demand.{Demand}
-use Rattle.ticket_demands.specs.Breaches.{TicketMeets, StandingMeets, FirstBroken}
+use Rattle.ticket_whole.specs.declared.demand.Demand.{Demand}
+use Rattle.ticket_whole.specs.Breaches.{TicketMeets, StandingMeets, FirstBroken}
 
 module _ (b : Book) (q : Request) (t : Ticket) (demand : Demand) where
   -- each of the first components meets the demand

@@ -5,10 +5,10 @@ use Rattle.fare_law.specs.declared.requests.Slice.{Slice}
 use Rattle.fare_law.specs.Book.{Book}
 use Rattle.fare_law.specs.Journey.{FliesSlice, FliesFrom, LateEnough}
 use Rattle.fare_law.specs.Lists.{OnFirst, OnLast}
-use Rattle.ticket_demands.specs.declared.demand.JourneyDemand.{JourneyDemand}
-use Rattle.ticket_demands.specs.declared.demand.JourneyDemand.TheVariants.{Slices, Length, Places, Connections, Window}
-use Rattle.ticket_demands.specs.Cuts.{SliceMeets, CutsMeet}
-use Rattle.ticket_demands.proofs.CutLemmas.{cut_first}
+use Rattle.ticket_whole.specs.declared.demand.JourneyDemand.{JourneyDemand}
+use Rattle.ticket_whole.specs.declared.demand.JourneyDemand.TheVariants.{Slices, Length, Places, Connections, Window}
+use Rattle.ticket_whole.specs.Cuts.{SliceMeets, CutsMeet}
+use Rattle.ticket_whole.proofs.CutLemmas.{cut_first}
 use Rattle.law_lemmas.proofs.LawFacts.{on_last_to}
 
 slice_meets : (b : Book) (d : JourneyDemand) (arrival : Option ℤ) (s : Slice) (fs : List Flight) → FliesSlice b s fs → OnFirst (LateEnough b arrival) fs → SliceMeets b d arrival s fs

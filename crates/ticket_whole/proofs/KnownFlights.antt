@@ -3,7 +3,7 @@ use Rattle.std.proofs.Common.{◌≡◌, ◌↔◌, ◌<◌, ◌∙◌, ℕ, zer
 use Rattle.std.specs.List.{Any, filter_map, cons_option, slice_index_or}
 use Rattle.fare_law.specs.declared.flights.Flight.{Flight}
 use Rattle.fare_law.specs.Book.{Book, flight_at}
-use Rattle.ticket_demands.specs.Known.{known_flights, ends_of}
+use Rattle.ticket_whole.specs.Known.{known_flights, ends_of}
 use Rattle.law_lemmas.proofs.Options.{none_or_some}
 
 pub numbered_same : (fs gs : List Flight) (ns ms : List ℕ) → fs ≡ gs → ns ≡ ms → filter_map (slice_get fs) ns ≡ filter_map (slice_get gs) ms

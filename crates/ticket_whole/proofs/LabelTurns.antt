@@ -3,7 +3,7 @@ use Rattle.std.proofs.Common.{◌≡◌, ◌⊎◌, ◌↔◌, ◌≤◌, ◌||�
 use Rattle.std.proofs.lemmas.Bool.{cases_eq}
 use Rattle.std.proofs.lemmas.Bool.Decides.{Decides-eqb}
 use Rattle.fare_law.specs.Lawful.{comes_in, Numbered}
-use Rattle.ticket_demands.specs.Breaches.{greatest, LabelStands}
+use Rattle.ticket_whole.specs.Breaches.{greatest, LabelStands}
 
 -- each label stands after those before it
 abbrev pub StandFrom : List ℕ → List ℕ → Type 0

@@ -1,3 +1,12 @@
+pub mod KnownGathering
+pub mod PriceSums
+pub mod FlightEnds
+pub mod Neighbours
+pub mod CutLemmas
+pub mod OneKind
+pub mod KindTable
+pub mod PartTold
+pub mod CategoryTold
 pub mod Splits
 pub mod Gathering
 pub mod FlownCuts

@@ -13,10 +13,10 @@ use Rattle.fare_law.specs.Book.{Book, live_fare, live_rule, same_place}
 use Rattle.fare_law.specs.Journey.{calls}
 use Rattle.fare_law.specs.Parts.{Part, IsPart, ComponentLawful, Filed, Numbers}
 use Rattle.fare_law.specs.Lists.{Each, Matched, OnFirst, OnLast, AllDifferent}
-use Rattle.ticket_demands.specs.Known.{known_flights, live_row, last_of, ends_of, part_over, part_of, parts_of}
+use Rattle.ticket_whole.specs.Known.{known_flights, live_row, last_of, ends_of, part_over, part_of, parts_of}
 use Rattle.law_lemmas.proofs.Names.{places_told}
 use Rattle.law_lemmas.proofs.Tests.{not_true}
-use Rattle.ticket_demands.proofs.FlightEnds.{on_last}
+use Rattle.ticket_whole.proofs.FlightEnds.{on_last}
 
 pub numbers_known : (b : Book) (ns : List ℕ) (fs : List Flight) → Numbers b ns fs → known_flights b ns ≡ fs
 numbers_known b [] [] h = refl

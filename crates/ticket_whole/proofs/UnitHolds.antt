@@ -7,12 +7,12 @@ use Rattle.fare_law.specs.Lawful.{unit_of}
 use Rattle.fare_law.specs.Parts.{Part}
 use Rattle.fare_law.specs.Lists.{Each, IsIn}
 use Rattle.fare_law.specs.Units.{IsUnit, UnitLawful, FareHolds, MayStand, SeasonHolds, AdvanceHolds, TravelHolds, EndsBy, MinStayHolds, MaxStayHolds, KindHolds, PartnersHold}
-use Rattle.ticket_demands.specs.declared.demand.UnitDemand.{UnitDemand}
-use Rattle.ticket_demands.specs.declared.demand.UnitDemand.TheVariants.{Shape, FareKind, FirstDay, TravelDates, Stay, Combination}
-use Rattle.ticket_demands.specs.Breaches.{InUnit, PartMeets}
+use Rattle.ticket_whole.specs.declared.demand.UnitDemand.{UnitDemand}
+use Rattle.ticket_whole.specs.declared.demand.UnitDemand.TheVariants.{Shape, FareKind, FirstDay, TravelDates, Stay, Combination}
+use Rattle.ticket_whole.specs.Breaches.{InUnit, PartMeets}
 use Rattle.ticket_whole.proofs.UnitEnds.{no_empty_unit, in_unit_of, each_unit_of, AtEnds, to_ends, from_ends, ends_to, ends_both, ends_each}
 use Rattle.law_lemmas.proofs.EachOne.{each_in}
-use Rattle.ticket_demands.proofs.OneKind.{kind_once}
+use Rattle.ticket_whole.proofs.OneKind.{kind_once}
 
 -- what binds a piece of a unit of this kind, by the unit's ends
 abbrev Binds : UnitKind → List Piece → Piece → Piece → Piece → Type 0

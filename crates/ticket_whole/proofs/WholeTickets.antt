@@ -10,13 +10,13 @@ use Rattle.fare_law.specs.Lawful.{Numbered, AtMostTwoStraddle, EndOnEndHolds, La
 use Rattle.fare_law.specs.Parts.{Part, IsPart, ComponentLawful}
 use Rattle.fare_law.specs.Lists.{Each, Matched}
 use Rattle.fare_law.specs.Units.{UnitLawful}
-use Rattle.ticket_demands.specs.declared.demand.JourneyDemand.TheVariants.{Slices, Length, Places, Connections, Window}
-use Rattle.ticket_demands.specs.declared.demand.Demand.{Demand}
-use Rattle.ticket_demands.specs.declared.demand.Demand.TheVariants.{HasComponent, OfComponent, OfJourney, Labels, OfUnit, EndOnEnd, Straddling}
-use Rattle.ticket_demands.specs.declared.demand.UnitDemand.{UnitDemand}
-use Rattle.ticket_demands.specs.Breaches.{LabelStands, PartMeets, TicketMeets, StandingMeets, Met, flights_of}
-use Rattle.ticket_demands.specs.Cuts.{CutsMeet}
-use Rattle.ticket_demands.specs.Known.{part_of, parts_of}
+use Rattle.ticket_whole.specs.declared.demand.JourneyDemand.TheVariants.{Slices, Length, Places, Connections, Window}
+use Rattle.ticket_whole.specs.declared.demand.Demand.{Demand}
+use Rattle.ticket_whole.specs.declared.demand.Demand.TheVariants.{HasComponent, OfComponent, OfJourney, Labels, OfUnit, EndOnEnd, Straddling}
+use Rattle.ticket_whole.specs.declared.demand.UnitDemand.{UnitDemand}
+use Rattle.ticket_whole.specs.Breaches.{LabelStands, PartMeets, TicketMeets, StandingMeets, Met, flights_of}
+use Rattle.ticket_whole.specs.Cuts.{CutsMeet}
+use Rattle.ticket_whole.specs.Known.{part_of, parts_of}
 use Rattle.ticket_whole.proofs.ComponentFacts.{lawful_component}
 use Rattle.ticket_whole.proofs.ComponentParts.{StandsAs, stands_as}
 use Rattle.ticket_whole.proofs.FlownCuts.{flown_meets, meets_flown}

@@ -1,8 +1,8 @@
 //! Labels of units along a ticket.
 ghost use Rattle.std.specs.Prelude.{◌≡◌, ◌↔◌, ◌≤◌, length, map, true, IsTrue};
 ghost use Rattle.fare_law.specs.Lawful.{AtMostTwoStraddle, comes_in};
-ghost use Rattle.ticket_demands.specs.Breaches as Breaches;
-ghost use Rattle.ticket_demands.specs.Breaches.{LabelStands};
+ghost use Rattle.ticket_whole.specs.Breaches as Breaches;
+ghost use Rattle.ticket_whole.specs.Breaches.{LabelStands};
 ghost use Rattle.ticket_whole.specs.Boundaries.{AtMostTwo};
 
 use fare_law::{ArrayVec, Component, MOST_COMPONENTS};

@@ -2,10 +2,11 @@
 ghost use Rattle.std.specs.Prelude.{◌≡◌, ◌↔◌, ◌≤◌, ℤ, length, map, option_map, All, IsTrue};
 ghost use Rattle.fare_law.specs.Lawful.{EndOnEndHolds};
 ghost use Rattle.fare_law.specs.Lists.{Each};
-ghost use Rattle.ticket_demands.specs.Known.{part_of, parts_of};
+ghost use Rattle.ticket_whole.specs.Known.{part_of, parts_of};
 ghost use Rattle.ticket_whole.specs.FaresOn.{Combines, fare_on};
 
-use crate::known::{has_known_flight, row_of};
+use crate::component_flights::row_of;
+use crate::known::has_known_flight;
 use fare_book::Book;
 use fare_law::{ArrayVec, Carrier, Component, EndOnEnd, MOST_COMPONENTS};
 

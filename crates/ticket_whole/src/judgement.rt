@@ -2,12 +2,12 @@
 ghost use Rattle.std.specs.Prelude.{◌↔◌, IfErr, IsOk};
 ghost use Rattle.fare_law.specs.Lawful.{Lawful};
 ghost use Rattle.fare_law.specs.Limits.{IsRequest};
-ghost use Rattle.ticket_demands.specs.Breaches.{FirstBreach};
+ghost use Rattle.ticket_whole.specs.Breaches.{FirstBreach};
 
 use crate::meeting::broken_at;
 use fare_book::Book;
 use fare_law::{Request, Ticket};
-use ticket_demands::{Breach, Demand};
+use crate::{Breach, Demand};
 
 /// The demands are numbered 1 to 26.
 const LAST_RULE: u8 = 26;

@@ -1,21 +1,14 @@
-//! What a book knows of components.
-ghost use Rattle.std.specs.Prelude.{◌≡◌, ◌↔◌, ◌≤◌, ◌+◌, ◌++◌, length, slice_get, Any, IsSome, IsTrue, Some, None, MatchOption};
+//! The flights of components that a book knows.
+ghost use Rattle.std.specs.Prelude.{◌≡◌, ◌↔◌, ◌≤◌, ◌+◌, ◌++◌, length, slice_get, Any, IsSome, IsTrue};
 ghost use Rattle.std.specs.List.{filter_map};
 ghost use Rattle.fare_law.specs.Limits.{IsFlight};
 ghost use Rattle.fare_law.specs.Lists.{Each};
-ghost use Rattle.ticket_demands.specs.Breaches.{flights_of};
-ghost use Rattle.ticket_demands.specs.Known.{known_flights, ends_of, live_row};
+ghost use Rattle.ticket_whole.specs.Breaches.{flights_of};
+ghost use Rattle.ticket_whole.specs.Known.{known_flights, ends_of};
 
+use crate::component_flights::{all_flights, flight_numbered};
 use fare_book::Book;
-use fare_law::{ArrayVec, Component, Flight, MOST_COMPONENTS, MOST_FLIGHTS, SheetRow};
-
-/// All flights of the book's timetable.
-fn all_flights(book: &Book) -> &[Flight]
-    ensures flights { result.now ≡ book.now.timetable.flights }
-    ensures limits { Each IsFlight result.now }
-{
-    book.timetable().schedule().flights()
-}
+use fare_law::{ArrayVec, Component, Flight, MOST_COMPONENTS, MOST_FLIGHTS};
 
 /// The known flights of at most `MOST_COMPONENTS` components, in order.
 pub fn flights_of(components: &[Component], book: &Book) -> ArrayVec<Flight, MOST_FLIGHTS>
@@ -48,13 +41,6 @@ fn add_numbered(found: &mut ArrayVec<Flight, MOST_FLIGHTS>, numbers: &[u32], fli
     }
 }
 
-/// The flight of a number.
-fn flight_numbered(flights: &[Flight], number: u32) -> Option<Flight>
-    ensures { result ≡ slice_get flights.now number }
-{
-    flights.get(number as usize).copied()
-}
-
 /// Whether a flight of the component is known.
 pub fn has_known_flight(component: &Component, book: &Book) -> bool
     ensures { IsTrue result ↔ IsSome (ends_of (known_flights book.now component.now.flights)) }
@@ -74,12 +60,4 @@ fn is_numbered(flights: &[Flight], number: u32) -> bool
     ensures { IsTrue result ↔ IsSome (slice_get flights.now number) }
 {
     flight_numbered(flights, number).is_some()
-}
-
-/// The row of the component's fare. None exactly where that isn't live.
-pub fn row_of<'a>(component: &Component, book: &'a Book) -> Option<&'a SheetRow>
-    ensures { MatchOption result (live_row book.now component.now.fare ≡ None) (λ row. live_row book.now component.now.fare ≡ Some row.now) }
-{
-    let row = book.fare(&component.fare)?;
-    Some(row)
 }

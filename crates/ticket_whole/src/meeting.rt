@@ -2,16 +2,16 @@
 ghost use Rattle.std.specs.Prelude.{◌↔◌, ◌≤◌, length, IsTrue, MatchOption, None};
 ghost use Rattle.fare_law.specs.Limits.{IsRequest, IsSlice};
 ghost use Rattle.fare_law.specs.Lists.{Each};
-ghost use Rattle.ticket_demands.specs.Breaches.{FirstBroken, Met, StandingMeets, TicketMeets};
-ghost use Rattle.ticket_demands.specs.Breaches as Breaches;
-ghost use Rattle.ticket_demands.specs.Cuts.{CutsMeet};
+ghost use Rattle.ticket_whole.specs.Breaches.{FirstBroken, Met, StandingMeets, TicketMeets};
+ghost use Rattle.ticket_whole.specs.Breaches as Breaches;
+ghost use Rattle.ticket_whole.specs.Cuts.{CutsMeet};
 
 use crate::boundaries::{few_straddle, label_stands, labels_of};
 use crate::fares_on::end_on_end_meets;
 use crate::known::flights_of;
 use fare_book::Book;
 use fare_law::{Component, MOST_COMPONENTS, Request, Slice, Ticket};
-use ticket_demands::{Demand, JourneyDemand, component_meets, cuts_meet, part_meets};
+use crate::{Demand, JourneyDemand, component_meets, cuts_meet, part_meets};
 
 /// The least component, counted from 1, at which the ticket breaks a demand, 0 where it breaks it as
 /// a whole. None exactly where it meets it.

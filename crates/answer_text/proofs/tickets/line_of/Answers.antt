@@ -2,7 +2,7 @@ use Rattle.std.proofs.Common.{◌≡◌, ◌∙◌, Some, None, option_map, ap, 
 use Rattle.fare_law.specs.Lawful.{unit_of}
 use Rattle.fare_law.specs.Parts.{Part}
 use Rattle.fare_law.specs.Units.{IsUnit}
-use Rattle.ticket_demands.specs.Known.{parts_of}
+use Rattle.ticket_whole.specs.Known.{parts_of}
 use Rattle.answer_text.proofs.tickets.line_of.Goals as goal
 
 some_same : {X : Type 0} (x y : X) → Some x ≡ Some y → x ≡ y

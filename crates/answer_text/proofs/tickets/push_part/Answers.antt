@@ -1,5 +1,5 @@
 use Rattle.std.proofs.Common.{◌∙◌}
-use Rattle.ticket_demands.specs.Known.{parts_of}
+use Rattle.ticket_whole.specs.Known.{parts_of}
 use Rattle.ticket_whole.proofs.PartLookups.{numbers_known}
 use Rattle.answer_text.proofs.TicketTexts.{component_added}
 use Rattle.law_lemmas.proofs.Options.{on_ok}

@@ -2,7 +2,7 @@ use Rattle.std.proofs.Common.{◌≡◌, ◌<◌, ◌≤◌, ◌+◌, List, leng
 use Rattle.fare_law.specs.declared.tickets.Component.{Component}
 use Rattle.fare_law.specs.Lawful.{unit_of}
 use Rattle.fare_law.specs.Units.{IsUnit}
-use Rattle.ticket_demands.specs.Known.{parts_of}
+use Rattle.ticket_whole.specs.Known.{parts_of}
 use Rattle.answer_text.specs.Answer.{ComponentText}
 use Rattle.answer_text.specs.Lines.{Adds}
 use Rattle.answer_text.proofs.TicketTexts.{PartText, Stands, all_of, all_stand, each_there, one_added, part_added, ticket_added}

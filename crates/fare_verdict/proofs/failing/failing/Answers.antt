@@ -1,6 +1,6 @@
 use Rattle.std.proofs.Common.{suc, length, sym, subst}
-use Rattle.ticket_demands.specs.declared.demand.Demand.TheVariants.{Labels}
-use Rattle.ticket_demands.specs.Breaches.{ComponentMeets, FirstBroken}
+use Rattle.ticket_whole.specs.declared.demand.Demand.TheVariants.{Labels}
+use Rattle.ticket_whole.specs.Breaches.{ComponentMeets, FirstBroken}
 use Rattle.fare_verdict.specs.Findings.{Fails, component_category}
 use Rattle.fare_verdict.specs.Told.{AreCategories}
 use Rattle.fare_verdict.proofs.Categories.{held_told, one_told}

@@ -1,8 +1,8 @@
 use Rattle.std.proofs.Common.{◌≡◌, ◌⊎◌, ◌↔◌, IsTrue, ℤ, w32, to_z, of_z, map, true, sym, ◌∙◌, subst, inl, inr, arith}
 use Rattle.std.proofs.lemmas.Int.{ints}
 use Rattle.fare_law.specs.Lawful.{comes_in}
-use Rattle.ticket_demands.specs.declared.demand.CategoryDemand.TheVariants.{Season, Advance, LeastStay, GreatestStay}
-use Rattle.ticket_demands.specs.declared.demand.UnitDemand.TheVariants.{FareKind, TravelDates, Combination}
+use Rattle.ticket_whole.specs.declared.demand.CategoryDemand.TheVariants.{Season, Advance, LeastStay, GreatestStay}
+use Rattle.ticket_whole.specs.declared.demand.UnitDemand.TheVariants.{FareKind, TravelDates, Combination}
 use Rattle.fare_law.specs.Days.{IsCalendarDay}
 use Rattle.fare_verdict.specs.Findings.{FailsInUnit}
 use Rattle.fare_verdict.specs.Told.{AreCategories}

@@ -1,7 +1,7 @@
 use Rattle.std.proofs.Common.{◌≡◌, ◌+◌, suc, subst, arith}
 use Rattle.std.proofs.lemmas.Bool.Decides.{Decides-eqb}
-use Rattle.ticket_demands.specs.declared.demand.Demand.TheVariants.{Labels}
-use Rattle.ticket_demands.specs.Breaches.{FirstBroken}
+use Rattle.ticket_whole.specs.declared.demand.Demand.TheVariants.{Labels}
+use Rattle.ticket_whole.specs.Breaches.{FirstBroken}
 use Rattle.fare_verdict.proofs.failing.is_first_wrong.Goals as goal
 
 pub returns-in-Some : goal.returns-in-Some

@@ -1,5 +1,5 @@
 use Rattle.std.proofs.Common.{◌≡◌, ◌↔◌, ◌+◌, IsTrue, sym, subst, arith}
-use Rattle.ticket_demands.specs.Breaches.{number_of}
+use Rattle.ticket_whole.specs.Breaches.{number_of}
 use Rattle.fare_verdict.specs.Findings.{AreAll}
 use Rattle.fare_verdict.specs.Stages.{IsTested}
 use Rattle.fare_verdict.proofs.RuleTurns.{IsBelow, rules_all, rules_more, rules_skip}

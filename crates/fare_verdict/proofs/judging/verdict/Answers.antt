@@ -2,8 +2,8 @@ use Rattle.std.proofs.Common.{◌≡◌, ◌↔◌, [], List, refl, sym, subst}
 use Rattle.std.proofs.lemmas.Result.{IfOk-weaker}
 use Rattle.fare_law.specs.Lawful.{Lawful}
 use Rattle.fare_law.specs.Lists.{OnFirst}
-use Rattle.ticket_demands.specs.Breaches.{FirstBreach}
-use Rattle.ticket_demands.specs.declared.breach.Breach.{Breach}
+use Rattle.ticket_whole.specs.Breaches.{FirstBreach}
+use Rattle.ticket_whole.specs.declared.breach.Breach.{Breach}
 use Rattle.fare_verdict.specs.declared.finding.Finding.{Finding}
 use Rattle.fare_verdict.specs.Findings.{AreFindings}
 use Rattle.fare_verdict.proofs.judging.verdict.Goals as goal

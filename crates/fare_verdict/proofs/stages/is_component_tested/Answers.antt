@@ -2,8 +2,8 @@ use Rattle.std.proofs.Common.{◌≡◌, ◌⊎◌, subst, inl, inr}
 use Rattle.fare_law.specs.declared.requests.Request.{Request}
 use Rattle.fare_law.specs.declared.tickets.Ticket.{Ticket}
 use Rattle.fare_law.specs.Book.{Book}
-use Rattle.ticket_demands.specs.declared.demand.ComponentDemand.{ComponentDemand}
-use Rattle.ticket_demands.specs.declared.demand.ComponentDemand.TheVariants.{Seats, DayTime, Flights, Stopovers, Transfers}
+use Rattle.ticket_whole.specs.declared.demand.ComponentDemand.{ComponentDemand}
+use Rattle.ticket_whole.specs.declared.demand.ComponentDemand.TheVariants.{Seats, DayTime, Flights, Stopovers, Transfers}
 use Rattle.fare_verdict.specs.Stages.{IsComponentTested, KnownMet}
 use Rattle.fare_verdict.proofs.stages.is_component_tested.Goals as goal
 

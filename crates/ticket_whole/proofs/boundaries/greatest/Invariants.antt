@@ -1,5 +1,5 @@
 use Rattle.std.proofs.Common.{◌≡◌, max, map, drop}
-use Rattle.ticket_demands.specs.Breaches.{greatest}
+use Rattle.ticket_whole.specs.Breaches.{greatest}
 use Rattle.ticket_whole.proofs.boundaries.greatest.Given as goal
 
 abbrev pub invariant-loop-component : goal.invariant-loop-component

@@ -1,6 +1,6 @@
 use Rattle.std.proofs.Common.{◌↔◌, ◌∙◌, IsTrue, List, subst}
 use Rattle.std.specs.List.{All}
-use Rattle.ticket_demands.specs.Known.{parts_of}
+use Rattle.ticket_whole.specs.Known.{parts_of}
 use Rattle.ticket_whole.specs.declared.fares_on.FareOn.{FareOn}
 use Rattle.ticket_whole.specs.FaresOn.{Combines}
 use Rattle.ticket_whole.proofs.FaresCombine.{combine_told}

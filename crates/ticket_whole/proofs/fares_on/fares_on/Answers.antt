@@ -1,6 +1,6 @@
 use Rattle.std.proofs.Common.{◌∙◌, sym, ap, option_map, arith}
 use Rattle.fare_law.specs.declared.tickets.Component.{Component}
-use Rattle.ticket_demands.specs.Known.{part_of}
+use Rattle.ticket_whole.specs.Known.{part_of}
 use Rattle.ticket_whole.specs.FaresOn.{fare_on}
 use Rattle.ticket_whole.proofs.Gathering.{gather_more, gather_skip, gather_all}
 use Rattle.law_lemmas.proofs.Lists.{length_more, map_gathered}

@@ -1,6 +1,6 @@
 use Rattle.std.proofs.Common.{◌≡◌, ◌≤◌, ◌++◌, ℤ, length, drop, option_map}
 use Rattle.std.specs.List.{filter_map}
-use Rattle.ticket_demands.specs.Known.{part_of}
+use Rattle.ticket_whole.specs.Known.{part_of}
 use Rattle.ticket_whole.specs.FaresOn.{fare_on}
 use Rattle.ticket_whole.proofs.fares_on.fares_on.Given as goal
 

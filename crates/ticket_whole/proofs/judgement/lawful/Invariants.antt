@@ -1,6 +1,6 @@
 use Rattle.std.proofs.Common.{◌<◌}
-use Rattle.ticket_demands.specs.declared.demand.Demand.{Demand}
-use Rattle.ticket_demands.specs.Breaches.{Met, number_of}
+use Rattle.ticket_whole.specs.declared.demand.Demand.{Demand}
+use Rattle.ticket_whole.specs.Breaches.{Met, number_of}
 use Rattle.ticket_whole.proofs.judgement.lawful.Given as goal
 
 abbrev pub invariant-loop-rule : goal.invariant-loop-rule

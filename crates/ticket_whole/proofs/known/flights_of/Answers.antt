@@ -1,7 +1,7 @@
 use Rattle.std.proofs.Common.{◌∙◌, ◌+◌, ◌++◌, ap, drop, length, arith}
 use Rattle.fare_law.specs.declared.tickets.Component.{Component}
-use Rattle.ticket_demands.specs.Breaches.{flights_of}
-use Rattle.ticket_demands.specs.Known.{known_flights}
+use Rattle.ticket_whole.specs.Breaches.{flights_of}
+use Rattle.ticket_whole.specs.Known.{known_flights}
 use Rattle.ticket_whole.proofs.Gathering.{join_more}
 use Rattle.ticket_whole.proofs.KnownFlights.{numbered_same}
 use Rattle.ticket_whole.proofs.known.flights_of.Goals as goal

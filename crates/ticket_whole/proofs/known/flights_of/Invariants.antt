@@ -2,7 +2,7 @@ use Rattle.std.proofs.Common.{◌≡◌, ◌≤◌, ◌*◌, ◌++◌, length, d
 use Rattle.fare_law.specs.Limits.{IsFlight}
 use Rattle.fare_law.specs.Lists.{Each}
 use Rattle.fare_law.specs.declared.limits.TheConstants.{MOST_FLIGHTS_OF_A_COMPONENT}
-use Rattle.ticket_demands.specs.Breaches.{flights_of}
+use Rattle.ticket_whole.specs.Breaches.{flights_of}
 use Rattle.ticket_whole.proofs.known.flights_of.Given as goal
 
 abbrev pub invariant-loop-component : goal.invariant-loop-component

@@ -1,9 +1,0 @@
-pub mod Gathering
-pub mod PriceSums
-pub mod FlightEnds
-pub mod Neighbours
-pub mod CutLemmas
-pub mod OneKind
-pub mod KindTable
-pub mod PartTold
-pub mod CategoryTold

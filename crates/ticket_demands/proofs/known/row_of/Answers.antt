@@ -1,7 +1,0 @@
-use Rattle.ticket_demands.proofs.known.row_of.Goals as goal
-
-pub returns-clause-class : goal.returns-clause-class
-returns-clause-class c = (c.limits.ensures.fares _ _ c.in_ok-row.ensures.0).1.class
-
-pub returns-clause-rule : goal.returns-clause-rule
-returns-clause-rule c = c.limits.ensures.rules _ _ _ c.in_ok-row.ensures.1
