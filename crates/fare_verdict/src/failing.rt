@@ -11,10 +11,9 @@ ghost use Rattle.fare_verdict.specs.Told.{AreCategories};
 use fare_book::Book;
 use fare_law::{ArrayVec, Component, MOST_COMPONENTS, Request, Ticket};
 use ticket_whole::{
-    CategoryDemand, ComponentDemand, Demand, UnitDemand, category_meets, component_meets,
-    part_meets,
+    CategoryDemand, ComponentDemand, Demand, UnitDemand, broken_at, category_meets,
+    component_meets, part_meets,
 };
-use ticket_whole::broken_at;
 
 /// The categories by which a component of the ticket, which stands after these, fails a demand, 0 for none.
 pub fn failing(

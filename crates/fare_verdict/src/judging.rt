@@ -17,8 +17,7 @@ use crate::stages::{is_tested, stages_of};
 use fare_book::Book;
 use fare_law::{List, Mem, Request, Ticket};
 use std::alloc::Global;
-use ticket_whole::Demand;
-use ticket_whole::{broken_at, lawful};
+use ticket_whole::{Demand, broken_at, lawful};
 
 /// The demands are numbered 1 to 26.
 const LAST_RULE: u8 = 26;

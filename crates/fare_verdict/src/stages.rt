@@ -12,8 +12,7 @@ ghost use Rattle.fare_verdict.specs.Told.{AreStages};
 use crate::told::Stages;
 use fare_book::Book;
 use fare_law::{Request, Ticket};
-use ticket_whole::{ComponentDemand, Demand, JourneyDemand};
-use ticket_whole::broken_at;
+use ticket_whole::{ComponentDemand, Demand, JourneyDemand, broken_at};
 
 /// What is known of the ticket.
 pub fn stages_of(ticket: &Ticket, book: &Book, request: &Request) -> Stages

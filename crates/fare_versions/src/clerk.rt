@@ -7,6 +7,7 @@ ghost use Rattle.fare_versions.specs.Published.{Grows, history_of};
 ghost use Rattle.fare_versions.specs.Writing.{pending, shown};
 ghost use Rattle.fare_versions.specs.Filings.{IsFaultless, book_with};
 
+use crate::FilingLog;
 use crate::edition::Edition;
 use crate::faults::FileFault;
 use crate::receipt::Receipt;
@@ -14,7 +15,6 @@ use crate::store::{EditionWriter, publish_at_last};
 use core::mem::replace_with;
 use fare_book::Book;
 use fare_law::Filing;
-use crate::FilingLog;
 use std::alloc::Global;
 use std::marker::Model;
 use std::sync::{Arc, Wait};

@@ -5,10 +5,10 @@ ghost use Rattle.fare_law.specs.declared.limits.TheConstants.{MOST_ENTRIES};
 ghost use Rattle.fare_law.specs.Lists.{IsPrefix};
 ghost use Rattle.fare_versions.specs.Published.{history_of};
 
+use crate::Front;
 use crate::receipt::Receipt;
 use fare_book::Book;
 use fare_law::Mem;
-use crate::Front;
 use left_right::Absorb;
 use std::alloc::AllocError;
 use std::marker::Model;

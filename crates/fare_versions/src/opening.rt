@@ -5,13 +5,13 @@ ghost use Rattle.fare_law.specs.declared.limits.TheConstants.{MOST_ENTRIES};
 ghost use Rattle.fare_versions.specs.Seen.{HasSeen};
 ghost use Rattle.fare_versions.specs.Writing.{last_seen, pending, shown};
 
+use crate::FilingLog;
 use crate::clerk::Clerk;
 use crate::edition::Edition;
 use crate::store::{EditionWriter, Shares, publish};
 use crate::watch::Watch;
 use fare_book::Book;
 use fare_law::{Filing, List, Mem};
-use crate::FilingLog;
 use std::alloc::Global;
 use std::sync::{Arc, Wait};
 

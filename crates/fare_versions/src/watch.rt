@@ -6,13 +6,13 @@ ghost use Rattle.fare_law.specs.Lists.{IsPrefix};
 ghost use Rattle.fare_versions.specs.Published.{Grows};
 ghost use Rattle.fare_versions.specs.Seen.{HasSeen, SeeOneHistory, seen_by};
 
+use crate::Front;
 use crate::edition::Edition;
 use crate::receipt::Receipt;
 use crate::store::{EditionReader, Sees};
 use core::mem::replace_with;
 use fare_book::Book;
 use fare_law::Mem;
-use crate::Front;
 use std::marker::Model;
 use std::sync::Arc;
 

@@ -7,12 +7,12 @@ ghost use Rattle.fare_versions.specs.Seen.{seen_by};
 ghost use Rattle.search_desk.specs.Desks.{Has};
 ghost use Rattle.serve_desks.specs.Wants.{CountsWants};
 
+use crate::Desk;
 use fare_book::Book;
 use fare_component::Plain;
 use fare_law::{Gate, List, Mem};
 use node_publish::NodeStore;
 use search_core::{SearchFault, search};
-use crate::Desk;
 use serve_desks::{Ask, Body, Reply};
 use std::alloc::Global;
 

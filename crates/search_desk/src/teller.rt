@@ -2,12 +2,12 @@
 ghost use Rattle.std.specs.Prelude.{◌≡◌};
 ghost use Rattle.search_desk.specs.Tellers.{AreAllowed};
 
+use crate::Desk;
 use crate::answering::{ask_of, counted, reply_by, reply_from};
 use fare_book::Book;
 use fare_law::{Gate, List, Mem};
 use fare_versions::Receipt;
 use node_publish::NodeStore;
-use crate::Desk;
 use serve_desks::{Ask, Reply, Teller};
 use std::alloc::Global;
 use std::marker::Model;

@@ -11,11 +11,11 @@ ghost use Rattle.serving.specs.Serves.{Serves};
 
 use crate::tellers::tellers_of;
 use crate::text::serve_text;
-use search_desk::DeskTeller;
 use fare_book::Book;
 use fare_law::{Gate, List, Mem};
 use fare_versions::{Clerk, Watch, begin};
 use node_publish::NodeStore;
+use search_desk::DeskTeller;
 use serve_desks::{Workload, drive};
 use std::alloc::Global;
 use std::sync::{Arc, Wait};

@@ -5,11 +5,10 @@ ghost use Rattle.fare_law.specs.Lists.{Each};
 ghost use Rattle.fare_versions.specs.Seen.{HasSeen};
 ghost use Rattle.serve_desks.specs.Terms.{IsOf, terms_of};
 
-use search_desk::DeskTeller;
 use fare_law::{Gate, List, Mem};
 use fare_versions::{Clerk, Watch};
 use node_publish::NodeStore;
-use search_desk::Desk;
+use search_desk::{Desk, DeskTeller};
 use serve_desks::Ask;
 use std::alloc::Global;
 

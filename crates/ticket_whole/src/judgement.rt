@@ -5,9 +5,9 @@ ghost use Rattle.fare_law.specs.Limits.{IsRequest};
 ghost use Rattle.ticket_whole.specs.Breaches.{FirstBreach};
 
 use crate::meeting::broken_at;
+use crate::{Breach, Demand};
 use fare_book::Book;
 use fare_law::{Request, Ticket};
-use crate::{Breach, Demand};
 
 /// The demands are numbered 1 to 26.
 const LAST_RULE: u8 = 26;

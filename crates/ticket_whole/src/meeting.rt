@@ -9,9 +9,9 @@ ghost use Rattle.ticket_whole.specs.Cuts.{CutsMeet};
 use crate::boundaries::{few_straddle, label_stands, labels_of};
 use crate::fares_on::end_on_end_meets;
 use crate::known::flights_of;
+use crate::{Demand, JourneyDemand, component_meets, cuts_meet, part_meets};
 use fare_book::Book;
 use fare_law::{Component, MOST_COMPONENTS, Request, Slice, Ticket};
-use crate::{Demand, JourneyDemand, component_meets, cuts_meet, part_meets};
 
 /// The least component, counted from 1, at which the ticket breaks a demand, 0 where it breaks it as
 /// a whole. None exactly where it meets it.
