@@ -51,7 +51,7 @@ pub fn flights_of(
 }
 
 /// The flights that have one of at most four numbers.
-#[tactic(auto, using(crate::proofs::Gathering::gather_steps))]
+#[tactic(auto, using(crate::proofs::KnownGathering::gather_steps))]
 fn numbered(numbers: &[u32], flights: &[Flight]) -> ArrayVec<Flight, MOST_FLIGHTS_OF_A_COMPONENT>
     requires few { length numbers.now ≤ MOST_FLIGHTS_OF_A_COMPONENT }
     requires limits { Each IsFlight flights.now }
