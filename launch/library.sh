@@ -15,11 +15,11 @@ kept_library() {
 }
 
 # Builds the library over what `rt ci` proved and built in the checkout $1, and keeps it as that of the sources of the checksum $2:
-# one archive of it and of the three functions on the heap that it calls of the toolchain's.
+# one archive of it and of the three functions on the heap that it calls of the toolchain's. By $3 processes, where that is given.
 build_library() {
   local kit room
   kit=$(readlink -f "$(command -v rt)") && kit=${kit%/*/*} && room=$(mktemp -d) || return
-  if python3 "$top/launch/library.py" "$kit" "$1" "$room/built.a" >"$room/log" 2>&1 && grep -q '^logic=proved' "$room/log" &&
+  if MIMALLOC_PURGE_DELAY=-1 python3 "$top/launch/library.py" "$kit" "$1" "$room/built.a" ${3:+"$3"} >"$room/log" 2>&1 && grep -q '^logic=proved' "$room/log" &&
     (cd "$room" && ar x built.a && ar x "$kit/c/liblibc_c.a" heap.pic.o && ar rcs whole.a ./*.o) &&
     mkdir -p "$top/out" && cp "$room/whole.a" "$top/out/new-$$" && mv "$top/out/new-$$" "$(kept_library "$2")"; then
     rm -rf "$room"
