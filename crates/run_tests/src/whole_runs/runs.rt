@@ -1,5 +1,5 @@
 //! One run of a top call.
-use crate::gates::{Holding, Plan};
+use crate::whole_runs::gates::{Holding, Plan};
 use fare_io::{MemSink, MemSource, Sink, Source};
 use fare_law::{List, Mem};
 use lowfare::{Status, run, serve};

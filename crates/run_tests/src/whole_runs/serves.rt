@@ -1,9 +1,9 @@
 //! Serving runs whose clerk and desks are held by a gate: what their desks write, and how many nodes they build.
-use crate::cases::{
+use crate::whole_runs::cases::{
     CHEAPER, ELSEWHERE, OLD_AND_NEW, ONE_WAY, ROUND_TRIP, UNKNOWN, joined, serve_case,
 };
-use crate::gates::{Holding, Plan};
-use crate::runs::{Call, command_of, served, written};
+use crate::whole_runs::gates::{Holding, Plan};
+use crate::whole_runs::runs::{Call, command_of, served, written};
 use fare_io::MemSink;
 use fare_law::{List, Mem};
 use lowfare::Status;

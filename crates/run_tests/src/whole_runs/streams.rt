@@ -1,9 +1,9 @@
 //! Four small cases from sources that fail, into sinks that fail or are full, and cut after each byte.
-use crate::cases::{
+use crate::whole_runs::cases::{
     CHEAPER, OLD_AND_NEW, ONE_WAY, ROUND_TRIP, TWO_CARRIERS, search_case, serve_case,
 };
-use crate::gates::Plan;
-use crate::runs::{Call, Command, command_of, ended, listed, written};
+use crate::whole_runs::gates::Plan;
+use crate::whole_runs::runs::{Call, Command, command_of, ended, listed, written};
 use fare_io::{FailSink, FailSource, MemSink, MemSource, Sink};
 use fare_law::{List, Mem};
 use lowfare::Status;
