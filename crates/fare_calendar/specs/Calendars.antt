@@ -1,5 +1,5 @@
 -- The calendar of a request of two slices, and why there is none.
-use Rattle.std.specs.Prelude.{◌≡◌, ◌≢◌, ℕ, zero, suc, pos, ◌+ℤ◌, Bool, true, false, int_le, ◌&&◌, List, [], ◌∷◌, ◌++◌, length, map, flat_map, None, Some}
+use Rattle.std.specs.Prelude.{◌≡◌, ◌≢◌, ℕ, zero, suc, pos, ◌+ℤ◌, Bool, true, false, int_le, ◌&&◌, List, [], ◌∷◌, ◌++◌, length, map, flat_map, Option, None, Some}
 use Rattle.fare_calendar.specs.Cells.{cell}
 use Rattle.fare_calendar.specs.declared.cell.Cell.{Cell}
 use Rattle.fare_calendar.specs.declared.cell.CellValue.{CellValue}
@@ -9,11 +9,9 @@ use Rattle.fare_calendar.specs.declared.fault.CalendarFault.TheVariants.{BadRequ
 use Rattle.fare_calendar.specs.declared.spans.Spans.{Spans}
 use Rattle.fare_law.specs.declared.requests.Request.{Request}
 use Rattle.fare_law.specs.declared.requests.Slice.{Slice}
-use Rattle.fare_law.specs.declared.tickets.Priced.{Priced}
 use Rattle.fare_law.specs.declared.tickets.Ticket.{Ticket}
 use Rattle.fare_law.specs.Best.{Best, Costs}
 use Rattle.fare_law.specs.Book.{Book}
-use Rattle.fare_law.specs.Limits.{IsRequest}
 use Rattle.fare_law.specs.Lists.{Matched}
 use Rattle.fare_law.specs.Requests.{judged, known_places, within}
 use Rattle.residual_keys.specs.Searches.{ReachesMoreThan}
@@ -43,10 +41,10 @@ HasValue b q budget (Price price) = (ReachesMoreThan budget b q → ⊥) × HasP
 HasValue b q budget NoTicket = (ReachesMoreThan budget b q → ⊥) × Best b q []
 HasValue b q budget TooLarge = ReachesMoreThan budget b q
 
--- what the best tickets tell, of which there is one at most
-abbrev pub value_told : List Priced → CellValue
-value_told [] = NoTicket
-value_told (best ∷ others) = Price best.price
+-- what the least price tells
+abbrev pub value_of : Option ℕ → CellValue
+value_of None = NoTicket
+value_of (Some price) = Price price
 
 -- The cell is that of these days after the first ones.
 pub record IsCell (b : Book) (q : Request) (budget : ℕ) (days : ℕ × ℕ) (c : Cell) : Type 0 where
@@ -81,8 +79,3 @@ HasCause b q spans (BadRequest why) = judged (known_places b) q ≡ Some why
 HasCause b q spans NotTwo = (judged (known_places b) q ≡ None) × (length q.slices ≢ 2)
 HasCause b q spans Span = (judged (known_places b) q ≡ None) × (length q.slices ≡ 2) × (spans_fit spans q.slices ≡ false)
 HasCause b q spans Mem = Unit {0}
-
--- No reason refuses the request, and it is within its limits.
-pub record IsAsked (b : Book) (q : Request) : Type 0 where
-  pub right : judged (known_places b) q ≡ None
-  pub limits : IsRequest q

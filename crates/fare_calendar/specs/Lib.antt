@@ -1,4 +1,5 @@
 pub mod Cells
 pub mod Calendars
+pub mod Columns
 pub mod CalendarText
 pub mod BestOfCells

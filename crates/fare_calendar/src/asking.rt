@@ -1,11 +1,13 @@
-//! The request of a cell.
+//! The requests of columns and of cells.
 ghost use Rattle.std.specs.Prelude.{◌≡◌, ◌≤ℤ◌, length, pos};
 ghost use Rattle.fare_calendar.specs.Cells.{cell, in_days};
 ghost use Rattle.fare_calendar.specs.Calendars.{span_fits, spans_fit};
+ghost use Rattle.fare_calendar.specs.Columns.{column};
 ghost use Rattle.fare_law.specs.Limits.{IsRequest, IsSlice};
 ghost use Rattle.fare_law.specs.Lists.{Each};
 
 use crate::Spans;
+use crate::columns::OutDays;
 use fare_law::{ArrayVec, Request, Slice};
 
 /// The last day of the calendar, 2099-12-31, and one day more.
@@ -17,12 +19,25 @@ pub(crate) fn cell_request(request: &Request, out: u8, back: u8) -> Request
     requires two { length request.now.slices ≡ 2 }
     ensures { result ≡ cell request.now out back }
 {
+    let outs = OutDays {
+        first: out,
+        count: 1,
+    };
+    column_request(request, outs, back)
+}
+
+/// The request of a column: the same, with a window of all its days out.
+pub(crate) fn column_request(request: &Request, outs: OutDays, back: u8) -> Request
+    requires right { IsRequest request.now }
+    requires two { length request.now.slices ≡ 2 }
+    ensures { result ≡ column request.now outs back }
+{
     let [going, coming] = request.slices.as_slice() else {
         unreachable!()
     };
     let mut slices = ArrayVec::new();
-    slices.push(one_day(going, out));
-    slices.push(one_day(coming, back));
+    slices.push(on_days(going, outs.first, outs.count));
+    slices.push(on_days(coming, back, 1));
     Request {
         sale: request.sale,
         party: request.party,
@@ -31,14 +46,14 @@ pub(crate) fn cell_request(request: &Request, out: u8, back: u8) -> Request
     }
 }
 
-// The slice on the one day that lies so many days after its first one.
-fn one_day(slice: &Slice, later: u8) -> Slice
+// The slice on so many days, which begin so many days after its first one.
+fn on_days(slice: &Slice, later: u8, days: u8) -> Slice
     requires { slice.now.first ≤ℤ pos 47481 }
-    ensures { result ≡ in_days slice.now later 1 }
+    ensures { result ≡ in_days slice.now later days }
 {
     Slice {
         first: slice.first + i32::from(later),
-        days: 1,
+        days,
         ..*slice
     }
 }

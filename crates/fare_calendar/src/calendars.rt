@@ -5,7 +5,8 @@ ghost use Rattle.fare_calendar.specs.Calendars.{HasCause, IsCalendar};
 ghost use Rattle.fare_law.specs.Lists.{Each};
 
 use crate::asking::spans_fit;
-use crate::cells::{Asked, push_cells};
+use crate::cells::cells_of;
+use crate::columns::Asked;
 use crate::{CalendarFault, Cell, Spans};
 use fare_book::Book;
 use fare_law::{List, Request};
@@ -38,11 +39,8 @@ pub fn calendar(
     let asked = Asked {
         book,
         request,
+        spans,
         budget,
     };
-    let mut cells = List::new(alloc);
-    for out in 0..spans.outs {
-        push_cells(alloc, &asked, out, spans.backs, &mut cells)?;
-    }
-    Ok(cells)
+    Ok(cells_of(alloc, &asked)?)
 }

@@ -9,6 +9,7 @@ mod asking;
 mod calendars;
 mod cell;
 mod cells;
+mod columns;
 mod fault;
 mod laws;
 mod spans;

@@ -1,0 +1,4 @@
+pub mod Sharing
+pub mod FirstRuns
+pub mod LeastPrices
+pub mod Windows
