@@ -172,9 +172,9 @@ module _ (b : Book) (q : Request) (nodes : List (State × Option ℕ)) (Bound : 
             let g = begun x e here r in
             ⊎_elim (λ before. inr (subst (λ (n : ℕ). Before n (move_code m.mv ++ []) e.price (run_code e.moves)) total before))
             (λ same.
-                let s = same_next g.k g.counts same in
-                let goes : RunGoes None g.k e = subst (λ (n : Option State). RunGoes n g.k e) (s.1 ∙ none) g.goes in
-                inl (drawn_same e m.price (m.mv ∷ []) (goes.1 ∙ s.0) (goes.0 ∙ ap (λ (v : Move). v ∷ []) (sym same))))
+            let s = same_next g.k g.counts same in
+            let goes : RunGoes None g.k e = subst (λ (n : Option State). RunGoes n g.k e) (s.1 ∙ none) g.goes in
+            inl (drawn_same e m.price (m.mv ∷ []) (goes.1 ∙ s.0) (goes.0 ∙ ap (λ (v : Move). v ∷ []) (sym same))))
             (compared e [] g (run_has_keys b q laws.keys x (m.mv ∷ []) m.price run).0 r)
 
     -- it leads on
@@ -201,15 +201,15 @@ module _ (b : Book) (q : Request) (nodes : List (State × Option ℕ)) (Bound : 
             let g = begun x e here r in
             ⊎_elim (λ before. inr (subst (λ (n : ℕ). Before n (move_code m.mv ++ run_code d.moves) e.price (run_code e.moves)) total before))
             (λ same.
-                let s = same_next g.k g.counts same in
-                let goes : RunGoes (Some y) g.k e = subst (λ (n : Option State). RunGoes n g.k e) (s.1 ∙ next) g.goes in
-                let price : e.price ≡ m.price + goes.0.price = goes.3 ∙ ap (λ (n : ℕ). n + goes.0.price) s.0 in
-                let moves : e.moves ≡ m.mv ∷ goes.0.moves = goes.2 ∙ ap (λ (v : Move). v ∷ goes.0.moves) (sym same) in
-                ⊎_elim (λ is. inl (drawn_same e (m.price + d.price) (m.mv ∷ d.moves) (price ∙ ap (λ (z : Drawn). m.price + z.price) is) (moves ∙ ap (λ (z : Drawn). m.mv ∷ z.moves) is)))
-                (λ before. inr (subst (λ (n : ℕ). Before (m.price + d.price) (move_code m.mv ++ run_code d.moves) n (run_code e.moves)) (sym price)
-                    (subst (λ (ms : List Move). Before (m.price + d.price) (move_code m.mv ++ run_code d.moves) (m.price + goes.0.price) (run_code ms)) (sym moves)
-                    (laws.second m.price d.price goes.0.price (move_code m.mv) (run_code d.moves) (run_code goes.0.moves) before))))
-                (first_y.first goes.0 goes.1))
+            let s = same_next g.k g.counts same in
+            let goes : RunGoes (Some y) g.k e = subst (λ (n : Option State). RunGoes n g.k e) (s.1 ∙ next) g.goes in
+            let price : e.price ≡ m.price + goes.0.price = goes.3 ∙ ap (λ (n : ℕ). n + goes.0.price) s.0 in
+            let moves : e.moves ≡ m.mv ∷ goes.0.moves = goes.2 ∙ ap (λ (v : Move). v ∷ goes.0.moves) (sym same) in
+            ⊎_elim (λ is. inl (drawn_same e (m.price + d.price) (m.mv ∷ d.moves) (price ∙ ap (λ (z : Drawn). m.price + z.price) is) (moves ∙ ap (λ (z : Drawn). m.mv ∷ z.moves) is)))
+            (λ before. inr (subst (λ (n : ℕ). Before (m.price + d.price) (move_code m.mv ++ run_code d.moves) n (run_code e.moves)) (sym price)
+            (subst (λ (ms : List Move). Before (m.price + d.price) (move_code m.mv ++ run_code d.moves) (m.price + goes.0.price) (run_code ms)) (sym moves)
+            (laws.second m.price d.price goes.0.price (move_code m.mv) (run_code d.moves) (run_code goes.0.moves) before))))
+            (first_y.first goes.0 goes.1))
             (compared e (run_code d.moves) g (run_has_keys b q laws.keys x (m.mv ∷ d.moves) (m.price + d.price) run).0 r)
 
     first_goes : (next : Option State) → m.next ≡ next → FirstGoes b q nodes x next

@@ -61,7 +61,7 @@ still_tell s t rows case keeps h = record {
   request = subst IsRequest (sym case.request) h.request;
   alive = live_rows (live s) (live t) (state s) (state t) keeps rows h.alive;
   closed = subst (λ (nodes : List (State × Option ℕ)). AreClosed t.case.book.now t.case.request.now nodes) (sym (same_rows (live s) (live t) (state s) (state t) keeps rows h.alive))
-  (subst (λ (b : Book). AreClosed b t.case.request.now (rows_of (state s) rows)) (sym case.book) (subst (λ (q : Request). AreClosed s.case.book.now q (rows_of (state s) rows)) (sym case.request) h.closed));
+      (subst (λ (b : Book). AreClosed b t.case.request.now (rows_of (state s) rows)) (sym case.book) (subst (λ (q : Request). AreClosed s.case.book.now q (rows_of (state s) rows)) (sym case.request) h.closed));
 }
 
 -- the price of a row is that of a first run, and a row without one is of a state without a run

@@ -56,15 +56,15 @@ placed b r at h = ⊎_elim (λ z. ⊎_elim (λ l. inl (z, h z l)) (λ l. inr (λ
 here : (b : Book) (q r : Request) (at : Position) → SharesMoves b q r → IsPlaced b r at → Windowed b q.slices r.slices at
 here b q r at h is = ⊎_elim
     (λ first s t n f es et k z.
-        let e = first.0 in
-        (h.windows at s t first.1 (ap (λ (i : ℕ). slice_get q.slices i) (sym e) ∙ es) (ap (λ (i : ℕ). slice_get r.slices i) (sym e) ∙ et) n f k.low k.high k.known k.departs).0 (k.window z))
+    let e = first.0 in
+    (h.windows at s t first.1 (ap (λ (i : ℕ). slice_get q.slices i) (sym e) ∙ es) (ap (λ (i : ℕ). slice_get r.slices i) (sym e) ∙ et) n f k.low k.high k.known k.departs).0 (k.window z))
     (λ beyond. beyond_windowed b q.slices r.slices at h.like.slices beyond) (placed b r at is)
 
 back : (b : Book) (q r : Request) (at : Position) → SharesMoves b q r → IsPlaced b r at → Windowed b r.slices q.slices at
 back b q r at h is = ⊎_elim
     (λ first s t n f es et k z.
-        let e = first.0 in
-        (h.windows at t s first.1 (ap (λ (i : ℕ). slice_get q.slices i) (sym e) ∙ et) (ap (λ (i : ℕ). slice_get r.slices i) (sym e) ∙ es) n f k.low k.high k.known k.departs).1 (k.window z))
+    let e = first.0 in
+    (h.windows at t s first.1 (ap (λ (i : ℕ). slice_get q.slices i) (sym e) ∙ et) (ap (λ (i : ℕ). slice_get r.slices i) (sym e) ∙ es) n f k.low k.high k.known k.departs).1 (k.window z))
     (λ beyond. beyond_windowed b r.slices q.slices at (alike_back q.slices r.slices h.like.slices) beyond) (placed b r at is)
 
 pub chosen_shared : (b : Book) (q r : Request) → SharesMoves b q r → (x : State) → IsPlaced b r x.at → (c : Chosen) → IsChosen b q x c ↔ IsChosen b r x c

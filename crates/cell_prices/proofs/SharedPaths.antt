@@ -98,7 +98,11 @@ flies_as b ss ts at (n ∷ ns) (f ∷ fs) end a w (s, is, t, None, leads, rest) 
     (o.0, o.1, takes_as b s o.0 at n f o.2 (w s o.0 n f is o.1 t) t, None, leads_as b ss ts s o.0 at f None a o.3 leads, flies_end b ss ts ns fs end rest)
 flies_as b ss ts at (n ∷ ns) (f ∷ fs) end a w (s, is, t, Some to, leads, rest) =
     let o = at_alike ss ts at.slice s a is in (
-      o.0, o.1, takes_as b s o.0 at n f o.2 (w s o.0 n f is o.1 t) t, Some to, leads_as b ss ts s o.0 at f (Some to) a o.3 leads,
+      o.0,
+      o.1,
+      takes_as b s o.0 at n f o.2 (w s o.0 n f is o.1 t) t,
+      Some to,
+      leads_as b ss ts s o.0 at f (Some to) a o.3 leads,
       flies_as b ss ts to ns fs end a (beyond_windowed b ss ts to a (next_beyond b ss s at f to leads)) rest,
     )
 

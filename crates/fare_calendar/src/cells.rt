@@ -44,12 +44,7 @@ fn days_from(spans: Spans, first: u8) -> OutDays
 }
 
 // Adds the cells of some days out to those of the days before them.
-fn push_days(
-    alloc: Global,
-    asked: &Asked,
-    outs: OutDays,
-    cells: &mut List<Cell>,
-) -> Result<(), Mem>
+fn push_days(alloc: Global, asked: &Asked, outs: OutDays, cells: &mut List<Cell>) -> Result<(), Mem>
     requires asked { HasCells asked.now.request.now asked.now.spans }
     requires days { AreDaysOut asked.now.spans outs }
     requires cells { Matched (IsCell asked.now.book.now asked.now.request.now asked.now.budget) (day_pairs outs.first asked.now.spans.backs) cells.old }
@@ -88,13 +83,7 @@ fn push_cells(
 }
 
 // The cell of a day out and a day back.
-fn cell_on(
-    asked: &Asked,
-    columns: &[List<CellValue>],
-    outs: OutDays,
-    later: u8,
-    back: u8,
-) -> Cell
+fn cell_on(asked: &Asked, columns: &[List<CellValue>], outs: OutDays, later: u8, back: u8) -> Cell
     requires asked { HasCells asked.now.request.now asked.now.spans }
     requires days { AreDaysOut asked.now.spans outs }
     requires columns { AreColumns asked.now.book.now asked.now.request.now asked.now.budget outs asked.now.spans.backs columns.now }

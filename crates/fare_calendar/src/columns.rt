@@ -54,12 +54,7 @@ pub(crate) fn columns_of(
 }
 
 // What the cells of a day back tell.
-fn column_on(
-    alloc: Global,
-    asked: &Asked,
-    outs: OutDays,
-    back: u8,
-) -> Result<List<CellValue>, Mem>
+fn column_on(alloc: Global, asked: &Asked, outs: OutDays, back: u8) -> Result<List<CellValue>, Mem>
     requires asked { HasCells asked.now.request.now asked.now.spans }
     requires days { AreDaysOut asked.now.spans outs }
     requires back { back < asked.now.spans.backs }
