@@ -34,13 +34,12 @@ pub struct CrossingHead {
     pub mark: u64,
 }
 
-/// What heads are put in order by: first the bucket, then shorter ones and those that may go on earlier.
+/// What heads are put in order by: first the bucket, then shorter ones and those that may go on earlier. As numbers, since
+/// letters would be compared one by one.
 #[derive(Clone, Copy, PartialEq, Eq, PartialOrd, Ord)]
 pub struct HeadOrder {
-    carrier: Carrier,
-    first: i32,
-    count: u32,
-    lo: u32,
+    bucket: u64,
+    within: u64,
 }
 
 impl CrossingHead {
@@ -54,11 +53,11 @@ impl CrossingHead {
 
     /// What it is put in order by.
     pub fn order(&self) -> HeadOrder {
+        let [a, b] = self.carrier.0;
+        let [c, d, e, f] = self.first.to_be_bytes();
         HeadOrder {
-            carrier: self.carrier,
-            first: self.first,
-            count: self.count,
-            lo: self.lo,
+            bucket: u64::from_be_bytes([0, 0, a, b, c, d, e, f]),
+            within: u64::from(self.count) * 4_294_967_296 + u64::from(self.lo),
         }
     }
 

@@ -9,7 +9,6 @@ use crate::buckets::Bucket;
 use crate::crossing_heads::CrossingHead;
 use fare_ends::{KnownRule, RuleNumbers, lesser};
 use fare_law::Mem;
-use indexmap::IndexMap;
 use std::alloc::Global;
 
 /// What a rule says of the heads of a bucket.
@@ -28,8 +27,8 @@ pub struct Ruled {
 /// What the rules that were asked for say.
 #[derive(Drop)]
 pub struct RuledHeads {
-    /// Where it may stand what a rule says, by its number.
-    pub places: IndexMap<usize, usize>,
+    /// Where it may stand what a rule says, by its spot. What is told here of another bucket is compared before it is taken.
+    pub places: Vec<usize>,
     pub of: Vec<Ruled>,
     /// The charges of each head. None where it isn't permitted.
     pub charges: Vec<Option<u64>>,
@@ -39,7 +38,7 @@ impl RuledHeads {
     /// No rule yet.
     pub fn new(alloc: Global) -> RuledHeads {
         RuledHeads {
-            places: IndexMap::new(alloc),
+            places: Vec::new(alloc),
             of: Vec::new(alloc),
             charges: Vec::new(alloc),
         }
@@ -49,7 +48,6 @@ impl RuledHeads {
     pub fn clear(&mut self)
         ensures { self.new.of.items ≡ [] }
     {
-        self.places.clear();
         self.of.clear();
         self.charges.clear();
     }
@@ -69,7 +67,7 @@ impl RuledHeads {
     {
         let rule = rules.get(number);
         let name = name_of(rule, number);
-        match known(self.of.as_slice(), &self.places, name) {
+        match known(self.of.as_slice(), self.places.as_slice(), name) {
             Some(ruled) => Ok(ruled),
             None => self.add(bucket, rule, name),
         }
@@ -88,8 +86,7 @@ impl RuledHeads {
         ensures ruled { IfOk result (IsRuled bucket.now self.new.charges.items rule.now) }
     {
         let ruled = self.charge_heads(bucket, rule, name)?;
-        self.places
-            .insert(name.unwrap_or(usize::MAX), self.of.len())?;
+        put(&mut self.places, spot_of(name), self.of.len())?;
         self.of.push(ruled)?;
         Ok(ruled)
     }
@@ -143,16 +140,35 @@ fn name_of(rule: &KnownRule, number: usize) -> Option<usize>
 }
 
 /// What is kept by a number, if there is something.
-fn known(of: &[Ruled], places: &IndexMap<usize, usize>, name: Option<usize>) -> Option<Ruled>
+fn known(of: &[Ruled], places: &[usize], name: Option<usize>) -> Option<Ruled>
     ensures { IfSome result (λ r. IsIn r of.now × (r.rule ≡ name)) }
 {
-    let at = places.get(&name.unwrap_or(usize::MAX)).copied()?;
+    let at = places.get(spot_of(name)).copied()?;
     let ruled = of.get(at)?;
     if is_same(ruled.rule, name) {
         Some(*ruled)
     } else {
         None
     }
+}
+
+/// The spot of what is kept by a number: the first for rules that test nothing.
+fn spot_of(name: Option<usize>) -> usize {
+    match name {
+        Some(number) => number.saturating_add(1),
+        None => 0,
+    }
+}
+
+/// Puts a place at a spot.
+fn put(places: &mut Vec<usize>, spot: usize, at: usize) -> Result<(), Mem> {
+    if places.len() <= spot {
+        places.resize(spot.saturating_add(1), usize::MAX)?;
+    }
+    if let Some(place) = places.get_mut(spot) {
+        *place = at;
+    }
+    Ok(())
 }
 
 fn is_same(one: Option<usize>, other: Option<usize>) -> bool

@@ -58,13 +58,12 @@ pub struct TailClasses {
     pub ends: Vec<TailEnd>,
 }
 
-/// What tails are put in order by.
+/// What tails are put in order by: their ends and where they lead, then their last days and their first flights. As numbers,
+/// since letters would be compared one by one.
 #[derive(Clone, Copy, PartialEq, Eq, PartialOrd, Ord)]
 struct TailOrder {
-    end: Place,
-    after: usize,
-    last: i32,
-    first: u32,
+    leads: u64,
+    flies: u64,
 }
 
 /// A tail with its class.
@@ -227,11 +226,13 @@ fn classes_made(alloc: Global, tails: Vec<OrderedTail>) -> Result<TailClasses, M
 }
 
 fn order_of(tail: &OrderedTail) -> TailOrder {
+    let [a, b, c] = tail.end.0;
+    let [_, _, _, d, e, f, g, h] = tail.after_number.to_be_bytes();
+    let [i, j, k, l] = tail.last.to_be_bytes();
+    let [m, n, o, p] = tail.tail.first.to_be_bytes();
     TailOrder {
-        end: tail.end,
-        after: tail.after_number,
-        last: tail.last,
-        first: tail.tail.first,
+        leads: u64::from_be_bytes([a, b, c, d, e, f, g, h]),
+        flies: u64::from_be_bytes([i, j, k, l, m, n, o, p]),
     }
 }
 

@@ -5,6 +5,7 @@
 mod flight_tables;
 mod merging;
 mod outline_numbers;
+mod outline_places;
 
 pub use flight_tables::FlightTables;
 pub use merging::Merging;

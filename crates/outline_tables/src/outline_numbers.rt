@@ -5,22 +5,11 @@ ghost use Rattle.fare_law.specs.Lists.{Each, IsPrefix};
 ghost use Rattle.outline_tables.specs.declared.outline_numbers.Priced.{Priced as OnePrice};
 ghost use Rattle.outline_tables.specs.Numbers.{AreRuled, OutlineStands, entries_of};
 
+use crate::outline_places::{OutlinePlaces, is_empty, number_in};
 use fare_ends::same_after;
 use fare_law::{FareKind, List, Mem, Rule, Shared};
-use indexmap::IndexMap;
 use outlines::{Entry, Outline};
 use std::alloc::Global;
-
-/// What an outline is looked up by.
-#[derive(Clone, Copy, PartialEq, Eq, Hash, Debug)]
-pub struct OutlineKey {
-    /// The number of the position to which it leads.
-    after: usize,
-    /// Its end and its fare.
-    fares: u64,
-    first: i32,
-    last: i32,
-}
 
 /// An outline with its rule.
 #[derive(Drop)]
@@ -40,7 +29,7 @@ pub struct Priced {
 #[derive(Drop)]
 pub struct OutlineNumbers {
     /// Where an outline may stand.
-    pub places: IndexMap<OutlineKey, usize>,
+    pub places: OutlinePlaces,
     pub of: Vec<RuledOutline>,
 }
 
@@ -50,7 +39,7 @@ impl OutlineNumbers {
         ensures { result.of.items ≡ [] }
     {
         OutlineNumbers {
-            places: IndexMap::new(alloc),
+            places: OutlinePlaces::new(alloc),
             of: Vec::new(alloc),
         }
     }
@@ -66,27 +55,22 @@ impl OutlineNumbers {
         ensures ruled { (b : Version) → live_rule b outline.now.carrier outline.now.number ≡ Some rule.now → AreRuled b self.old.of.items → AreRuled b self.new.of.items }
         ensures found { IfOk result (OutlineStands self.new.of.items outline.now) }
     {
-        let key = key_of(outline, after);
-        match known(self.of.as_slice(), &self.places, &key, outline) {
+        let mark = mark_of(outline, after);
+        match known(self.of.as_slice(), &self.places, mark, outline) {
             Some(number) => Ok(number),
-            None => self.add(outline, &key, rule),
+            None => self.add(outline, mark, rule),
         }
     }
 
     /// Adds an outline.
-    fn add(
-        &mut self,
-        outline: &Outline,
-        key: &OutlineKey,
-        rule: &Shared<Rule>,
-    ) -> Result<usize, Mem>
+    fn add(&mut self, outline: &Outline, mark: u32, rule: &Shared<Rule>) -> Result<usize, Mem>
         ensures grows { IsPrefix self.old.of.items self.new.of.items }
         ensures ruled { (b : Version) → live_rule b outline.now.carrier outline.now.number ≡ Some rule.now → AreRuled b self.old.of.items → AreRuled b self.new.of.items }
         ensures found { IfOk result (OutlineStands self.new.of.items outline.now) }
     {
         let number = self.of.len();
         let rule = rule.share()?;
-        self.places.insert(*key, number)?;
+        self.places.put(mark, number)?;
         self.of.push(RuledOutline {
             outline: *outline,
             rule,
@@ -106,7 +90,7 @@ impl OutlineNumbers {
         requires { Each (λ (p : OnePrice). p.outline < length self.now.of.items) priced.now }
         ensures { IfOk result (λ entries. entries ≡ entries_of self.now.of.items priced.now) }
     {
-        let mut entries = List::new(alloc);
+        let mut entries = Vec::with_capacity(alloc, priced.len())?;
         for one in priced {
             let ruled = &self.of[one.outline];
             entries.push(Entry {
@@ -115,20 +99,31 @@ impl OutlineNumbers {
                 price: one.price,
             })?;
         }
-        Ok(entries)
+        Ok(List::from_vec(entries))
     }
 }
 
-/// The number of an outline, if it is known.
-fn known(
-    of: &[RuledOutline],
-    places: &IndexMap<OutlineKey, usize>,
-    key: &OutlineKey,
-    outline: &Outline,
-) -> Option<usize>
+/// The number of an outline of a mark, if it is known.
+fn known(of: &[RuledOutline], places: &OutlinePlaces, mark: u32, outline: &Outline) -> Option<usize>
     ensures { IfSome result (OutlineStands of.now outline.now) }
 {
-    let number = places.get(key).copied()?;
+    for step in 0..places.room() {
+        let slot = places.slot(mark, step);
+        if is_empty(slot) {
+            return None;
+        }
+        if let Some(number) = known_in(of, slot, mark, outline) {
+            return Some(number);
+        }
+    }
+    None
+}
+
+/// The number in a slot, if it is an outline's of a mark.
+fn known_in(of: &[RuledOutline], slot: u64, mark: u32, outline: &Outline) -> Option<usize>
+    ensures { IfSome result (OutlineStands of.now outline.now) }
+{
+    let number = number_in(slot, mark)?;
     let ruled = of.get(number)?;
     if is_same(&ruled.outline, outline) {
         Some(number)
@@ -159,17 +154,25 @@ fn is_same_fare(one: &Outline, other: &Outline) -> bool
         && one.reverse == other.reverse
 }
 
-fn key_of(outline: &Outline, after: usize) -> OutlineKey {
+/// The mark of an outline, which leads to the position of a number.
+fn mark_of(outline: &Outline, after: usize) -> u32 {
     let [a, b, c] = outline.end.0;
     let [d, e] = outline.carrier.0;
     let [f, g] = outline.number.to_le_bytes();
     let way = kind_number(outline.kind) + if outline.reverse { 4 } else { 0 };
-    OutlineKey {
-        after,
-        fares: u64::from_le_bytes([a, b, c, d, e, f, g, way]),
-        first: outline.first,
-        last: outline.last,
-    }
+    let fares = u64::from_le_bytes([a, b, c, d, e, f, g, way]);
+    let [h, i, j, k] = outline.first.to_le_bytes();
+    let [l, m, n, o] = outline.last.to_le_bytes();
+    let days = u64::from_le_bytes([h, i, j, k, l, m, n, o]);
+    let mixed = spread(spread(spread(fares) ^ days) ^ after as u64);
+    let [_, _, _, _, p, q, r, s] = mixed.to_le_bytes();
+    u32::from_le_bytes([p, q, r, s])
+}
+
+/// A number of which each bit hangs on many of another's.
+fn spread(number: u64) -> u64 {
+    let product = number.wrapping_mul(0x9e37_79b9_7f4a_7c15);
+    product ^ (product >> 32)
 }
 
 fn kind_number(kind: FareKind) -> u8
