@@ -25,7 +25,7 @@ use std::hash::Hash;
 
 /// What a path has in common with others: where it leads, its end, the days of its first and its last flight, and
 /// the carrier of its first. A fare's carrier is that of the first flight.
-#[derive(Clone, Copy, PartialEq, Eq, Hash, Debug)]
+#[derive(Clone, Copy, PartialEq, Eq, Hash)]
 pub struct PathClass {
     pub after: Option<Position>,
     pub end: Place,
@@ -35,7 +35,7 @@ pub struct PathClass {
 }
 
 /// How a path begins: the day of its first flight, and its carrier.
-#[derive(Clone, Copy, PartialEq, Eq, Hash, Debug)]
+#[derive(Clone, Copy, PartialEq, Eq, Hash)]
 pub struct PathStart {
     pub day: i32,
     pub carrier: Carrier,

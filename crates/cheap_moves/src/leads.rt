@@ -18,7 +18,7 @@ use residual_keys::next_after;
 use std::alloc::Global;
 
 /// An outline of a residual's position, and a total that no move by a component of it is below.
-#[derive(Clone, Copy, PartialEq, Eq, Debug)]
+#[derive(Clone, Copy)]
 pub struct Lead {
     pub outline: Outline,
     pub total: u128,

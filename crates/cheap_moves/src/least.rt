@@ -12,7 +12,7 @@ use std::cmp::Ordering;
 use ticket_order::{move_code, order_laws};
 
 /// A move of a residual that counts under bounds.
-#[derive(Debug, Drop)]
+#[derive(Drop)]
 pub struct CountedMove {
     pub chosen: Chosen,
     /// Its price and the bound of what it leaves.

@@ -9,7 +9,7 @@ use outlines::Outline;
 use std::alloc::Global;
 
 /// A group of fares by its key, and whether they are filed from a path's end to its beginning.
-#[derive(Clone, Copy, PartialEq, Eq, Debug)]
+#[derive(Clone, Copy)]
 pub struct Prospect {
     pub key: GroupKey,
     pub reverse: bool,

@@ -34,7 +34,7 @@ pub struct PlaceTails<'a> {
 }
 
 /// What the tails of a slice that a place needs are looked up by.
-#[derive(Clone, Copy, PartialEq, Eq, Hash, Debug)]
+#[derive(Clone, Copy, PartialEq, Eq, Hash)]
 pub struct TailsKey {
     pub place: Place,
     pub slice: u8,

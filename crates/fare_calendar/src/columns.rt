@@ -29,7 +29,7 @@ pub(crate) struct Asked<'a> {
 }
 
 /// Days out that follow one another: how many days after the first one of the calendar they begin, and how many they are.
-#[derive(Clone, Copy, Debug)]
+#[derive(Clone, Copy)]
 pub(crate) struct OutDays {
     pub first: u8,
     pub count: u8,

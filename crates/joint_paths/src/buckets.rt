@@ -21,7 +21,7 @@ use fare_law::{Carrier, MOST_FLIGHTS_OF_A_COMPONENT, Place};
 use flight_paths::{Path, Position};
 
 /// Where the heads of so many flights at most end, and the first flight that may be next after one of them.
-#[derive(Clone, Copy, PartialEq, Eq, Debug)]
+#[derive(Clone, Copy)]
 pub struct Reach {
     pub end: usize,
     pub low: u32,

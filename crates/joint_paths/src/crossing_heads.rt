@@ -17,7 +17,7 @@ use fare_law::{Carrier, Flight};
 use flight_paths::{Path, Position, heads_are_short};
 
 /// A head that crosses, on which some class of seats is open.
-#[derive(Clone, Copy, PartialEq, Eq, Debug)]
+#[derive(Clone, Copy)]
 pub struct CrossingHead {
     pub flights: [u32; 3],
     /// How many flights it has.

@@ -18,7 +18,7 @@ use fare_law::Mem;
 use std::alloc::Global;
 
 /// A head that fits before a tail, and the classes of seats that are open on both.
-#[derive(Clone, Copy, PartialEq, Eq, Debug)]
+#[derive(Clone, Copy)]
 pub struct FittingHead {
     pub head: usize,
     pub classes: u32,
@@ -26,13 +26,13 @@ pub struct FittingHead {
 
 /// What is known of a tail: classes of seats of which each that is open on it and on a head that fits is one, and where the
 /// heads that fit stand, once they are listed.
-#[derive(Clone, Copy, PartialEq, Eq, Debug)]
+#[derive(Clone, Copy)]
 pub struct TailFit {
     pub classes: u32,
     pub listed: Option<HeadRange>,
 }
 
-#[derive(Clone, Copy, PartialEq, Eq, Debug)]
+#[derive(Clone, Copy)]
 pub struct HeadRange {
     pub from: usize,
     pub to: usize,

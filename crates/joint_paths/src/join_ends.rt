@@ -13,14 +13,14 @@ use indexmap::IndexMap;
 use std::alloc::Global;
 
 /// What ends are looked up by.
-#[derive(Clone, Copy, PartialEq, Eq, Debug)]
+#[derive(Clone, Copy)]
 pub struct JoinKey {
     pub place: Place,
     pub carrier: Carrier,
 }
 
 /// An end with fares, and where the classes of tails stand that end there.
-#[derive(Clone, Copy, PartialEq, Eq, Debug)]
+#[derive(Clone, Copy)]
 pub struct JoinEnd {
     pub end: FareEnd,
     pub from: usize,
@@ -28,21 +28,21 @@ pub struct JoinEnd {
 }
 
 /// Where ends stand.
-#[derive(Clone, Copy, PartialEq, Eq, Debug)]
+#[derive(Clone, Copy)]
 pub struct JoinRange {
     pub from: usize,
     pub to: usize,
 }
 
 /// Where the ends of a place stand.
-#[derive(Clone, Copy, PartialEq, Eq, Debug)]
+#[derive(Clone, Copy)]
 pub struct PlaceJoins {
     pub place: Place,
     pub range: JoinRange,
 }
 
 /// Where the ends of a place and a carrier stand.
-#[derive(Clone, Copy, PartialEq, Eq, Debug)]
+#[derive(Clone, Copy)]
 pub struct CarrierJoins {
     pub key: JoinKey,
     pub range: JoinRange,

@@ -8,7 +8,7 @@ use fare_law::Mem;
 use std::alloc::Global;
 
 /// What a rule says of a path.
-#[derive(Clone, Copy, PartialEq, Eq, Debug)]
+#[derive(Clone, Copy)]
 pub enum Charged {
     NotAsked,
     Refused,

@@ -12,7 +12,7 @@ use fare_law::Mem;
 use std::alloc::Global;
 
 /// What a rule says of the heads of a bucket.
-#[derive(Clone, Copy, PartialEq, Eq, Debug)]
+#[derive(Clone, Copy)]
 pub struct Ruled {
     /// The number of the rule. None of those that test nothing: they say the same.
     pub rule: Option<usize>,

@@ -16,7 +16,7 @@ use flight_paths::{Path, Position};
 use std::alloc::Global;
 
 /// A tail on which some class of seats is open.
-#[derive(Clone, Copy, PartialEq, Eq, Debug)]
+#[derive(Clone, Copy)]
 pub struct JoinTail {
     /// Where it stands among the tails of its slice.
     pub number: usize,
@@ -31,7 +31,7 @@ pub struct JoinTail {
 }
 
 /// A class of tails, and where they stand, by their first flights.
-#[derive(Clone, Copy, PartialEq, Eq, Debug)]
+#[derive(Clone, Copy)]
 pub struct TailClass {
     /// Where they lead, and the number of this position.
     pub after: Option<Position>,
@@ -43,7 +43,7 @@ pub struct TailClass {
 }
 
 /// Where the classes stand that end at a place.
-#[derive(Clone, Copy, PartialEq, Eq, Debug)]
+#[derive(Clone, Copy)]
 pub struct TailEnd {
     pub place: Place,
     pub from: usize,

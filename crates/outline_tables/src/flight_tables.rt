@@ -10,7 +10,7 @@ use flight_paths::Position;
 use std::alloc::Global;
 
 /// Where a table stands.
-#[derive(Clone, Copy, PartialEq, Eq, Debug)]
+#[derive(Clone, Copy)]
 pub struct TableRange {
     pub from: usize,
     pub to: usize,

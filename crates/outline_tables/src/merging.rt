@@ -9,7 +9,7 @@ use fare_law::Mem;
 use std::alloc::Global;
 
 /// Where an outline stands in the merge that has this number.
-#[derive(Clone, Copy, PartialEq, Eq, Debug)]
+#[derive(Clone, Copy)]
 pub struct Stand {
     pub merge: u64,
     pub at: usize,

@@ -9,7 +9,7 @@ use std::alloc::Global;
 use ticket_order::moves_of_code;
 
 /// A run from the root, with its price.
-#[derive(Debug, Drop)]
+#[derive(Drop)]
 pub struct DrawnRun {
     pub price: u64,
     pub moves: ArrayVec<Move, MOST_COMPONENTS>,

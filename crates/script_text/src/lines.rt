@@ -18,7 +18,7 @@ pub struct Script {
 }
 
 /// How many desks, later filings and requests a script line may name.
-#[derive(Clone, Copy, Debug)]
+#[derive(Clone, Copy)]
 pub(crate) struct Counts {
     pub desks: u32,
     pub later: u32,

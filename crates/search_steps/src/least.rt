@@ -9,7 +9,7 @@ use residual_keys::{Next, Residual};
 use std::alloc::Global;
 
 /// A move of a residual that counts under bounds.
-#[derive(Debug, Drop)]
+#[derive(Drop)]
 pub struct LeastMove<K> {
     pub mv: Move,
     pub price: u64,

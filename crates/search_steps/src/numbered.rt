@@ -8,7 +8,7 @@ use residual_table::ResidualParts;
 use std::alloc::Global;
 
 /// A mark of a list with its price, by numbers.
-#[derive(Clone, Copy, Debug)]
+#[derive(Clone, Copy)]
 pub struct Step {
     /// The slot of the position to which it leads: 0 where the journey is complete.
     pub after: u32,
@@ -33,7 +33,7 @@ pub struct PositionSteps {
 }
 
 /// What they are where they go on in an open unit or close it: a part of the steps of all open units.
-#[derive(Clone, Copy, Debug)]
+#[derive(Clone, Copy)]
 pub struct UnitSteps {
     /// Where the table of the position stands.
     pub place: usize,
@@ -44,7 +44,7 @@ pub struct UnitSteps {
 }
 
 /// What the list of an open unit is looked up by.
-#[derive(Clone, Copy, Debug)]
+#[derive(Clone, Copy)]
 pub struct UnitSlot {
     pub place: usize,
     pub slot: u32,

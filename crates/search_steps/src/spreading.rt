@@ -7,7 +7,7 @@ use residual_table::ResidualKey;
 
 /// Spreads the keys of residuals so that those which differ in their positions alone lie near each other: what a
 /// residual leads to mostly has its open units, and positions whose numbers are near.
-#[derive(Clone, Copy, Debug)]
+#[derive(Clone, Copy)]
 pub struct ByUnits;
 
 /// Rows of residuals, each with a bound or with none.

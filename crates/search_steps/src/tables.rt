@@ -17,7 +17,7 @@ use outlines::Entry;
 use std::alloc::Global;
 
 /// The table of a position.
-#[derive(Debug, Drop)]
+#[derive(Drop)]
 pub struct PositionTable {
     pub at: Position,
     pub entries: List<Entry>,

@@ -1,7 +1,7 @@
 //! A search of a script.
 
 /// A search of the script.
-#[derive(Clone, Copy, Debug)]
+#[derive(Clone, Copy)]
 pub(crate) struct SearchLine {
     /// The number of its line, counted from 1.
     pub line: usize,
