@@ -108,30 +108,32 @@ fn are_least(
     Ok(prices.as_slice() == expected.0 && words.as_slice() == expected.1)
 }
 
-#[test]
-fn least_of_doubling(rt: HostRuntime) -> Result<(), Fail> {
-    let alloc = rt.alloc();
-    let mut twos_then_one_first = [2; 128];
-    twos_then_one_first[64] = 1;
-    assert!(rt;
+/// The word of the second of 2^64 derivations, after that of the first one.
+fn twos_then_one_first() -> [u64; 128] {
+    let mut words = [2; 128];
+    words[64] = 1;
+    words
+}
+
+/// Whether the least derivations are told of leaves, fewer than asked for; of pairs, with a tie; of 2^64 derivations, of which two are
+/// asked for; of as many and none asked for; and of a node without choices.
+fn all_least(alloc: Global) -> Result<[bool; 5], Fail> {
+    let words = twos_then_one_first();
+    Ok([
         are_least(alloc, (0, 3, 1), (&[3, 5], &[2, 1]))?,
-        "leaves, fewer than asked for"
-    );
-    assert!(rt;
         are_least(alloc, (1, 3, 2), (&[6, 8, 8], &[2, 2, 1, 2, 2, 1]))?,
-        "pairs, with a tie"
-    );
-    assert!(rt;
-        are_least(alloc, (6, 2, 64), (&[192, 194], &twos_then_one_first))?,
-        "two of 2^64 derivations"
-    );
-    assert!(rt; are_least(alloc, (6, 0, 64), (&[], &[]))?, "none asked for");
-    Ok(())
+        are_least(alloc, (6, 2, 64), (&[192, 194], &words))?,
+        are_least(alloc, (6, 0, 64), (&[], &[]))?,
+        has_none(alloc)?,
+    ])
+}
+
+fn has_none(alloc: Global) -> Result<bool, Fail> {
+    Ok(best(alloc, &Sparse, 1, 3)?.as_slice().is_empty())
 }
 
 #[test]
-fn none_without_choices(rt: HostRuntime) -> Result<(), Fail> {
-    let found = best(rt.alloc(), &Sparse, 1, 3)?;
-    assert_eq!(rt; found.as_slice().len(), 0);
+fn draws_the_least(rt: HostRuntime) -> Result<(), Fail> {
+    assert_eq!(rt; all_least(rt.alloc())?, [true; 5]);
     Ok(())
 }

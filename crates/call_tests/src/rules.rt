@@ -24,13 +24,15 @@ fn written(alloc: Global, text: &[u8]) -> Result<Option<String>, Mem> {
     Ok(Some(value.to_string(alloc)?))
 }
 
+const SPELLED: &[u8] =
+    br#"{"carrier":"QX","rule":1,"cat7":365,"cat5":14,"cat10":{"kinds":["circle"],"partners":"any","end_on_end":"never"}}"#;
+
+const WRITTEN: &str =
+    r#"{"cat10":{"end_on_end":"never","kinds":["circle"],"partners":"any"},"cat5":14,"cat7":365}"#;
+
 #[test]
 fn writes_the_members_by_name(rt: HostRuntime) -> Result<(), Fail> {
-    let text =
-        br#"{"carrier":"QX","rule":1,"cat7":365,"cat5":14,"cat10":{"kinds":["circle"],"partners":"any","end_on_end":"never"}}"#;
-    let expected =
-        r#"{"cat10":{"end_on_end":"never","kinds":["circle"],"partners":"any"},"cat5":14,"cat7":365}"#;
-    let written = written(rt.alloc(), text)?;
-    assert_eq!(rt; written.as_ref().map(String::as_str), Some(expected));
+    let written = written(rt.alloc(), SPELLED)?;
+    assert_eq!(rt; written.as_ref().map(String::as_str), Some(WRITTEN));
     Ok(())
 }

@@ -80,21 +80,19 @@ const EIGHT_WORDS: [u64; 24] = [
     0, 0, 0, 0, 0, 1, 0, 1, 0, 1, 0, 0, 0, 1, 1, 1, 0, 1, 1, 1, 0, 1, 1, 1,
 ];
 
+/// Whether the least runs are told of one switch, fewer than asked for; of two, with ties in the order of their words; of all of
+/// three switches; and of seven, none asked for.
+fn all_least(alloc: Global) -> Result<[bool; 4], Fail> {
+    Ok([
+        are_least(alloc, (0, 3), (&[0, 1], &[0, 1]))?,
+        are_least(alloc, (1, 3), (&[0, 1, 1], &[0, 0, 0, 1, 1, 0]))?,
+        are_least(alloc, (2, 8), (&[0, 1, 1, 1, 2, 2, 2, 3], &EIGHT_WORDS))?,
+        are_least(alloc, (6, 0), (&[], &[]))?,
+    ])
+}
+
 #[test]
 fn least_of_switches(rt: HostRuntime) -> Result<(), Fail> {
-    let alloc = rt.alloc();
-    assert!(rt;
-        are_least(alloc, (0, 3), (&[0, 1], &[0, 1]))?,
-        "fewer than asked for"
-    );
-    assert!(rt;
-        are_least(alloc, (1, 3), (&[0, 1, 1], &[0, 0, 0, 1, 1, 0]))?,
-        "ties in the order of their words"
-    );
-    assert!(rt;
-        are_least(alloc, (2, 8), (&[0, 1, 1, 1, 2, 2, 2, 3], &EIGHT_WORDS))?,
-        "all of three switches"
-    );
-    assert!(rt; are_least(alloc, (6, 0), (&[], &[]))?, "none asked for");
+    assert_eq!(rt; all_least(rt.alloc())?, [true; 4]);
     Ok(())
 }

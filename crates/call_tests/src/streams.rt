@@ -38,24 +38,25 @@ impl Write for Broken {
     }
 }
 
-// What came of reading "hello" with this limit.
-fn read(alloc: Global, limit: usize) -> Result<List<u8>, InFault> {
+// Whether this comes of reading "hello" with this limit.
+fn reads(alloc: Global, limit: usize, want: Result<&str, InFault>) -> Result<bool, AllocError> {
     let mut source = MemSource::new(hello(alloc)?);
-    read_all(alloc, &mut source, limit)
+    let found = read_all(alloc, &mut source, limit);
+    let came = found.as_ref().map(List::as_slice).map_err(|fault| *fault);
+    Ok(came == want.map(str::as_bytes))
 }
 
 #[test]
-fn reads_to_the_end(rt: HostRuntime) {
+fn reads_to_the_end(rt: HostRuntime) -> Result<(), Fail> {
     let cases = [
         ("below the limit", 9, Ok("hello")),
         ("at the limit", 5, Ok("hello")),
         ("past the limit", 4, Err(InFault::TooLong)),
     ];
     for (name, limit, want) in cases {
-        let found = read(rt.alloc(), limit);
-        let came = found.as_ref().map(List::as_slice).map_err(|fault| *fault);
-        assert!(rt; came == want.map(str::as_bytes), "{name}");
+        assert!(rt; reads(rt.alloc(), limit, want)?, "{name}");
     }
+    Ok(())
 }
 
 // Whether a read of "hello" fails of which this call does.
@@ -124,32 +125,34 @@ fn tells_a_failed_write(rt: HostRuntime) -> Result<(), Fail> {
     Ok(())
 }
 
-#[test]
-fn passes_on_the_bytes_of_std(rt: HostRuntime) -> Result<(), Fail> {
-    let mut source = StdSource::new(b"version 1".as_slice());
-    let read = read_all(rt.alloc(), &mut source, 9)?;
-    assert_eq!(rt; read.as_slice(), b"version 1".as_slice());
-
-    let mut held = Vec::new(rt.alloc());
-    assert_eq!(rt;
-        write_all(&mut StdSink::new(&mut held), b"version 1"),
-        Ok(())
-    );
-    assert_eq!(rt; held.as_slice(), b"version 1".as_slice());
-    Ok(())
+// Whether std's reader and writer give and take these bytes.
+fn passes_on(alloc: Global, text: &[u8]) -> Result<[bool; 2], Fail> {
+    let read = read_all(alloc, &mut StdSource::new(text), 9)?;
+    let mut held = Vec::new(alloc);
+    let wrote = write_all(&mut StdSink::new(&mut held), text);
+    Ok([
+        read.as_slice() == text,
+        wrote == Ok(()) && held.as_slice() == text,
+    ])
 }
 
 #[test]
-fn passes_on_the_faults_of_std(rt: HostRuntime) -> Result<(), Fail> {
-    let read = read_all(rt.alloc(), &mut StdSource::new(Broken), 9);
-    assert!(rt; matches!(&read, Err(InFault::ReadFault)));
-    assert_eq!(rt;
-        write_all(&mut StdSink::new(Broken), b"version 1"),
-        Err(OutFault::Failed)
-    );
+fn passes_on_the_bytes_of_std(rt: HostRuntime) -> Result<(), Fail> {
+    assert!(rt; passes_on(rt.alloc(), b"version 1".as_slice())? == [true; 2]);
+    Ok(())
+}
 
+// What comes of writing into std's writers of which one fails each call and one has room for four bytes.
+fn faults() -> [Result<(), OutFault>; 2] {
     let mut room = [0; 4];
     let mut full = StdSink::new(room.as_mut_slice());
-    assert_eq!(rt; write_all(&mut full, b"version 1"), Err(OutFault::Stuck));
-    Ok(())
+    let stuck = write_all(&mut full, b"version 1");
+    [write_all(&mut StdSink::new(Broken), b"version 1"), stuck]
+}
+
+#[test]
+fn passes_on_the_faults_of_std(rt: HostRuntime) {
+    let read = read_all(rt.alloc(), &mut StdSource::new(Broken), 9);
+    assert!(rt; matches!(&read, Err(InFault::ReadFault)));
+    assert_eq!(rt; faults(), [Err(OutFault::Failed), Err(OutFault::Stuck)]);
 }
