@@ -4,9 +4,15 @@
 
 : "${top:?}"
 
-# What root_crate names in its place is proved and summed: the library stands on other crates than the program.
+# What makes the exports and builds them.
+builder=$(dirname "$(readlink -f "${BASH_SOURCE[0]}")")/library.py
+
+# What root_crate names in its place is proved and summed: the library stands on other crates than the program, and on the exports
+# that are made of its calls.
 library_sum() {
-  root_crate=lowfare_c source_sum
+  local sum
+  sum=$(root_crate=lowfare_c source_sum) || return
+  { echo "$sum" && cat "$builder"; } | sha256sum | cut -d ' ' -f 1
 }
 
 # Where the library of these sources is kept: by the checksum.
@@ -19,7 +25,7 @@ kept_library() {
 build_library() {
   local kit room
   kit=$(readlink -f "$(command -v rt)") && kit=${kit%/*/*} && room=$(mktemp -d) || return
-  if MIMALLOC_PURGE_DELAY=-1 python3 "$top/launch/library.py" "$kit" "$1" "$room/built.a" ${3:+"$3"} >"$room/log" 2>&1 && grep -q '^logic=proved' "$room/log" &&
+  if MIMALLOC_PURGE_DELAY=-1 python3 "$builder" "$kit" "$1" "$room/built.a" ${3:+"$3"} >"$room/log" 2>&1 && grep -q '^logic=proved' "$room/log" &&
     (cd "$room" && ar x built.a && ar x "$kit/c/liblibc_c.a" heap.pic.o && ar rcs whole.a ./*.o) &&
     mkdir -p "$top/out" && cp "$room/whole.a" "$top/out/new-$$" && mv "$top/out/new-$$" "$(kept_library "$2")"; then
     rm -rf "$room"

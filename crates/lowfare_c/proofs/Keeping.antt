@@ -1,8 +1,8 @@
 -- What a call gives that makes a book, from what was made and from what the handles hold.
 use Rattle.std.proofs.Common.{◌≡◌, ℕ, List, Option, None, Some, Result, Ok, Err, subst, sym, ◌∙◌, inl, inr}
-use Rattle.book_handles.specs.Held.{HoldsNothing, held_book, kept_book}
-use Rattle.book_handles.specs.declared.handles.Handle.{Handle}
-use Rattle.book_handles.specs.declared.kept.Kept.{Kept}
+use Rattle.lowfare_c.specs.Held.{HoldsNothing, held_book, kept_book}
+use Rattle.lowfare_c.specs.declared.handles.Handle.{Handle}
+use Rattle.lowfare_c.specs.declared.kept.Kept.{Kept}
 use Rattle.fare_law.specs.Book.{Book}
 use Rattle.lowfare_c.specs.Made.{Gives, Keeps, Makes}
 use Rattle.lowfare_c.specs.declared.lacks.Lack.TheVariants.{Memory, NoBook, TooLong}

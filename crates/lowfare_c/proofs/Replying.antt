@@ -1,8 +1,8 @@
 -- What a call replies, from what was found of the book that is kept and from what was told.
 use Rattle.std.proofs.Common.{◌≡◌, ℕ, List, Option, None, Some, Result, Ok, Err, ap, subst, sym, ◌∙◌, inl, inr}
-use Rattle.book_handles.specs.Held.{HoldsNothing, held_book, kept_book}
-use Rattle.book_handles.specs.declared.handles.Handle.{Handle}
-use Rattle.book_handles.specs.declared.kept.Kept.{Kept}
+use Rattle.lowfare_c.specs.Held.{HoldsNothing, held_book, kept_book}
+use Rattle.lowfare_c.specs.declared.handles.Handle.{Handle}
+use Rattle.lowfare_c.specs.declared.kept.Kept.{Kept}
 use Rattle.fare_law.specs.Book.{Book}
 use Rattle.lowfare.specs.declared.status.Status.{Status}
 use Rattle.lowfare_c.specs.Told.{Asks, Finds, FindsOf, Replies, Tells}

@@ -1,3 +1,5 @@
+pub mod Holding
+pub mod Held
 pub mod Told
 pub mod Made
 pub mod Questions

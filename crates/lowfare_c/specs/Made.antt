@@ -1,7 +1,7 @@
 -- What a call from C gives that makes a book.
 use Rattle.std.specs.Prelude.{◌≡◌, ◌⊎◌, ⊤, ℕ, List, Result, Ok, Err}
-use Rattle.book_handles.specs.Held.{HoldsBook, HoldsNothing, HoldsText}
-use Rattle.book_handles.specs.declared.handles.Handle.{Handle}
+use Rattle.lowfare_c.specs.Held.{HoldsBook, HoldsNothing, HoldsText}
+use Rattle.lowfare_c.specs.declared.handles.Handle.{Handle}
 use Rattle.fare_law.specs.Book.{Book}
 use Rattle.lowfare_c.specs.Told.{IsLong, IsWanting, lack_number}
 use Rattle.lowfare_c.specs.declared.lacks.Lack.TheVariants.{Memory, NoBook, TooLong}

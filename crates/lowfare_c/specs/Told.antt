@@ -1,8 +1,8 @@
 -- What a call from C gives: a status, with a text in a handle, or what it lacks.
 use Rattle.std.specs.Prelude.{◌≡◌, ◌⊎◌, ◌<◌, ◌≤◌, ◌++◌, ⊤, ℕ, zero, suc, min, take, drop, length, List, Option, None, Some, Result, Ok, Err}
-use Rattle.book_handles.specs.Held.{HoldsBook, HoldsNoBook, HoldsNothing, HoldsText, held_bytes, kept_book}
-use Rattle.book_handles.specs.declared.handles.Handle.{Handle}
-use Rattle.book_handles.specs.declared.kept.Kept.{Kept}
+use Rattle.lowfare_c.specs.Held.{HoldsBook, HoldsNoBook, HoldsNothing, HoldsText, held_bytes, kept_book}
+use Rattle.lowfare_c.specs.declared.handles.Handle.{Handle}
+use Rattle.lowfare_c.specs.declared.kept.Kept.{Kept}
 use Rattle.fare_law.specs.Book.{Book}
 use Rattle.lowfare.specs.Inputs.{most_bytes}
 use Rattle.lowfare.specs.Numbers.{number_of}

@@ -2,16 +2,17 @@
 ghost use Rattle.std.specs.Prelude.{◌≡◌, None, Some, length, Err, IfErr, IfOk};
 ghost use Rattle.std.specs.Arc.{arc_value};
 ghost use Rattle.fare_law.specs.Book.{Book as Version};
-ghost use Rattle.book_handles.specs.Held.{HoldsBook, HoldsNoBook, HoldsNothing, kept_book};
+ghost use Rattle.lowfare_c.specs.Held.{HoldsBook, HoldsNoBook, HoldsNothing, kept_book};
 ghost use Rattle.lowfare_c.specs.Made.{Gives, Keeps, Makes, Shares};
 ghost use Rattle.lowfare_c.specs.declared.lacks.Lack.TheVariants.{Memory as NoMemory, NoBook as NoSuchBook};
 ghost use Rattle.lowfare_c.specs.declared.lacks.Unmade.TheVariants.{Lacking};
 ghost use Rattle.shop_book.specs.Asked.{filed, opened};
 ghost use Rattle.whole_case.specs.Texts as Texts;
 
+use crate::handles::Handle;
+use crate::kept::{Kept, is_shared};
 use crate::lacks::{Lack, Unmade, fit, status_of};
 use crate::texts::{book_of, kept_text, put};
-use book_handles::{Handle, Kept, is_shared};
 use fare_book::Book;
 use fare_law::{List, Mem};
 use shop_book::{file, open_book};
@@ -21,13 +22,7 @@ use whole_case::{Refusal, refusal_text};
 
 /// Opens the book of the case of a search, its last version. At status 0 `book` holds it, and at status 1 `refusal` holds
 /// the line of the refusal. What the two held before is let go.
-#[unsafe(no_mangle)]
-pub extern "C" fn lowfare_open(
-    alloc: Global,
-    case: &[u8],
-    book: &mut Handle,
-    refusal: &mut Handle,
-) -> u32
+pub fn lowfare_open(alloc: Global, case: &[u8], book: &mut Handle, refusal: &mut Handle) -> u32
     ensures { Gives (opened case.now) case.now result book.new refusal.new }
 {
     let made = made_of_case(alloc, case);
@@ -35,8 +30,7 @@ pub extern "C" fn lowfare_open(
 }
 
 /// Makes a second handle of a book, for another thread. At status 0 `other` holds it; what it held before is let go.
-#[unsafe(no_mangle)]
-pub extern "C" fn lowfare_book_share(alloc: Global, book: &mut Handle, other: &mut Handle) -> u32
+pub fn lowfare_book_share(alloc: Global, book: &mut Handle, other: &mut Handle) -> u32
     ensures same { book.new.owned.held ≡ book.old.owned.held }
     ensures none { HoldsNoBook book.old → (result ≡ 16) × HoldsNothing other.new }
     ensures other { (b : Version) → HoldsBook book.old b → Shares b result other.new }
@@ -58,8 +52,7 @@ pub extern "C" fn lowfare_book_share(alloc: Global, book: &mut Handle, other: &m
 
 /// Lets go of the book that the handle holds, if it holds one. The handle then holds nothing. The book goes with its
 /// last handle.
-#[unsafe(no_mangle)]
-pub extern "C" fn lowfare_book_close(alloc: Global, book: &mut Handle)
+pub fn lowfare_book_close(alloc: Global, book: &mut Handle)
     ensures { HoldsNothing book.new }
 {
     let _book = book.take(alloc);
@@ -67,8 +60,7 @@ pub extern "C" fn lowfare_book_close(alloc: Global, book: &mut Handle)
 
 /// Files a filing upon a book. At status 0 `next` holds the next version, and at status 1 `refusal` the line of the
 /// refusal. What these two held before is let go. `book` holds what it held.
-#[unsafe(no_mangle)]
-pub extern "C" fn lowfare_file(
+pub fn lowfare_file(
     alloc: Global,
     book: &mut Handle,
     filing: &[u8],
@@ -88,8 +80,7 @@ pub extern "C" fn lowfare_file(
 }
 
 /// The number of the version that the handle holds: how many filings it has. 0 where it holds no book.
-#[unsafe(no_mangle)]
-pub extern "C" fn lowfare_version(alloc: Global, book: &mut Handle) -> u32
+pub fn lowfare_version(alloc: Global, book: &mut Handle) -> u32
     ensures same { book.new.owned.held ≡ book.old.owned.held }
     ensures none { HoldsNoBook book.old → result ≡ 0 }
     ensures number { (b : Version) → HoldsBook book.old b → result ≡ length b.entries }

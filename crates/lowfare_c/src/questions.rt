@@ -2,9 +2,10 @@
 ghost use Rattle.lowfare_c.specs.Questions.{has_long, says};
 ghost use Rattle.lowfare_c.specs.Told.{Asks, Finds, FindsOf};
 
+use crate::handles::Handle;
+use crate::kept::Kept;
 use crate::lacks::{Lack, fit};
 use crate::texts::{book_of, tell};
-use book_handles::{Handle, Kept};
 use fare_book::Book;
 use fare_calendar::Spans;
 use lowfare::Outcome;

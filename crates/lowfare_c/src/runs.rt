@@ -2,13 +2,13 @@
 ghost use Rattle.std.specs.Prelude.{◌≡◌, map, string_bytes, IfOk};
 ghost use Rattle.std.specs.Str.Lines.{lines};
 ghost use Rattle.std.specs.Str.{IsUtf8};
-ghost use Rattle.book_handles.specs.Held.{HoldsNothing};
+ghost use Rattle.lowfare_c.specs.Held.{HoldsNothing};
 ghost use Rattle.lowfare_c.specs.Told.{Finds, Replies};
 ghost use Rattle.shop_book.specs.Runs.{Ran};
 
+use crate::handles::Handle;
 use crate::lacks::Lack;
 use crate::texts::tell;
-use book_handles::Handle;
 use fare_law::Mem;
 use shop_book::{Outcome, run_over};
 use std::alloc::{AllocError, Global};
@@ -19,8 +19,7 @@ const USAGE: u32 = 2;
 /// Runs the command that the words ask for, one word a line, over the input: the program's status, with the text that
 /// the program would write. It carries all commands but `serve`. Words that aren't UTF-8 are no command line, and for
 /// these there is no text. What `answer` held before is let go.
-#[unsafe(no_mangle)]
-pub extern "C" fn lowfare_run(alloc: Global, words: &[u8], input: &[u8], answer: &mut Handle) -> u32
+pub fn lowfare_run(alloc: Global, words: &[u8], input: &[u8], answer: &mut Handle) -> u32
     ensures words { IsUtf8 words.now → Replies (λ status text. Ran status (lines words.now) input.now text) ⊥ result answer.new }
     ensures others { (IsUtf8 words.now → ⊥) → (result ≡ 2) × HoldsNothing answer.new }
 {

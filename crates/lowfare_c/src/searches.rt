@@ -4,16 +4,15 @@ ghost use Rattle.lowfare_c.specs.Told as Told;
 ghost use Rattle.lowfare_c.specs.Told.{Asks, IsLong};
 ghost use Rattle.shop_book.specs.Replies.{Checked, Judged, Priced, Searched};
 
+use crate::handles::Handle;
 use crate::questions::{Question, ask};
-use book_handles::Handle;
 use fare_calendar::Spans;
 use std::alloc::Global;
 
 /// Searches the book for a request. The text is that of the command `search`, the line of the request's refusal at
 /// status 1, or `too large` at status 6. `best` replaces the number of tickets that the request asks for, where it
 /// isn't 0. What `answer` held before is let go.
-#[unsafe(no_mangle)]
-pub extern "C" fn lowfare_search(
+pub fn lowfare_search(
     alloc: Global,
     book: &mut Handle,
     request: &[u8],
@@ -29,8 +28,7 @@ pub extern "C" fn lowfare_search(
 
 /// Checks a certificate against the book and a request. The text is `yes` at status 0, the first check that fails at
 /// status 7, or the line of a refusal at status 1. What `answer` held before is let go.
-#[unsafe(no_mangle)]
-pub extern "C" fn lowfare_check(
+pub fn lowfare_check(
     alloc: Global,
     book: &mut Handle,
     request: &[u8],
@@ -44,8 +42,7 @@ pub extern "C" fn lowfare_check(
 
 /// Prices a request of two slices for so many days out and so many back. The text is that of the command `calendar`, or
 /// the line of a refusal at status 1. What `answer` held before is let go.
-#[unsafe(no_mangle)]
-pub extern "C" fn lowfare_calendar(
+pub fn lowfare_calendar(
     alloc: Global,
     book: &mut Handle,
     request: &[u8],
@@ -67,8 +64,7 @@ pub extern "C" fn lowfare_calendar(
 
 /// Judges a ticket by the book and a request. The text is that of the command `verdict`, or the line of a refusal at
 /// status 1. What `answer` held before is let go.
-#[unsafe(no_mangle)]
-pub extern "C" fn lowfare_verdict(
+pub fn lowfare_verdict(
     alloc: Global,
     book: &mut Handle,
     request: &[u8],

@@ -1,11 +1,12 @@
 //! What C gets: a status, with a text in a handle.
 ghost use Rattle.std.specs.Prelude.{◌≡◌, ◌++◌, None, Some, take, drop, length, min, IfErr, IfOk, OnErr};
-ghost use Rattle.book_handles.specs.Held.{HoldsNothing, kept_book, kept_bytes};
+ghost use Rattle.lowfare_c.specs.Held.{HoldsNothing, kept_book, kept_bytes};
 ghost use Rattle.lowfare_c.specs.Told as Told;
 ghost use Rattle.lowfare_c.specs.declared.lacks.Lack.TheVariants.{NoBook as NoSuchBook};
 
+use crate::handles::Handle;
+use crate::kept::Kept;
 use crate::lacks::{Lack, status_of};
-use book_handles::{Handle, Kept};
 use fare_book::Book;
 use fare_law::{List, Mem};
 use shop_book::Outcome;
@@ -62,8 +63,7 @@ pub fn book_of(kept: &Kept) -> Result<&Book, Lack>
 }
 
 /// How many bytes the text has that the handle holds; 0 where it holds none.
-#[unsafe(no_mangle)]
-pub extern "C" fn lowfare_text_length(alloc: Global, text: &mut Handle) -> usize
+pub fn lowfare_text_length(alloc: Global, text: &mut Handle) -> usize
     ensures same { text.new.owned.held ≡ text.old.owned.held }
     ensures length { Told.HasLength text.old result }
 {
@@ -76,8 +76,7 @@ pub extern "C" fn lowfare_text_length(alloc: Global, text: &mut Handle) -> usize
 }
 
 /// Copies the front of the text that fits into the buffer, and says how many bytes that is.
-#[unsafe(no_mangle)]
-pub extern "C" fn lowfare_text_copy(alloc: Global, text: &mut Handle, into: &mut [u8]) -> usize
+pub fn lowfare_text_copy(alloc: Global, text: &mut Handle, into: &mut [u8]) -> usize
     ensures same { text.new.owned.held ≡ text.old.owned.held }
     ensures copied { Told.IsCopied text.old into.old into.new result }
 {
@@ -90,8 +89,7 @@ pub extern "C" fn lowfare_text_copy(alloc: Global, text: &mut Handle, into: &mut
 }
 
 /// Lets go of the text that the handle holds, if it holds one. The handle then holds nothing.
-#[unsafe(no_mangle)]
-pub extern "C" fn lowfare_text_free(alloc: Global, text: &mut Handle)
+pub fn lowfare_text_free(alloc: Global, text: &mut Handle)
     ensures { HoldsNothing text.new }
 {
     let _text = text.take(alloc);

@@ -1,6 +1,6 @@
 use Rattle.std.proofs.Common.{◌≡◌, Some, subst}
-use Rattle.book_handles.specs.Held.{kept_book}
-use Rattle.book_handles.specs.declared.kept.Kept.{Kept}
+use Rattle.lowfare_c.specs.Held.{kept_book}
+use Rattle.lowfare_c.specs.declared.kept.Kept.{Kept}
 use Rattle.fare_law.specs.Book.{Book}
 use Rattle.lowfare_c.specs.Made.{Makes}
 use Rattle.shop_book.specs.Asked.{filed}

@@ -1,9 +1,9 @@
 -- What a handle holds: a book, a text, or nothing.
 use Rattle.std.specs.Prelude.{◌≡◌, ℕ, List, [], Option, None, Some}
 use Rattle.std.specs.Arc.{arc_value}
-use Rattle.book_handles.specs.declared.handles.Handle.{Handle}
-use Rattle.book_handles.specs.declared.kept.Kept.{Kept}
-use Rattle.book_handles.specs.declared.kept.Kept.TheVariants.{Book as KeptBook, Text as KeptText}
+use Rattle.lowfare_c.specs.declared.handles.Handle.{Handle}
+use Rattle.lowfare_c.specs.declared.kept.Kept.{Kept}
+use Rattle.lowfare_c.specs.declared.kept.Kept.TheVariants.{Book as KeptBook, Text as KeptText}
 use Rattle.fare_law.specs.Book.{Book}
 
 -- the book that is kept, if it is one

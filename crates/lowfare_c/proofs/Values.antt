@@ -29,10 +29,10 @@ use Rattle.std.specs.Prelude.{Option, None, Some, IsTrue, is_some}
 use Rattle.std.specs.contracts.alloc.Global as heap
 use Rattle.std.proofs.alloc.Global.TheLaws as heap_laws
 use Rattle.std.specs.contracts.impls.GlobalAllocator.TheImpl.{ghosts}
-use Rattle.book_handles.specs.Holding.{held_at, the_heap}
-use Rattle.book_handles.specs.contracts.kept.Kept as kept
-use Rattle.book_handles.specs.contracts.loose.Loose as loose
-use Rattle.book_handles.specs.contracts.owned.Owned as owned
+use Rattle.lowfare_c.specs.Holding.{held_at, the_heap}
+use Rattle.lowfare_c.specs.contracts.kept.Kept as kept
+use Rattle.lowfare_c.specs.contracts.loose.Loose as loose
+use Rattle.lowfare_c.specs.contracts.owned.Owned as owned
 
 abbrev pub both : Val → Val → Val
 both v w = vstruct (vcons v (vcons w vnil))

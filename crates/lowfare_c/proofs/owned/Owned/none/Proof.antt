@@ -18,11 +18,11 @@ use denote.Triple.Entry.{alive}
 use denote.Triple.Walked.{Stays, walk_of}
 use Rattle.std.specs.Prelude.{None}
 use Rattle.std.proofs.raw_atomic.Walks.{proved_at, leaves}
-use Rattle.book_handles.proofs.Values.{owned_val, owned_good, owned_in, Owned}
-use Rattle.book_handles.specs.contracts.owned.Owned.none.{ended, clauses}
-use Rattle.book_handles.specs.contracts.owned.Owned.none.Key.{name as #self}
-use Rattle.book_handles.proofs.owned.Owned.none.Statement.{statement}
-use Rattle.book_handles.proofs.owned.Owned.none.Code as code
+use Rattle.lowfare_c.proofs.Values.{owned_val, owned_good, owned_in, Owned}
+use Rattle.lowfare_c.specs.contracts.owned.Owned.none.{ended, clauses}
+use Rattle.lowfare_c.specs.contracts.owned.Owned.none.Key.{name as #self}
+use Rattle.lowfare_c.proofs.owned.Owned.none.Statement.{statement}
+use Rattle.lowfare_c.proofs.owned.Owned.none.Code as code
 
 pub none_spec : {M : Type 1} → statement M
 none_spec 𝓤 𝓛 𝓜 𝓡 wired =

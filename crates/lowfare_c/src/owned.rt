@@ -1,8 +1,8 @@
 //! The pointer that C holds.
 ghost use Rattle.std.specs.Prelude.{◌≡◌, None, Some, Option, IsTrue, is_some};
 ghost use Rattle.std.specs.Coded.{coded_option};
-ghost use Rattle.book_handles.specs.Holding.{held_at};
-ghost use Rattle.book_handles.specs.declared.kept.Kept.{Kept};
+ghost use Rattle.lowfare_c.specs.Holding.{held_at};
+ghost use Rattle.lowfare_c.specs.declared.kept.Kept.{Kept};
 
 use crate::kept::Kept;
 use crate::loose::Loose;
@@ -20,7 +20,7 @@ pub struct Owned {
 }
 
 impl Model for Owned {
-    ghost use Rattle.book_handles.specs.Holding.{held_at};
+    ghost use Rattle.lowfare_c.specs.Holding.{held_at};
 
     ghost also_owns = { λ o. held_at o.held o.at };
 }

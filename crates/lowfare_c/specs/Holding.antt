@@ -3,8 +3,8 @@ use Rattle.std.specs.Prelude.{Option, None, Some}
 use Rattle.std.specs.Box.Ownership.{box_owns}
 use Rattle.std.specs.contracts.impls.GlobalAllocator.TheImpl.{ghosts}
 use Rattle.std.specs.declared.alloc.Global.{Global}
-use Rattle.book_handles.specs.contracts.kept.Kept.{the_row}
-use Rattle.book_handles.specs.declared.kept.Kept.{Kept}
+use Rattle.lowfare_c.specs.contracts.kept.Kept.{the_row}
+use Rattle.lowfare_c.specs.declared.kept.Kept.{Kept}
 use base.Fml.{Fml, ftrue}
 use denote.RawPtr.{Ptr}
 

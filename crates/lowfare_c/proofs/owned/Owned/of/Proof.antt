@@ -22,11 +22,11 @@ use Rattle.core.proofs.alloc.Calls.{Goes-blank}
 use Rattle.std.specs.Prelude.{Some}
 use Rattle.std.specs.contracts.impls.GlobalAllocator.TheImpl.{ghosts}
 use Rattle.std.proofs.raw_atomic.Walks.{proved_at, leaves}
-use Rattle.book_handles.proofs.Values.{both, loose_good, loose_out, owned_val, owned_good, owned_in, R, Z, LZ, Boxed}
-use Rattle.book_handles.specs.contracts.owned.Owned.of.{ended, clauses}
-use Rattle.book_handles.specs.contracts.owned.Owned.of.Key.{name as #self}
-use Rattle.book_handles.proofs.owned.Owned.of.Statement.{statement}
-use Rattle.book_handles.proofs.owned.Owned.of.Code as code
+use Rattle.lowfare_c.proofs.Values.{both, loose_good, loose_out, owned_val, owned_good, owned_in, R, Z, LZ, Boxed}
+use Rattle.lowfare_c.specs.contracts.owned.Owned.of.{ended, clauses}
+use Rattle.lowfare_c.specs.contracts.owned.Owned.of.Key.{name as #self}
+use Rattle.lowfare_c.proofs.owned.Owned.of.Statement.{statement}
+use Rattle.lowfare_c.proofs.owned.Owned.of.Code as code
 
 pub of_spec : {M : Type 1} → statement M
 of_spec 𝓤 𝓛 𝓜 𝓡 wired =

@@ -22,11 +22,11 @@ use Rattle.core.proofs.alloc.Calls.{Goes-blank, handle_tells}
 use Rattle.std.specs.Prelude.{Some, IsTrue, is_some}
 use Rattle.std.specs.contracts.impls.GlobalAllocator.TheImpl.{ghosts}
 use Rattle.std.proofs.raw_atomic.Walks.{proved_at, leaves}
-use Rattle.book_handles.proofs.Values.{al, both, held_of, loose_good, loose_in, owned_val, owned_good, owned_out, box_of_held, R, Z, LZ, Owned}
-use Rattle.book_handles.specs.contracts.owned.Owned.into_loose.{ended, clauses}
-use Rattle.book_handles.specs.contracts.owned.Owned.into_loose.Key.{name as #self}
-use Rattle.book_handles.proofs.owned.Owned.into_loose.Statement.{statement}
-use Rattle.book_handles.proofs.owned.Owned.into_loose.Code as code
+use Rattle.lowfare_c.proofs.Values.{al, both, held_of, loose_good, loose_in, owned_val, owned_good, owned_out, box_of_held, R, Z, LZ, Owned}
+use Rattle.lowfare_c.specs.contracts.owned.Owned.into_loose.{ended, clauses}
+use Rattle.lowfare_c.specs.contracts.owned.Owned.into_loose.Key.{name as #self}
+use Rattle.lowfare_c.proofs.owned.Owned.into_loose.Statement.{statement}
+use Rattle.lowfare_c.proofs.owned.Owned.into_loose.Code as code
 
 pub into_loose_spec : {M : Type 1} → statement M
 into_loose_spec 𝓤 𝓛 𝓜 𝓡 wired =
