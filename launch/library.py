@@ -15,7 +15,9 @@ import tempfile
 
 # The head of a call: its name, its parameters, and what it gives with its clauses.
 HEAD = re.compile(r"^pub fn (lowfare_\w+)\(([^)]*)\)((?: -> \w+)?\n.*?)^\{$", re.MULTILINE | re.DOTALL)
+# An import for clauses, and the names that it brings.
 IMPORT = re.compile(r"^ghost use .*\n", re.MULTILINE)
+IMPORTED = re.compile(r"[^\s{},;]+(?=[,};])")
 USES = "\nuse lowfare_c::Handle;\nuse std::alloc::Global;\n"
 
 
@@ -25,15 +27,21 @@ def export_of(name, parameters, clauses):
     return f'\n#[unsafe(no_mangle)]\npub extern "C" fn {name}({parameters}){clauses}{{\n    lowfare_c::{name}({given})\n}}\n'
 
 
+def is_named(name, text):
+    """Whether a text has a name, or the sign of an operator, as a word."""
+    return re.search(rf"(?<!\w){re.escape(name.strip('◌'))}(?!\w)", text)
+
+
 def write_exports(calls, folder):
-    """Writes the crate of the exports of these sources: for each that has calls a module with its imports."""
+    """Writes the crate of the exports of these sources: for each that has calls a module, with the imports that their clauses need."""
     modules = []
     for source in sorted(calls.glob("*.rt")):
         text = source.read_text()
-        exports = [export_of(*head) for head in HEAD.findall(text)]
+        exports = "".join(export_of(*head) for head in HEAD.findall(text))
         if exports:
+            imports = [line for line in IMPORT.findall(text) if any(is_named(name, exports) for name in IMPORTED.findall(line))]
             modules.append(source.stem)
-            (folder / source.name).write_text("".join([*IMPORT.findall(text), USES, *exports]))
+            (folder / source.name).write_text("".join(imports) + USES + exports)
     (folder / "lib.rt").write_text("#![tactic(auto)]\n\n" + "".join(f"mod {name};\n" for name in modules))
 
 
@@ -44,8 +52,9 @@ def main(kit, checkout, file, processes=None):
     calls = rtlib.Crate(os.path.join(checkout, "crates", "lowfare_c"), checkout, {})
     exports = copy.copy(calls)
     exports.name, exports.is_static, exports.deps = "lowfare_exports", True, [*calls.deps, calls]
-    with tempfile.TemporaryDirectory() as exports.folder:
-        source = pathlib.Path(exports.folder, "src")
+    with tempfile.TemporaryDirectory() as room:
+        exports.folder = room
+        source = pathlib.Path(room, "src")
         source.mkdir()
         write_exports(pathlib.Path(calls.folder, "src"), source)
         words = exports.words(["--jobs", processes or str(min(os.cpu_count() or 1, 3))], keeps=False)
