@@ -59,6 +59,8 @@ def main(kit, checkout, file, processes=None):
         write_exports(pathlib.Path(calls.folder, "src"), source)
         words = exports.words(["--jobs", processes or str(min(os.cpu_count() or 1, 3))], keeps=False)
         words += ["--toolchain", os.path.join(kit, "toolchain"), "--backend", "llvm", "-o", file]
+        # Its first call sets a signal's handler, which only the main thread may.
+        rtlib.guarded()
         return exports.prove(["build", *words])
 
 
