@@ -1,9 +1,10 @@
 //! Paths of a search of six flights, two of them a connection each way.
-ghost use Rattle.std.specs.Prelude.{◌≡◌, length};
+ghost use Rattle.std.specs.Prelude.{◌≡◌, ◌<◌, length};
 
 use fare_law::{ArrayVec, Carrier, FlightRow, Place, PlaceRow, Request, Slice};
 use flight_paths::{Path, Position, component_paths, root_position, slice_paths};
 use schedule_book::Schedule;
+use std::alloc::Global;
 use std::test::Fail;
 
 const LON: Place = Place(*b"LON");
@@ -132,6 +133,11 @@ fn request() -> Request
     }
 }
 
+/// The flights that are flown, by their numbers.
+fn flights(alloc: Global) -> Result<Schedule, Fail> {
+    Ok(Schedule::build(alloc, &PLACES, &ROWS)?)
+}
+
 /// Whether each list is that of its place.
 fn are(lists: &[ArrayVec<u32, 3>], expected: &[&[u32]]) -> bool {
     lists.len() == expected.len()
@@ -141,14 +147,31 @@ fn are(lists: &[ArrayVec<u32, 3>], expected: &[&[u32]]) -> bool {
             .all(|(list, numbers)| list.as_slice() == *numbers)
 }
 
+/// Whether the paths of a slice are these.
+fn has_paths(
+    alloc: Global,
+    schedule: &Schedule,
+    slice: u8,
+    expected: &[&[u32]],
+) -> Result<bool, Fail>
+    requires { slice < 2 }
+{
+    let paths = slice_paths(alloc, schedule, &request(), slice)?;
+    Ok(are(paths.as_slice(), expected))
+}
+
+/// Whether the paths of both slices are as they are worked out by hand.
+fn have_paths(alloc: Global) -> Result<[bool; 2], Fail> {
+    let schedule = flights(alloc)?;
+    Ok([
+        has_paths(alloc, &schedule, 0, &[&[2], &[0, 1]])?,
+        has_paths(alloc, &schedule, 1, &[&[4], &[3, 5]])?,
+    ])
+}
+
 #[test]
 fn gives_the_flights_of_a_slice(rt: HostRuntime) -> Result<(), Fail> {
-    let schedule = Schedule::build(rt.alloc(), &PLACES, &ROWS)?;
-    let request = request();
-    let out = slice_paths(rt.alloc(), &schedule, &request, 0)?;
-    let back = slice_paths(rt.alloc(), &schedule, &request, 1)?;
-    assert!(rt; are(out.as_slice(), &[&[2], &[0, 1]]));
-    assert!(rt; are(back.as_slice(), &[&[4], &[3, 5]]));
+    assert_eq!(rt; have_paths(rt.alloc())?, [true; 2]);
     Ok(())
 }
 
@@ -164,17 +187,17 @@ fn at_dublin(slice: u8, lo: u32, hi: u32) -> Option<Position> {
     })
 }
 
-/// The position before the slice back.
-fn home() -> Position
-    ensures { result.slice ≡ 1 }
+/// A position before a slice, at which no flight was taken.
+fn before(slice: u8, place: Place, lo: u32, hi: u32) -> Position
+    ensures { result.slice ≡ slice }
 {
     Position {
-        slice: 1,
+        slice,
         leg: 0,
-        place: NYC,
+        place,
         via: None,
-        lo: 3,
-        hi: 5,
+        lo,
+        hi,
     }
 }
 
@@ -186,41 +209,44 @@ fn lead(paths: &[Path], expected: &[(&[u32], Option<Position>)]) -> bool {
         })
 }
 
+/// Whether the paths of a position have these flights and lead there.
+fn leads(
+    alloc: Global,
+    schedule: &Schedule,
+    position: &Position,
+    expected: &[(&[u32], Option<Position>)],
+) -> Result<bool, Fail>
+    requires { position.now.slice < 2 }
+{
+    let paths = component_paths(alloc, schedule, &request(), position)?;
+    Ok(lead(paths.as_slice(), expected))
+}
+
+/// Whether the root is before the first slice, and the paths of it and of the position before the slice back are as they are worked
+/// out by hand.
+fn lead_on(alloc: Global) -> Result<[bool; 3], Fail> {
+    let schedule = flights(alloc)?;
+    let (root, home) = (before(0, LON, 0, 3), before(1, NYC, 3, 5));
+    let out = [
+        (&[0][..], at_dublin(0, 1, 2)),
+        (&[2], Some(home)),
+        (&[0, 1], Some(home)),
+        (&[2, 3], at_dublin(1, 5, 6)),
+    ];
+    let back = [
+        (&[3][..], at_dublin(1, 5, 6)),
+        (&[4], None),
+        (&[3, 5], None),
+    ];
+    Ok([
+        root_position(&schedule, &request()) == root,
+        leads(alloc, &schedule, &root, &out)?,
+        leads(alloc, &schedule, &home, &back)?,
+    ])
+}
+
 #[test]
 fn gives_the_paths_of_a_position(rt: HostRuntime) -> Result<(), Fail> {
-    let schedule = Schedule::build(rt.alloc(), &PLACES, &ROWS)?;
-    let request = request();
-    let root = root_position(&schedule, &request);
-    let home = home();
-    let out = component_paths(rt.alloc(), &schedule, &request, &root)?;
-    let back = component_paths(rt.alloc(), &schedule, &request, &home)?;
-    assert_eq!(rt;
-        root,
-        Position {
-            slice: 0,
-            leg: 0,
-            place: LON,
-            via: None,
-            lo: 0,
-            hi: 3
-        }
-    );
-    assert!(rt;
-        lead(
-            out.as_slice(),
-            &[
-                (&[0], at_dublin(0, 1, 2)),
-                (&[2], Some(home)),
-                (&[0, 1], Some(home)),
-                (&[2, 3], at_dublin(1, 5, 6)),
-            ]
-        )
-    );
-    assert!(rt;
-        lead(
-            back.as_slice(),
-            &[(&[3], at_dublin(1, 5, 6)), (&[4], None), (&[3, 5], None),]
-        )
-    );
+    assert_eq!(rt; lead_on(rt.alloc())?, [true; 3]);
     Ok(())
 }

@@ -8,7 +8,7 @@ use std::alloc::Global;
 use std::marker::Model;
 
 /// A line of a case, read where it stands in the text. A contract sees it as a `TextLine`.
-#[derive(Debug, Drop)]
+#[derive(Drop)]
 pub struct CaseLine<'a> {
     place: Line<'a>,
 }

@@ -9,7 +9,7 @@ use std::alloc::Global;
 
 /// The rows and lines of a case by their sections. A section that the kind of case doesn't have is
 /// empty. Filings, requests and certificates are read where they stand in the text.
-#[derive(Debug, Drop)]
+#[derive(Drop)]
 pub struct Case<'a> {
     pub places: List<PlaceRow>,
     pub flights: List<FlightRow>,

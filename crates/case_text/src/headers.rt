@@ -6,7 +6,7 @@ ghost use Rattle.case_text.specs.Headers as Headers;
 use crate::CaseKind;
 
 /// A line that begins a section, or ends the case.
-#[derive(Clone, Copy, Debug)]
+#[derive(Clone, Copy)]
 pub enum Header {
     Places,
     Flights,

@@ -8,7 +8,7 @@ use memchr::memchr;
 use std::alloc::Global;
 
 /// A line of a text with its number, counted from 1.
-#[derive(Clone, Copy, Debug)]
+#[derive(Clone, Copy)]
 pub struct Line<'a> {
     pub line: u32,
     pub bytes: &'a [u8],

@@ -19,7 +19,7 @@ use graph_walk::WalkFault;
 use pricing_graph::GraphFault;
 use residual_keys::root;
 use residual_table::ResidualKey;
-use rule_route::limits_are_met;
+use fare_rules::limits_are_met;
 use search_steps::{
     Bounds, ResidualRows, SearchSteps, least_prices_are_least, reached_states_are_reached,
 };

@@ -4,7 +4,7 @@ use fare_law::{ArrayVec, List, MOST_COMPONENTS, Move, Request};
 use residual_keys::Residual;
 
 /// An answer: what its ticket costs, and the moves that make it.
-#[derive(PartialEq, Eq, Debug, Drop)]
+#[derive(Drop)]
 pub struct CertAnswer {
     pub price: u64,
     pub moves: ArrayVec<Move, MOST_COMPONENTS>,
@@ -19,7 +19,7 @@ pub struct CertRow {
 }
 
 /// What a search says to whoever checks it.
-#[derive(PartialEq, Eq, Debug, Drop)]
+#[derive(Drop)]
 pub struct Certificate {
     /// The version that was searched: the number of its filings.
     pub number: u32,

@@ -1,7 +1,7 @@
 //! Verdicts.
 
 /// What the check of a certificate finds.
-#[derive(Clone, Copy, PartialEq, Eq, Debug)]
+#[derive(Clone, Copy)]
 pub enum Verdict {
     /// The five checks hold.
     Yes,

@@ -14,7 +14,7 @@ use component_table::Market;
 use fare_groups::{FareGroup, extra, first_row};
 use fare_law::{List, MarketSheet, Mem, SheetRow};
 use residual_keys::{Chosen, facts_over};
-use rule_route::limits_are_met;
+use fare_rules::limits_are_met;
 
 /// Adds the moves on a path with the fares of a group, within the limit. There are none where the group's
 /// rule doesn't permit the flights.

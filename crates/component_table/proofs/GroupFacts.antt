@@ -50,7 +50,7 @@ use Rattle.outlines.proofs.ByGroups.{groups_cover}
 use Rattle.fare_ends.specs.Floors.{CostsOn, OpenPath}
 use Rattle.fare_ends.specs.Legs.{HasLegs}
 use Rattle.residual_keys.proofs.Runs.{flies_numbers}
-use Rattle.rule_unit.specs.Ranges.{IsDayWithin}
+use Rattle.fare_rules.specs.Ranges.{IsDayWithin}
 
 -- a group costs the same on paths that have the same flights and classes
 costs_like : (rule : Rule) (carrier : Carrier) (shares : ℕ → Option ℕ) (p r : OpenPath) (price : ℕ) → p.flights ≡ r.flights → p.classes ≡ r.classes → CostsOn rule carrier shares p price → CostsOn rule carrier shares r price

@@ -44,7 +44,7 @@ use Rattle.residual_keys.proofs.NamesKept.{day_within}
 use Rattle.residual_keys.proofs.OneNext.{first_one, last_one}
 use Rattle.residual_keys.proofs.Runs.{flies_numbers}
 use Rattle.residual_keys.proofs.StepFacts.{two_ends}
-use Rattle.rule_unit.specs.Ranges.{IsDayWithin}
+use Rattle.fare_rules.specs.Ranges.{IsDayWithin}
 
 pub first_by : {X : Type 0} (P Q : X → Type 0) (xs : List X) → ((x : X) → P x → Q x) → OnFirst P xs → OnFirst Q xs
 first_by P Q [] to h = absurd h

@@ -28,7 +28,7 @@ pub struct Draft {
 }
 
 /// Why an action isn't taken.
-#[derive(Clone, Copy, PartialEq, Eq, Debug)]
+#[derive(Clone, Copy)]
 pub enum Stop {
     /// It has this fault.
     Fault(BookWhy),

@@ -6,14 +6,14 @@ use fare_law::{Carrier, Place};
 use std::hash::{Hash, Hasher};
 
 /// A market in the direction in which its fares are filed.
-#[derive(Clone, Copy, PartialEq, Eq, Debug)]
+#[derive(Clone, Copy, PartialEq, Eq)]
 pub struct Market {
     pub from: Place,
     pub to: Place,
 }
 
 /// What names a rule: its carrier and its number.
-#[derive(Clone, Copy, PartialEq, Eq, Debug)]
+#[derive(Clone, Copy, PartialEq, Eq)]
 pub struct RuleKey {
     pub carrier: Carrier,
     pub number: u16,

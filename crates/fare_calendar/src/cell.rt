@@ -1,7 +1,7 @@
 //! Cells of a calendar.
 
 /// What a cell tells of its two days.
-#[derive(Clone, Copy, PartialEq, Eq, Debug)]
+#[derive(Clone, Copy)]
 pub enum CellValue {
     /// The price of the best ticket.
     Price(u64),
@@ -12,7 +12,7 @@ pub enum CellValue {
 }
 
 /// A cell: a day out, a day back, and what is told of them.
-#[derive(Clone, Copy, PartialEq, Eq, Debug)]
+#[derive(Clone, Copy)]
 pub struct Cell {
     pub out: i32,
     pub back: i32,

@@ -3,7 +3,7 @@ ghost use Rattle.fare_law.specs.declared.market.OfferKey.{OfferKey};
 ghost use Rattle.fare_component.specs.Keys.{asked};
 ghost use Rattle.fare_component.specs.Offers.{HasLowPrices, HasNoOffers, HasOneList, OffersNothing, SameOffers};
 
-use rule_route::limits_are_met;
+use fare_rules::limits_are_met;
 
 /// A key has one list of offers.
 pub fn one_list()

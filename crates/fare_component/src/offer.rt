@@ -2,7 +2,7 @@
 use fare_law::List;
 
 /// A fare that is lawful on the component.
-#[derive(Clone, Copy, PartialEq, Eq, Debug)]
+#[derive(Clone, Copy, PartialEq, Eq)]
 pub struct Offer {
     /// The place of its row in the sheet, from 0.
     pub place: u32,
@@ -11,7 +11,7 @@ pub struct Offer {
 }
 
 /// Offers, ascending by place.
-#[derive(PartialEq, Eq, Debug, Drop)]
+#[derive(Drop)]
 pub struct OfferRows {
     pub rows: List<Offer>,
 }

@@ -34,7 +34,7 @@ pub trait OfferSource {
 }
 
 /// Builds offers anew. With it every key is settled.
-#[derive(Clone, Copy, Debug)]
+#[derive(Clone, Copy)]
 pub struct Plain;
 
 impl OfferSource for Plain {

@@ -18,7 +18,7 @@ use indexmap::IndexMap;
 use std::alloc::Global;
 
 /// What the fares of a carrier between two places are asked for by. They are seen from the place where a path begins.
-#[derive(Clone, Copy, PartialEq, Eq, Debug)]
+#[derive(Clone, Copy)]
 pub struct EndKey {
     pub from: Place,
     pub to: Place,
@@ -26,7 +26,7 @@ pub struct EndKey {
 }
 
 /// A key, and which way fares are filed.
-#[derive(Clone, Copy, PartialEq, Eq, Debug)]
+#[derive(Clone, Copy)]
 pub struct EndWay {
     pub key: EndKey,
     /// Whether they are filed from the path's end.
@@ -34,21 +34,21 @@ pub struct EndWay {
 }
 
 /// Where the groups of an end stand, by their rules.
-#[derive(Clone, Copy, PartialEq, Eq, Debug)]
+#[derive(Clone, Copy)]
 pub struct FareEnd {
     pub from: usize,
     pub to: usize,
 }
 
 /// An end by its key.
-#[derive(Clone, Copy, PartialEq, Eq, Debug)]
+#[derive(Clone, Copy)]
 pub struct KeptEnd {
     pub key: EndKey,
     pub end: FareEnd,
 }
 
 /// A group of fares of an end, and where its rungs stand.
-#[derive(Clone, Copy, PartialEq, Eq, Debug)]
+#[derive(Clone, Copy)]
 pub struct EndGroup {
     pub key: GroupKey,
     /// Whether it is filed from the path's end.

@@ -13,7 +13,7 @@ use fare_groups::FareGroup;
 use fare_law::{Carrier, Place};
 
 /// The place of a market, and the places between which all groups of a carrier stand there.
-#[derive(Clone, Copy, PartialEq, Eq, Debug)]
+#[derive(Clone, Copy)]
 pub struct Filed {
     pub market: usize,
     pub from: usize,

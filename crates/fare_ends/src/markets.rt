@@ -14,14 +14,14 @@ use std::sync::Arc;
 use ticket_order::order_laws;
 
 /// The ends of a market.
-#[derive(Clone, Copy, PartialEq, Eq, Debug)]
+#[derive(Clone, Copy)]
 pub struct MarketKey {
     pub from: Place,
     pub to: Place,
 }
 
 /// A market: its sheet, and the groups of the sheet's rows.
-#[derive(Debug, Drop)]
+#[derive(Drop)]
 pub struct Market {
     pub sheet: Arc<MarketSheet>,
     pub groups: List<FareGroup>,

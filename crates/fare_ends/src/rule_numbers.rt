@@ -14,7 +14,7 @@ ghost use Rattle.fare_law.specs.RuleLimits.{IsRule};
 use fare_groups::{GroupKey, extra};
 use fare_law::{Carrier, Flight, Mem, Rule, Shared};
 use indexmap::IndexMap;
-use rule_route::{charge, flights_ok, limits_are_met, stopovers_ok, surcharge};
+use fare_rules::{charge, flights_ok, limits_are_met, stopovers_ok, surcharge};
 use std::alloc::Global;
 
 /// The rule of a carrier and a number.

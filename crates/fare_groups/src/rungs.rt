@@ -8,7 +8,7 @@ use fare_law::{List, Mem};
 use std::alloc::Global;
 
 /// The least share of a group's fares of a class.
-#[derive(Clone, Copy, PartialEq, Eq, PartialOrd, Ord, Debug)]
+#[derive(Clone, Copy, PartialEq, Eq, PartialOrd, Ord)]
 pub struct Rung {
     pub share: u64,
     /// The class, as a set of one: bit c for class c.

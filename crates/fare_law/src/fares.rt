@@ -4,7 +4,7 @@ ghost use Rattle.std.specs.Prelude.{◌≡◌, ◌↔◌, IsTrue};
 use crate::{Basis, Carrier, Class, Place};
 
 /// What names a fare: its carrier, its market in the direction of its filing, its basis.
-#[derive(Default, PartialEq, Eq, PartialOrd, Ord, Hash, Debug, Drop)]
+#[derive(Default, PartialEq, Eq, PartialOrd, Ord, Debug, Drop)]
 pub struct FareKey {
     pub carrier: Carrier,
     pub from: Place,

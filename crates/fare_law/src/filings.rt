@@ -2,7 +2,7 @@
 use crate::{Carrier, Fare, FareKey, List, Place, Rule, Shared};
 
 /// What names a seat row: a flight number and, for a dated row, its day.
-#[derive(Clone, Copy, PartialEq, Eq, Hash, Debug)]
+#[derive(Clone, Copy, PartialEq, Eq)]
 pub struct SeatKey {
     pub carrier: Carrier,
     pub number: u16,
@@ -12,7 +12,7 @@ pub struct SeatKey {
 }
 
 /// One change.
-#[derive(Debug, Drop)]
+#[derive(Drop)]
 pub enum Action {
     PutFare(Fare),
     DropFare(FareKey),
@@ -24,7 +24,7 @@ pub enum Action {
 }
 
 /// Changes that are accepted or refused as one.
-#[derive(Debug, Drop)]
+#[derive(Drop)]
 pub struct Filing {
     pub actions: List<Action>,
 }

@@ -2,7 +2,7 @@
 use crate::{Carrier, Place};
 
 /// One flight on one day. The fields stand by their sizes, so that a flight takes 32 bytes.
-#[derive(Clone, Copy, Default, PartialEq, Eq, Debug)]
+#[derive(Clone, Copy, Default, PartialEq, Eq)]
 pub struct Flight {
     /// The instant of departure, in minutes since 1970-01-01 00:00 UTC.
     pub dep: i64,

@@ -11,7 +11,7 @@ use std::sync::Arc;
 /// The live fares of one market, ascending by carrier and basis, with columns for their times of
 /// departure and for rows of one rule. Contracts see the market and the rows; the columns follow from
 /// the rows.
-#[derive(Debug, Drop)]
+#[derive(Drop)]
 pub struct MarketSheet {
     pub from: Place,
     pub to: Place,
@@ -130,7 +130,7 @@ fn rule_row(rows: &[SheetRow], at: usize, tried: u32) -> u32
 }
 
 /// What offers are asked by: the legs of a component, and the sheet of a market.
-#[derive(Debug, Drop)]
+#[derive(Drop)]
 pub struct OfferKey {
     pub legs: ArrayVec<Leg, MOST_FLIGHTS_OF_A_COMPONENT>,
     pub sheet: Arc<MarketSheet>,

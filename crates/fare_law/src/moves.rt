@@ -4,7 +4,7 @@ ghost use Rattle.std.specs.Prelude.{◌≡◌};
 use crate::{ArrayVec, Basis, CODE_NUMBERS, Carrier, MOST_FLIGHTS_OF_A_COMPONENT};
 
 /// The part of a component in its unit, numbered 0 to 3.
-#[derive(Clone, Copy, Default, PartialEq, Eq, PartialOrd, Ord, Hash, Debug)]
+#[derive(Clone, Copy, Default, PartialEq, Eq)]
 pub enum Role {
     #[default]
     Alone,
@@ -14,7 +14,7 @@ pub enum Role {
 }
 
 /// What a search chooses next: flights, a fare, and what the component is to its unit.
-#[derive(Default, PartialEq, Eq, Debug, Drop)]
+#[derive(Default, PartialEq, Eq, Drop)]
 pub struct Move {
     /// Numbers of flights of the timetable.
     pub flights: ArrayVec<u32, MOST_FLIGHTS_OF_A_COMPONENT>,

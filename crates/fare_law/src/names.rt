@@ -12,7 +12,7 @@ pub struct Place(pub [u8; 3]);
 pub struct Carrier(pub [u8; 2]);
 
 /// A fare basis: one to eight capital letters or digits.
-#[derive(Default, PartialEq, Eq, PartialOrd, Ord, Hash, Debug, Drop)]
+#[derive(Default, PartialEq, Eq, PartialOrd, Ord, Debug, Drop)]
 pub struct Basis(pub ArrayVec<u8, 8>);
 
 /// A booking class: 0 for A to 25 for Z.

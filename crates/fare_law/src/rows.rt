@@ -2,14 +2,14 @@
 use crate::{Carrier, List, Place};
 
 /// A line of a text with its number, counted from 1.
-#[derive(Debug, Drop)]
+#[derive(Drop)]
 pub struct TextLine {
     pub line: u32,
     pub bytes: List<u8>,
 }
 
 /// A place with its least connect time in minutes.
-#[derive(Clone, Copy, PartialEq, Eq, Debug)]
+#[derive(Clone, Copy, PartialEq, Eq)]
 pub struct PlaceRow {
     pub line: u32,
     pub place: Place,
@@ -17,7 +17,7 @@ pub struct PlaceRow {
 }
 
 /// A flight of a period: one dated flight for each day whose weekday is named.
-#[derive(Clone, Copy, PartialEq, Eq, Debug)]
+#[derive(Clone, Copy, PartialEq, Eq)]
 pub struct FlightRow {
     pub line: u32,
     pub carrier: Carrier,
@@ -40,7 +40,7 @@ pub struct FlightRow {
 }
 
 /// Seats by class, of one day or of all days.
-#[derive(Clone, Copy, PartialEq, Eq, Debug)]
+#[derive(Clone, Copy, PartialEq, Eq)]
 pub struct SeatRow {
     pub line: u32,
     pub carrier: Carrier,

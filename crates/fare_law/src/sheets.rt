@@ -2,14 +2,14 @@
 use crate::{Fare, Flight, Rule, Shared};
 
 /// A live fare with its rule.
-#[derive(PartialEq, Eq, Debug, Drop)]
+#[derive(PartialEq, Eq, Drop)]
 pub struct SheetRow {
     pub fare: Fare,
     pub rule: Shared<Rule>,
 }
 
 /// A flight of a component, with the classes that have seats for the party.
-#[derive(Clone, Copy, Default, PartialEq, Eq, Debug)]
+#[derive(Clone, Copy, Default, PartialEq, Eq)]
 pub struct Leg {
     pub flight: Flight,
     /// Bit c is set where class c has seats for the whole party.

@@ -6,8 +6,8 @@ use Rattle.fare_law.specs.declared.rules.UnitKind.{UnitKind}
 use Rattle.fare_law.specs.declared.rules.UnitKind.TheVariants.{Circle}
 use Rattle.fare_law.specs.Book.{same_carrier}
 use Rattle.fare_law.specs.Units.{Forward, MayStand}
-use Rattle.rule_unit.specs.Demands.{has_kind}
-use Rattle.rule_unit.specs.Ranges.{DemandInRange}
+use Rattle.fare_rules.specs.Demands.{has_kind}
+use Rattle.fare_rules.specs.Ranges.{DemandInRange}
 use Rattle.open_unit.specs.declared.joined.JoinedFares.{JoinedFares}
 use Rattle.open_unit.specs.declared.marks.CarrierMark.{CarrierMark}
 use Rattle.open_unit.specs.declared.marks.CarrierMark.TheVariants.{NotYet, One, Mixed}

@@ -5,8 +5,8 @@ use Rattle.fare_law.specs.declared.tickets.Piece.{Piece}
 use Rattle.fare_law.specs.declared.rules.UnitKind.{UnitKind}
 use Rattle.fare_law.specs.declared.rules.UnitKind.TheVariants.{OneWay, RoundTrip, OpenJaw, Circle}
 use Rattle.fare_law.specs.Book.{same_carrier}
-use Rattle.rule_unit.specs.declared.demand.UnitDemand.{UnitDemand}
-use Rattle.rule_unit.specs.Demands.{AtLeast, AtMost, later_of, earlier_of, least_stay, greatest_stay, by_day, has_kind, kinds_of, partner_of, demand_of, met}
+use Rattle.fare_rules.specs.declared.demand.UnitDemand.{UnitDemand}
+use Rattle.fare_rules.specs.Demands.{AtLeast, AtMost, later_of, earlier_of, least_stay, greatest_stay, by_day, has_kind, kinds_of, partner_of, demand_of, met}
 use Rattle.fare_law.specs.Units.{Forward, Reverse, MayStand, SeasonHolds, AdvanceHolds, TravelHolds}
 use Rattle.unit_labels.specs.UnitRuns.{Steps}
 use Rattle.open_unit.specs.declared.marks.CarrierMark.{CarrierMark}

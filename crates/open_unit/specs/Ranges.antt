@@ -1,7 +1,7 @@
 -- The ranges of the numbers of components and of open units.
 use Rattle.std.specs.Prelude.{◌≡◌, ◌≢◌, pos, ◌≤◌}
 use Rattle.fare_law.specs.declared.tickets.Piece.{Piece}
-use Rattle.rule_unit.specs.Ranges.{IsDayWithin, IsStoredDay, StaysInRange}
+use Rattle.fare_rules.specs.Ranges.{IsDayWithin, IsStoredDay, StaysInRange}
 use Rattle.open_unit.specs.declared.marks.CarrierMark.{CarrierMark}
 use Rattle.open_unit.specs.declared.marks.CarrierMark.TheVariants.{NotYet, Mixed}
 use Rattle.open_unit.specs.declared.marks.RuleMark.{RuleMark}

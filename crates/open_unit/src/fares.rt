@@ -5,7 +5,7 @@ ghost use Rattle.open_unit.specs.OpenUnits.{DaysHold};
 
 use crate::Facts;
 use fare_law::{FareKind, UnitKind};
-use rule_days::{advance_ok, season_ok, travel_ok};
+use fare_rules::{advance_ok, season_ok, travel_ok};
 
 // Whether a fare of this kind may stand in a unit of this kind.
 fn may_stand(fare: FareKind, unit: UnitKind) -> bool

@@ -1,14 +1,14 @@
 //! The fares of an open unit together with that of one more component.
 ghost use Rattle.std.specs.Prelude.{◌≡◌, ◌↔◌, true, IsTrue};
-ghost use Rattle.rule_unit.specs.Demands.{AtMost, MayReturn, demand_of, has_kind};
-ghost use Rattle.rule_unit.specs.Ranges.{DemandInRange};
+ghost use Rattle.fare_rules.specs.Demands.{AtMost, MayReturn, demand_of, has_kind};
+ghost use Rattle.fare_rules.specs.Ranges.{DemandInRange};
 ghost use Rattle.open_unit.specs.OpenUnits.{PartnerHolds, carriers_with, demand_with, rules_with};
 ghost use Rattle.open_unit.specs.Ranges.{PieceInRanges, UnitInRanges};
 
 use crate::marks::partners_hold;
 use crate::{CarrierMark, Facts, OpenUnit, RuleMark};
 use fare_law::UnitKind;
-use rule_unit::UnitDemand;
+use fare_rules::UnitDemand;
 
 /// What these fares demand together, and what they have in common.
 #[derive(Clone, Copy)]

@@ -5,7 +5,7 @@ ghost use Rattle.open_unit.specs.OpenUnits.{carrier_with, rule_with, PartnerHold
 use fare_law::Carrier;
 
 /// The carrier of all fares so far.
-#[derive(Clone, Copy, PartialEq, Eq, PartialOrd, Ord, Hash, Debug)]
+#[derive(Clone, Copy, PartialEq, Eq, PartialOrd, Ord, Debug)]
 pub enum CarrierMark {
     /// No fare yet.
     NotYet,
@@ -16,7 +16,7 @@ pub enum CarrierMark {
 }
 
 /// The rule of all fares so far.
-#[derive(Clone, Copy, PartialEq, Eq, PartialOrd, Ord, Hash, Debug)]
+#[derive(Clone, Copy, PartialEq, Eq, PartialOrd, Ord, Debug)]
 pub enum RuleMark {
     /// Every fare is of one carrier and on its rule of this number.
     One(u16),

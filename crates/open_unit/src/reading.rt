@@ -7,7 +7,7 @@ use std::marker::Model;
 
 /// What a unit reads of a component. Its rule is borrowed, so that one may be asked of many units without a copy.
 /// Contracts see a piece, whose fare has no basis and costs nothing.
-#[derive(Debug, Drop)]
+#[derive(Drop)]
 pub struct Facts<'a> {
     /// Where the component begins, and the local day of departure of its first flight. (The two places stand apart, since
     /// bytes side by side are copied together, which takes longer while they are being written.)

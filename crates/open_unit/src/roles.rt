@@ -10,7 +10,7 @@ use crate::joined::{JoinedFares, may_be, may_return};
 use crate::kinds::kind_made;
 use crate::{Facts, OpenUnit};
 use fare_law::UnitKind;
-use rule_unit::UnitDemand;
+use fare_rules::UnitDemand;
 
 /// The kinds of a unit of more than two components: circles alone.
 const CIRCLE: u8 = 8;

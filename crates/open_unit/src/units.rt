@@ -5,7 +5,7 @@ ghost use Rattle.open_unit.specs.Ranges.{PieceInRanges, UnitInRanges};
 
 use crate::{CarrierMark, Facts, RuleMark};
 use fare_law::Place;
-use rule_unit::UnitDemand;
+use fare_rules::UnitDemand;
 
 /// What is kept of a unit that is open. Ordered field by field, absent before present.
 #[derive(Clone, Copy, PartialEq, Eq, PartialOrd, Ord, Debug)]

@@ -19,7 +19,7 @@ pub struct RuledOutline {
 }
 
 /// An outline by its number, with a price.
-#[derive(Clone, Copy, PartialEq, Eq, Debug)]
+#[derive(Clone, Copy)]
 pub struct Priced {
     pub outline: usize,
     pub price: u64,

@@ -14,7 +14,7 @@ use Rattle.outlines.specs.Outlines.{Outlined, piece_of}
 use Rattle.residual_keys.specs.declared.residual.Chosen.{Chosen}
 use Rattle.residual_keys.specs.Residuals.{State}
 use Rattle.residual_keys.specs.Steps.{IsChosen, Leaves}
-use Rattle.rule_unit.specs.Ranges.{IsDayWithin}
+use Rattle.fare_rules.specs.Ranges.{IsDayWithin}
 
 -- Each outline that some component has from this position, at least once, with a price that some such component has and none is below.
 pub record Tabled (b : Book) (q : Request) (at : Position) (table : List Entry) : Type 0 where

@@ -4,7 +4,7 @@ use flight_paths::Position;
 use residual_keys::Next;
 
 /// What a component from a position is to a unit and to a ticket.
-#[derive(Clone, Copy, PartialEq, Eq, Debug)]
+#[derive(Clone, Copy)]
 pub struct Outline {
     /// Where it leads: None where the journey is complete.
     pub after: Option<Position>,
@@ -21,7 +21,7 @@ pub struct Outline {
 }
 
 /// An outline with the least price of the components that have it, and with their rule.
-#[derive(Debug, Drop)]
+#[derive(Drop)]
 pub struct Entry {
     pub outline: Outline,
     pub rule: Shared<Rule>,
@@ -29,7 +29,7 @@ pub struct Entry {
 }
 
 /// What a component of a residual leaves, with its price.
-#[derive(Clone, Copy, PartialEq, Eq, Debug)]
+#[derive(Clone, Copy)]
 pub struct Outcome {
     pub next: Next,
     pub price: u64,

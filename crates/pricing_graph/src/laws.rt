@@ -6,7 +6,7 @@ ghost use Rattle.pricing_graph.specs.NodesHold.{LeastRunsAreBest, NodesDiffer, N
 ghost use Rattle.residual_keys.specs.Written.{InLimits};
 
 use residual_keys::{one_next, reached_is_written, residual_order, runs_are_short};
-use rule_route::limits_are_met;
+use fare_rules::limits_are_met;
 use search_steps::reached_states_are_reached;
 use ticket_order::codes_tell;
 

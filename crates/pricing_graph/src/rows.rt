@@ -9,7 +9,7 @@ ghost use Rattle.search_steps.specs.Keys.{live, state};
 use crate::GraphFault;
 use graph_walk::WalkFault;
 use residual_keys::root;
-use rule_route::limits_are_met;
+use fare_rules::limits_are_met;
 use search_steps::{ResidualRows, SearchSteps, least_prices_are_least, reached_states_are_reached};
 use std::alloc::Global;
 

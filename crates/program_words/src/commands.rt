@@ -4,7 +4,7 @@
 ///
 /// `best`, where it is given, replaces the number of tickets in every request. `budget` bounds the residuals of a search
 /// and is 100,000 where it isn't given. `at` names the version of the book; without it the last one is meant.
-#[derive(Clone, Copy, PartialEq, Eq, Debug)]
+#[derive(Clone, Copy)]
 pub enum Command {
     /// The cheapest tickets of a case, with their certificate.
     Search {

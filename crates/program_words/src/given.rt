@@ -1,7 +1,7 @@
 //! What words give, each option by its text.
 
 /// The texts that the words give to the command's name and to each option. The flag's text is `true` where it is given.
-#[derive(Clone, Copy, Debug)]
+#[derive(Clone, Copy)]
 pub(crate) struct Given<'a> {
     pub command: Option<&'a str>,
     pub best: Option<&'a str>,

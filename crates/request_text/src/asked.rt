@@ -10,7 +10,7 @@ use serde_json::Value;
 use std::alloc::Global;
 
 /// One slice, with any whole number of days.
-#[derive(Clone, Copy, Debug)]
+#[derive(Clone, Copy)]
 pub struct AskedSlice {
     pub from: Place,
     pub to: Place,
@@ -19,7 +19,7 @@ pub struct AskedSlice {
 }
 
 /// The day of sale and the numbers of a request, with any whole numbers.
-#[derive(Clone, Copy, Debug)]
+#[derive(Clone, Copy)]
 pub struct Terms {
     pub sale: i32,
     pub party: i128,
@@ -27,7 +27,7 @@ pub struct Terms {
 }
 
 /// A request of any whole numbers and any count of slices.
-#[derive(Debug, Drop)]
+#[derive(Drop)]
 pub struct Asked {
     pub terms: Terms,
     pub slices: List<AskedSlice>,

@@ -3,7 +3,7 @@ use Rattle.std.proofs.Common.{◌≡◌, ◌≢◌, ℕ, true, refl, sym, ap, �
 use Rattle.std.proofs.lemmas.Bool.{true≢false}
 use Rattle.fare_law.specs.declared.rules.UnitKind.{UnitKind}
 use Rattle.fare_law.specs.declared.rules.UnitKind.TheVariants.{OneWay, RoundTrip, OpenJaw, Circle}
-use Rattle.rule_unit.specs.Demands.{has_kind}
+use Rattle.fare_rules.specs.Demands.{has_kind}
 
 -- fourteen has all kinds but one way
 pub fourteen : (k : UnitKind) → k ≢ OneWay → has_kind 14 k ≡ true

@@ -14,7 +14,7 @@ use Rattle.open_unit.specs.declared.marks.CarrierMark.{CarrierMark}
 use Rattle.open_unit.specs.declared.marks.CarrierMark.TheVariants.{NotYet, One, Mixed}
 use Rattle.open_unit.specs.declared.marks.RuleMark.{RuleMark}
 use Rattle.open_unit.specs.declared.marks.RuleMark.TheVariants.{One as OneRule, Mixed as MixedRules}
-use Rattle.rule_unit.specs.Demands.{partner_number, partner_of}
+use Rattle.fare_rules.specs.Demands.{partner_number, partner_of}
 use Rattle.open_unit.specs.OpenUnits.{carrier_with, rule_with, OneCarrierMark, OneRuleMark, PartnerHolds}
 
 pub same_carrier_is : (c d : Carrier) → same_carrier c d ≡ true → c ≡ d

@@ -32,9 +32,9 @@ use Rattle.open_unit.specs.declared.units.OpenUnit.{OpenUnit}
 use Rattle.open_unit.specs.OpenUnits.{MayGoOn, carrier_with, carriers_with, demand_so_far, demand_with, gone_on, opened, rule_with, rules_with}
 use Rattle.open_unit.specs.Ranges.{PieceInRanges, UnitInRanges}
 use Rattle.open_unit.proofs.RoleLemmas.{gone_on_in_ranges}
-use Rattle.rule_unit.specs.Demands.{demand_of, kinds_of}
-use Rattle.rule_unit.specs.Ranges.{DemandInRange, IsDayWithin, StaysInRange}
-use Rattle.rule_unit.proofs.RangeLemmas.{met_within, demand_within}
+use Rattle.fare_rules.specs.Demands.{demand_of, kinds_of}
+use Rattle.fare_rules.specs.Ranges.{DemandInRange, IsDayWithin, StaysInRange}
+use Rattle.fare_rules.proofs.RangeLemmas.{met_within, demand_within}
 use Rattle.residual_keys.specs.declared.parts.TicketPart.{TicketPart}
 use Rattle.residual_keys.specs.declared.residual.Chosen.{Chosen}
 use Rattle.residual_keys.specs.Kept.{PartKept}

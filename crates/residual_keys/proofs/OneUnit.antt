@@ -9,11 +9,11 @@ use Rattle.fare_law.specs.declared.rules.UnitKind.TheVariants.{OneWay, RoundTrip
 use Rattle.fare_law.specs.Lists.{Each, EachPair, OnFirst, OnLast, LastDiffers}
 use Rattle.fare_law.specs.Units.{Forward, Reverse, Follows, IsUnit, MayStand, EndsBy, MinStayHolds, MaxStayHolds, KindHolds, PartnersHold, FareHolds, UnitLawful}
 use Rattle.open_unit.specs.declared.units.OpenUnit.{OpenUnit}
-use Rattle.rule_unit.specs.Demands.{AtLeast, AtMost, has_kind, kinds_of}
+use Rattle.fare_rules.specs.Demands.{AtLeast, AtMost, has_kind, kinds_of}
 use Rattle.open_unit.specs.OpenUnits.{DaysHold, MayOpen, opened, MayGoOn, gone_on, Makes, MayClose, PartnerHolds, partner_with, carriers_with, rules_with, unit_steps}
 use Rattle.unit_labels.specs.UnitRuns.{Completes, Accepted}
-use Rattle.rule_unit.proofs.DayLemmas.{later_holds, later_parts, earlier_holds, earlier_parts, stay_holds, stay_parts, most_holds, most_parts, by_holds, by_parts}
-use Rattle.rule_unit.proofs.KindLemmas.{common_holds, common_parts, kind_from, kind_to}
+use Rattle.fare_rules.proofs.DayLemmas.{later_holds, later_parts, earlier_holds, earlier_parts, stay_holds, stay_parts, most_holds, most_parts, by_holds, by_parts}
+use Rattle.fare_rules.proofs.KindLemmas.{common_holds, common_parts, kind_from, kind_to}
 use Rattle.residual_keys.proofs.FareFacts.{fourteen, some_kind}
 use Rattle.residual_keys.proofs.Marks.{end_carrier, end_rule, end_demand, partners_before, partners_marks, marks_partners}
 use Rattle.law_lemmas.proofs.Ends.{on_last}

@@ -16,7 +16,7 @@ use Rattle.open_unit.specs.declared.marks.RuleMark.{RuleMark}
 use Rattle.open_unit.specs.declared.marks.RuleMark.TheVariants.{One as OneRule, Mixed as MixedRules}
 use Rattle.open_unit.specs.declared.units.OpenUnit.{OpenUnit}
 use Rattle.open_unit.specs.Ranges.{UnitInRanges}
-use Rattle.rule_unit.specs.Ranges.{IsDayWithin, IsStoredDay}
+use Rattle.fare_rules.specs.Ranges.{IsDayWithin, IsStoredDay}
 use Rattle.residual_keys.specs.ResidualText.{AreCarriers, AreRules, IsNamed, via_word, day_word, carriers_word, rules_word, unit_words, unit_text}
 use Rattle.word_text.specs.Laws.{CutTells, NumberTells, DigitsAre}
 use Rattle.word_text.specs.Words.{IsFreeOf}

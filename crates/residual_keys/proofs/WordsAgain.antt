@@ -19,7 +19,7 @@ use Rattle.open_unit.specs.declared.marks.CarrierMark.{CarrierMark}
 use Rattle.open_unit.specs.declared.marks.CarrierMark.TheVariants.{NotYet, One, Mixed}
 use Rattle.open_unit.specs.declared.marks.RuleMark.{RuleMark}
 use Rattle.open_unit.specs.declared.marks.RuleMark.TheVariants.{One as OneRule, Mixed as MixedRules}
-use Rattle.rule_unit.specs.Ranges.{IsStoredDay}
+use Rattle.fare_rules.specs.Ranges.{IsStoredDay}
 use Rattle.residual_keys.specs.ResidualReading.{via_in, day_in, set_day_in, carriers_in, rules_in}
 use Rattle.residual_keys.specs.ResidualText.{AreCarriers, AreRules, via_word, day_word, carriers_word, rules_word}
 use Rattle.residual_keys.proofs.WordFacts.{Words}

@@ -19,7 +19,7 @@ use fare_law::{
     ArrayVec, FareKey, Flight, Leg, MOST_FLIGHTS_OF_A_COMPONENT, Move, Place, Role, SheetRow,
 };
 use open_unit::Facts;
-use rule_unit::rules_stay_in_range;
+use fare_rules::rules_stay_in_range;
 use schedule_book::Schedule;
 
 /// The places and the flights of a book.

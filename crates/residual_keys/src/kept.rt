@@ -2,7 +2,7 @@
 ghost use Rattle.std.specs.Prelude.{◌≡◌, ◌↔◌, IfSome, IsSome, IsTrue};
 ghost use Rattle.open_unit.specs.Ranges.{MarksAgree, UnitInRanges};
 ghost use Rattle.residual_keys.specs.Kept.{AreKept, InTurn, IsResidual, PartKept, open_units};
-ghost use Rattle.rule_unit.specs.Ranges.{IsStoredDay};
+ghost use Rattle.fare_rules.specs.Ranges.{IsStoredDay};
 
 use crate::{Residual, TicketPart};
 use flight_paths::Position;

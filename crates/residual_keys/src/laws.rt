@@ -23,7 +23,7 @@ ghost use Rattle.std.specs.Prelude.{List, length, ℕ, ◌≡◌, ◌≤◌, ◌
 
 use crate::Residual;
 use fare_law::{MOST_COMPONENTS, MOST_SLICES};
-use rule_unit::rules_stay_in_range;
+use fare_rules::rules_stay_in_range;
 use ticket_order::{codes_tell, order_laws};
 
 /// Nothing is lost: where the timetable's flights stand in the order of their departures, a list of

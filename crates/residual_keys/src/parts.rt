@@ -7,7 +7,7 @@ use fare_law::{CombineRule, EndOnEnd};
 use open_unit::{CarrierMark, Facts};
 
 /// What the fares so far ask of the whole ticket.
-#[derive(Clone, Copy, PartialEq, Eq, PartialOrd, Ord, Hash, Debug)]
+#[derive(Clone, Copy, PartialEq, Eq, PartialOrd, Ord, Debug)]
 pub struct TicketPart {
     /// Units begun: 0, 1, or 2 for two and more.
     pub units: u8,

@@ -13,7 +13,7 @@ use open_unit::{CarrierMark, OpenUnit, RuleMark};
 use word_text::{cut, cut_last, cuts_tell, numbers_tell};
 
 /// The parts of a residual, before it is known whether they make one.
-#[derive(Clone, Copy, Debug)]
+#[derive(Clone, Copy)]
 struct Parts {
     at: Position,
     first: Option<OpenUnit>,

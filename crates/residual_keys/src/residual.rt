@@ -6,7 +6,7 @@ use open_unit::OpenUnit;
 use std::marker::Model;
 
 /// What the rest of a search depends on. Ordered field by field.
-#[derive(Clone, Copy, PartialEq, Eq, PartialOrd, Ord, Hash, Debug)]
+#[derive(Clone, Copy, PartialEq, Eq, PartialOrd, Ord, Debug)]
 pub struct Residual {
     pub at: Position,
     /// The open unit that was opened first.
@@ -31,7 +31,7 @@ impl Model for Residual {
 }
 
 /// What a move leaves.
-#[derive(Clone, Copy, PartialEq, Eq, Debug)]
+#[derive(Clone, Copy)]
 pub enum Next {
     At(Residual),
     /// The journey is complete, and no unit is open.
@@ -39,7 +39,7 @@ pub enum Next {
 }
 
 /// A move of a residual, with its price and what it leaves.
-#[derive(PartialEq, Eq, Debug, Drop)]
+#[derive(Drop)]
 pub struct Chosen {
     pub mv: Move,
     pub price: u64,

@@ -6,7 +6,7 @@ use residual_keys::TicketPart;
 use std::hash::{Hash, Hasher};
 
 /// A residual by the numbers of its position and of its open units.
-#[derive(Clone, Copy, PartialEq, Eq, Debug)]
+#[derive(Clone, Copy, PartialEq, Eq)]
 pub struct ResidualKey {
     /// The number of its position.
     pub position: u32,
@@ -43,7 +43,7 @@ fn number_of(part: &TicketPart) -> u32
 }
 
 /// What a key is sorted by: ranks in place of numbers, so that keys compare as their residuals do.
-#[derive(Clone, Copy, PartialEq, Eq, PartialOrd, Ord, Debug)]
+#[derive(Clone, Copy, PartialEq, Eq, PartialOrd, Ord)]
 pub struct SortKey {
     /// The rank of its position.
     pub position: u32,

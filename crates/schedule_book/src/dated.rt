@@ -6,7 +6,7 @@ use fare_law::{Carrier, Place};
 use std::hash::{Hash, Hasher};
 
 /// What tells a dated flight from the others.
-#[derive(Clone, Copy, PartialEq, Eq, Debug)]
+#[derive(Clone, Copy, PartialEq, Eq)]
 pub struct DatedNumber {
     pub carrier: Carrier,
     pub number: u16,
@@ -15,7 +15,7 @@ pub struct DatedNumber {
 }
 
 /// What tells the flights of one carrier, number and origin, on any day, from the others.
-#[derive(Clone, Copy, PartialEq, Eq, Debug)]
+#[derive(Clone, Copy, PartialEq, Eq)]
 pub struct FlightName {
     pub carrier: Carrier,
     pub number: u16,

@@ -2,7 +2,7 @@
 use fare_law::List;
 
 /// What one desk does next. Desks and requests are counted from 1.
-#[derive(Clone, Copy, PartialEq, Eq, Debug)]
+#[derive(Clone, Copy)]
 pub enum ScriptLine {
     /// The desk searches for a request.
     Search { desk: u32, request: u32 },
@@ -11,7 +11,7 @@ pub enum ScriptLine {
 }
 
 /// How many desks there are, 1 to 8, and what they do, in order.
-#[derive(PartialEq, Eq, Debug, Drop)]
+#[derive(Drop)]
 pub struct Script {
     pub desks: u32,
     pub lines: List<ScriptLine>,

@@ -6,7 +6,7 @@ use fare_law::{List, Mem, Priced, Why};
 use pricing_graph::GraphFault;
 
 /// The answer of a search.
-#[derive(Debug, Drop)]
+#[derive(Drop)]
 pub struct Answer {
     /// The version that was searched: how many filings it has.
     pub number: u32,

@@ -11,9 +11,9 @@ use Rattle.open_unit.proofs.RoleLemmas.{gone_on_in_ranges}
 use Rattle.outlines.specs.declared.outline.Entry.{Entry}
 use Rattle.outlines.specs.Marks.{written}
 use Rattle.outlines.specs.Outcomes.{EntryWithin}
-use Rattle.rule_unit.specs.Demands.{demand_of, kinds_of}
-use Rattle.rule_unit.specs.Ranges.{DemandInRange, IsDayWithin}
-use Rattle.rule_unit.proofs.RangeLemmas.{fields_within, met_within, rule_stays}
+use Rattle.fare_rules.specs.Demands.{demand_of, kinds_of}
+use Rattle.fare_rules.specs.Ranges.{DemandInRange, IsDayWithin}
+use Rattle.fare_rules.proofs.RangeLemmas.{fields_within, met_within, rule_stays}
 use Rattle.residual_keys.proofs.NamesKept.{day_within}
 
 pub piece_within : (begin : Place) (sale : ℤ) (e : Entry) → IsCalendarDay sale → EntryWithin e → PieceInRanges (written begin sale e)

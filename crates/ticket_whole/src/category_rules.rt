@@ -16,7 +16,7 @@ use crate::unit_rules::{greatest_stay_meets, is_one_way, least_stay_meets};
 use crate::units::{UnitFacts, facts_of};
 use fare_book::Book;
 use fare_law::{Component, MOST_COMPONENTS, Rule};
-use rule_days::{advance_ok, season_ok};
+use fare_rules::{advance_ok, season_ok};
 
 /// Whether a component meets the demand of one category in its unit, which is made of those of at most
 /// `MOST_COMPONENTS` components that have its label. One without a live fare or a known flight, or in a unit that has

@@ -16,8 +16,7 @@ use crate::component_flights::{ends_of, flights_of, has_unknown_flight, row_of};
 use crate::routes::{joined, places_once};
 use fare_book::Book;
 use fare_law::{Class, Component, FareKey, Flight, Place};
-use rule_days::day_time_ok;
-use rule_route::{flights_ok, limits_are_met, stopovers_ok, transfers_ok};
+use fare_rules::{day_time_ok, flights_ok, limits_are_met, stopovers_ok, transfers_ok};
 
 /// Whether a component meets a demand.
 pub fn component_meets(

@@ -9,7 +9,7 @@ ghost use Rattle.ticket_whole.specs.Prices.{ComponentCosts, HasNoPrice, TicketCo
 use crate::component_flights::{flights_of, has_unknown_flight};
 use fare_book::Book;
 use fare_law::{Component, Ticket};
-use rule_route::{charge, limits_are_met, share, surcharge};
+use fare_rules::{charge, limits_are_met, share, surcharge};
 
 /// The price of a ticket for one passenger, lawful or not: what its components cost. None exactly
 /// where a component has no flight, one that is unknown, or a fare that isn't live.

@@ -12,7 +12,7 @@ use fare_law::{ArrayVec, Carrier, Component, MOST_COMPONENTS, Place};
 /// What the rules of units read of a component: where it begins and ends, whether its fare is filed
 /// the other way, the local days of departure of its first and last flight, its fare's carrier and
 /// rule number, and the label of its unit.
-#[derive(Clone, Copy, Default, PartialEq, Eq, Debug)]
+#[derive(Clone, Copy, Default)]
 pub struct Stretch {
     pub begin: Place,
     pub end: Place,

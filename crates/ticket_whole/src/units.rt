@@ -12,7 +12,7 @@ use fare_book::Book;
 use fare_law::{Component, MOST_COMPONENTS, UnitKind};
 
 /// The kind of a unit, its first day, its day of return and its last day.
-#[derive(Clone, Copy, PartialEq, Eq, Debug)]
+#[derive(Clone, Copy)]
 pub struct UnitFacts {
     pub kind: UnitKind,
     pub first_day: i32,

@@ -1,9 +1,9 @@
 use Rattle.std.proofs.Common.{◌≡◌, ap, max, sym, subst, ◌∙◌}
 use Rattle.std.proofs.lemmas.Bool.{true≢false}
 use Rattle.fare_law.specs.declared.tickets.Piece.{Piece}
-use Rattle.rule_unit.specs.declared.demand.UnitDemand.{UnitDemand}
-use Rattle.rule_unit.specs.Demands.{demand_of, has_kind}
-use Rattle.rule_unit.proofs.KindLemmas.{common_holds, common_parts}
+use Rattle.fare_rules.specs.declared.demand.UnitDemand.{UnitDemand}
+use Rattle.fare_rules.specs.Demands.{demand_of, has_kind}
+use Rattle.fare_rules.proofs.KindLemmas.{common_holds, common_parts}
 use Rattle.open_unit.specs.OpenUnits.{PartnerHolds, carriers_with, partner_with, rule_with, rules_with}
 use Rattle.open_unit.proofs.joined.may_be.Goals as goal
 

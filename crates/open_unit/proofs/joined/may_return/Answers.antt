@@ -1,8 +1,8 @@
 use Rattle.std.proofs.Common.{sym, subst, ◌∙◌}
 use Rattle.std.proofs.lemmas.Bool.{true≢false}
-use Rattle.rule_unit.specs.declared.demand.UnitDemand.{UnitDemand}
-use Rattle.rule_unit.specs.Demands.{AtMost, MayReturn, demand_of}
-use Rattle.rule_unit.proofs.DayLemmas.{earlier_holds, earlier_parts, later_holds, later_parts}
+use Rattle.fare_rules.specs.declared.demand.UnitDemand.{UnitDemand}
+use Rattle.fare_rules.specs.Demands.{AtMost, MayReturn, demand_of}
+use Rattle.fare_rules.proofs.DayLemmas.{earlier_holds, earlier_parts, later_holds, later_parts}
 use Rattle.open_unit.specs.OpenUnits.{demand_so_far}
 use Rattle.open_unit.proofs.joined.may_return.Goals as goal
 

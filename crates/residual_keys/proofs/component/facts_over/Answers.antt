@@ -8,7 +8,7 @@ use Rattle.fare_law.specs.declared.rules.Rule.{Rule}
 use Rattle.fare_law.specs.declared.tickets.Piece.{Piece}
 use Rattle.open_unit.specs.Ranges.{PieceInRanges}
 use Rattle.law_lemmas.proofs.Ends.{last_like}
-use Rattle.rule_unit.specs.Ranges.{IsDayWithin, StaysInRange}
+use Rattle.fare_rules.specs.Ranges.{IsDayWithin, StaysInRange}
 use Rattle.residual_keys.proofs.OneNext.{first_one, last_one}
 use Rattle.residual_keys.proofs.component.facts_over.Goals as goal
 

@@ -1,8 +1,8 @@
 use Rattle.std.proofs.Common.{subst, sym, arith}
 use Rattle.std.proofs.lemmas.Int.{ints}
-use Rattle.rule_unit.specs.declared.demand.UnitDemand.{UnitDemand}
+use Rattle.fare_rules.specs.declared.demand.UnitDemand.{UnitDemand}
 use Rattle.fare_law.specs.declared.tickets.Piece.{Piece}
-use Rattle.rule_unit.specs.Ranges.{DemandInRange, StaysInRange}
+use Rattle.fare_rules.specs.Ranges.{DemandInRange, StaysInRange}
 use Rattle.open_unit.proofs.joined.JoinedFares.of.Goals as goal
 
 pub returns-clause-in_range : goal.returns-clause-in_range

@@ -1,0 +1,5 @@
+pub mod Demands
+pub mod Limits
+pub mod Meeting
+pub mod Permits
+pub mod Ranges

@@ -1,4 +1,0 @@
-pub mod Neighbours
-pub mod StopPlaces
-pub mod Sums
-pub mod WithinLimits

@@ -1,4 +1,0 @@
-pub mod DayLemmas
-pub mod KindLemmas
-pub mod MeetingLemmas
-pub mod RangeLemmas

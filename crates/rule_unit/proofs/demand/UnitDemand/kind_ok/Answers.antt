@@ -1,5 +1,0 @@
-use Rattle.rule_unit.proofs.KindLemmas.{masked}
-use Rattle.rule_unit.proofs.demand.UnitDemand.kind_ok.Goals as goal
-
-pub returns : goal.returns
-returns c = rw c.kind_number.ensures (masked c.args.self.now.kinds c.args.kind)

@@ -1,3 +1,0 @@
-pub mod Demands
-pub mod Meeting
-pub mod Ranges
