@@ -15,11 +15,11 @@ ghost use Rattle.search_steps.specs.Leads.{IsRoot};
 
 use crate::first_runs::first_run;
 use fare_law::{Mem, Request};
+use fare_rules::limits_are_met;
 use graph_walk::WalkFault;
 use pricing_graph::GraphFault;
 use residual_keys::root;
 use residual_table::ResidualKey;
-use fare_rules::limits_are_met;
 use search_steps::{
     Bounds, ResidualRows, SearchSteps, least_prices_are_least, reached_states_are_reached,
 };

@@ -18,7 +18,7 @@ pub decided : (limit : Option ℕ) (n : ℕ) → IsWithin limit n ⊎ ((l : ℕ)
 decided None n = inl tt
 decided (Some l) n = elim (at_most_or n l) [ inl le ↦ inl le | inr lt ↦ inr (l, refl, lt) ]
 
-lesser_within : (limit : Option ℕ) (m n : ℕ) → m ≤ n → IsWithin limit n → IsWithin limit m
+pub lesser_within : (limit : Option ℕ) (m n : ℕ) → m ≤ n → IsWithin limit n → IsWithin limit m
 lesser_within None m n le w = tt
 lesser_within (Some l) m n le w = le_on m n l le w
 

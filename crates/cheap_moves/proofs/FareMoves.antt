@@ -1,15 +1,19 @@
 -- The moves of a component, fare by fare.
 use Rattle.std.proofs.Common.{◌≡◌, ◌≢◌, ◌⊎◌, ℕ, zero, suc, ◌+◌, ◌≤◌, ◌<◌, Bool, List, [], ◌∷◌, ◌++◌, length, map, take, get_or, slice_get, Option, Some, IsBitSet, refl, sym, ap, subst, ◌∙◌, inl, inr, arith}
+use Rattle.std.proofs.lemmas.List.Sorted.{IsPermutation-map}
 use Rattle.cheap_moves.specs.declared.component.Component.{Component}
 use Rattle.cheap_moves.specs.declared.component.Onward.{Onward}
 use Rattle.cheap_moves.specs.Making.{IsComponent, IsFareMove, Of}
 use Rattle.cheap_moves.specs.Within.{IsWithin}
-use Rattle.cheap_moves.proofs.Joining.{differs_before, of_more}
+use Rattle.cheap_moves.proofs.Cutting.{lesser_within}
+use Rattle.cheap_moves.proofs.Joining.{differs_before, of_more, taken_in}
 use Rattle.fare_groups.specs.declared.group.FareGroup.{FareGroup}
 use Rattle.fare_groups.specs.declared.group.GroupKey.{GroupKey}
 use Rattle.fare_groups.specs.declared.group.GroupedFare.{GroupedFare}
-use Rattle.fare_groups.specs.Grouping.{AreFares, IsGroup, IsRowOf}
+use Rattle.fare_groups.specs.Grouping.{AreCheapestFirst, AreFares, IsGroup, IsRowOf}
+use Rattle.fare_groups.proofs.ByShare.{before_or_dearer}
 use Rattle.fare_groups.proofs.OneGroup.{fares_are_rows}
+use Rattle.fare_groups.proofs.Reordered.{differ_reordered}
 use Rattle.fare_law.specs.declared.flights.Flight.{Flight}
 use Rattle.fare_law.specs.declared.moves.Move.{Move}
 use Rattle.fare_law.specs.declared.requests.Request.{Request}
@@ -93,7 +97,13 @@ module _ (b : Book) (q : Request) (at : Position) (path : Path) (fs : List Fligh
   place_low f j = got_within sheet.rows f.place (row_at f j).row (row_at f j).stands
 
   pub places_apart_in : AllDifferent (map (λ (f : GroupedFare). f.place) g.fares)
-  places_apart_in = places_differ g.key 0 sheet.rows g.fares (each_in (IsGroup sheet.rows) groups g is.groups_are.each i).fares
+  places_apart_in =
+      let own = (each_in (IsGroup sheet.rows) groups g is.groups_are.each i).fares in
+      let place = λ (f : GroupedFare). f.place in
+      differ_reordered (map place own.by_rows) (map place g.fares) (IsPermutation-map place own.by_rows g.fares own.same) (places_differ g.key 0 sheet.rows own.by_rows own.are)
+
+  pub cheapest_first_in : AreCheapestFirst g.fares
+  cheapest_first_in = (each_in (IsGroup sheet.rows) groups g is.groups_are.each i).fares.order
 
 -- ---- a fare's move
 
@@ -126,3 +136,21 @@ module _ (b : Book) (q : Request) (r : State) (k : Component) (limit : Option �
           differs_before (λ (z : GroupedFare). z.place) k.group.now.fares i d f g
           (places_apart_in b q r.at k.flown.now.way.path k.flown.now.way.flights k.flown.now.way.legs k.flown.now.classes k.facts.reverse k.market.now.sheet.value k.market.now.groups is.over.over k.group.now is.within) lt e j
           (one_place never trans total k.market.now.sheet.value.rows g.place f.place x.row y.row is.over.over.sheet_is.ascending x.stands y.stands (ap (λ (z : Move). z.carrier) same) (ap (λ (z : Move). z.basis) same))
+
+  -- from a fare on that is beyond the limit there are no more
+  pub no_more : (i : ℕ) (d f : GroupedFare) (a m : List Chosen) → i < length k.group.now.fares → f ≡ get_or k.group.now.fares i d → (IsWithin limit ((f.share + k.charges) + way.rest) → ⊥)
+      → Adds (Of (IsFareMove k limit way) (take i k.group.now.fares)) a m → Adds (Of (IsFareMove k limit way) k.group.now.fares) a m
+  no_more i d f a m lt e far h = record { more = h.more; joined = h.joined; once = h.once; are = λ c. (λ j. all c ((h.are c).0 j), λ x. (h.are c).1 (before c x)) }
+    where
+      all : (c : Chosen) → Of (IsFareMove k limit way) (take i k.group.now.fares) c → Of (IsFareMove k limit way) k.group.now.fares c
+      all c x = (x.0, taken_in x.0 i k.group.now.fares x.1, x.2)
+
+      dearer : (g : GroupedFare) → f.share ≤ g.share → IsWithin limit ((g.share + k.charges) + way.rest) → ⊥
+      dearer g le w = far (lesser_within limit ((f.share + k.charges) + way.rest) ((g.share + k.charges) + way.rest) (omega (arith, le)) w)
+
+      before : (c : Chosen) → Of (IsFareMove k limit way) k.group.now.fares c → Of (IsFareMove k limit way) (take i k.group.now.fares) c
+      before c x = elim (before_or_dearer k.group.now.fares i d
+          (cheapest_first_in b q r.at k.flown.now.way.path k.flown.now.way.flights k.flown.now.way.legs k.flown.now.classes k.facts.reverse k.market.now.sheet.value k.market.now.groups is.over.over k.group.now is.within) lt x.0 x.1) [
+            | inl j ↦ (x.0, j, x.2)
+            | inr le ↦ absurd (dearer x.0 (subst (λ (y : GroupedFare). y.share ≤ x.0.share) (sym e) le) x.2.within)
+          ]

@@ -1,5 +1,5 @@
 //! The moves of a component, fare by fare.
-ghost use Rattle.std.specs.Prelude.{◌≡◌, ◌↔◌, ◌+◌, ◌≤◌, IsTrue, OnOk, Some, slice_get};
+ghost use Rattle.std.specs.Prelude.{◌≡◌, ◌↔◌, ◌+◌, ◌≤◌, IfNone, IfSome, IsTrue, OnOk, Some, slice_get};
 ghost use Rattle.cheap_moves.specs.Making.{IsComponent, IsFareMove, Of};
 ghost use Rattle.cheap_moves.specs.Within.{IsWithin};
 ghost use Rattle.fare_law.specs.Lists.{IsIn};
@@ -12,7 +12,8 @@ use fare_law::{List, MarketSheet, Mem, Move, SheetRow};
 use residual_keys::Chosen;
 use ticket_order::order_laws;
 
-/// Adds the moves of a group's fares that go on like this, within the limit.
+/// Adds the moves of a group's fares that go on like this, within the limit. Its fares come in the order of their shares, so
+/// none is within it after one that isn't.
 pub fn add_fares<B>(
     found: &mut List<Chosen>,
     search: &MoveSearch<'_, B>,
@@ -24,29 +25,52 @@ pub fn add_fares<B>(
 {
     order_laws();
     for fare in component.group.fares.as_slice() {
-        add_fare(found, search, component, onward, fare)?;
+        let Some(price) = price_within(search, component, onward, fare) else {
+            return Ok(());
+        };
+        add_fare(found, search, component, onward, fare, price)?;
     }
     Ok(())
 }
 
-/// Adds the move of a fare that goes on like this, where its class is open and it is within the limit.
+/// What a component with a fare costs. None where the moves that go on like this are beyond the limit.
+fn price_within<B>(
+    search: &MoveSearch<'_, B>,
+    component: &Component<'_>,
+    onward: &Onward,
+    fare: &GroupedFare,
+) -> Option<u64>
+    requires component { IsComponent search.now.book.now search.now.request.now search.now.residual.now component.now }
+    requires fare { IsIn fare.now component.now.group.now.fares }
+    ensures some { IfSome result (λ price. (price ≡ fare.now.share + component.now.charges) × IsWithin search.now.limit ((fare.now.share + component.now.charges) + onward.now.rest)) }
+    ensures none { IfNone result (IsWithin search.now.limit ((fare.now.share + component.now.charges) + onward.now.rest) → ⊥) }
+{
+    search.book.limits();
+    let price = sum(fare.share, component.charges);
+    if is_within(search.limit, u128::from(price) + u128::from(onward.rest)) {
+        Some(price)
+    } else {
+        None
+    }
+}
+
+/// Adds the move of a fare that goes on like this, at this price, where its class is open.
 fn add_fare<B>(
     found: &mut List<Chosen>,
     search: &MoveSearch<'_, B>,
     component: &Component<'_>,
     onward: &Onward,
     fare: &GroupedFare,
+    price: u64,
 ) -> Result<(), Mem>
     requires component { IsComponent search.now.book.now search.now.request.now search.now.residual.now component.now }
     requires fare { IsIn fare.now component.now.group.now.fares }
+    requires price { price ≡ fare.now.share + component.now.charges }
+    requires within { IsWithin search.now.limit ((fare.now.share + component.now.charges) + onward.now.rest) }
     ensures { OnOk result (Adds (IsFareMove component.now search.now.limit onward.now fare.now) found.old found.new) }
 {
     search.book.limits();
     if !is_open(component.flown.classes, fare.class) {
-        return Ok(());
-    }
-    let price = sum(fare.share, component.charges);
-    if !is_within(search.limit, u128::from(price) + u128::from(onward.rest)) {
         return Ok(());
     }
     let sheet: &MarketSheet = &component.market.sheet;

@@ -13,8 +13,8 @@ use crate::roles::add_component;
 use component_table::Market;
 use fare_groups::{FareGroup, extra, first_row};
 use fare_law::{List, MarketSheet, Mem, SheetRow};
-use residual_keys::{Chosen, facts_over};
 use fare_rules::limits_are_met;
+use residual_keys::{Chosen, facts_over};
 
 /// Adds the moves on a path with the fares of a group, within the limit. There are none where the group's
 /// rule doesn't permit the flights.

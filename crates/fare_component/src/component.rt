@@ -8,7 +8,9 @@ ghost use Rattle.fare_law.specs.Parts.{DayTimeHolds};
 ghost use Rattle.fare_law.specs.RuleLimits.{IsRule};
 
 use fare_law::{Class, Flight, Leg, MOST_FLIGHTS_OF_A_COMPONENT, SheetRow};
-use fare_rules::{charge, day_time_ok, flights_ok, limits_are_met, share, stopovers_ok, surcharge, transfers_ok};
+use fare_rules::{
+    charge, day_time_ok, flights_ok, limits_are_met, share, stopovers_ok, surcharge, transfers_ok,
+};
 
 /// Whether the fare of a row may be had on the legs, and its rule permits their flights. The fare is
 /// filed between the ends of these flights.

@@ -13,8 +13,8 @@ ghost use Rattle.fare_law.specs.RuleLimits.{IsRule};
 
 use fare_groups::{GroupKey, extra};
 use fare_law::{Carrier, Flight, Mem, Rule, Shared};
-use indexmap::IndexMap;
 use fare_rules::{charge, flights_ok, limits_are_met, stopovers_ok, surcharge};
+use indexmap::IndexMap;
 use std::alloc::Global;
 
 /// The rule of a carrier and a number.

@@ -1,10 +1,9 @@
 -- Groups, as their fares are gathered row by row. Given on to the crates above.
-use Rattle.std.proofs.Common.{◌≡◌, ◌≢◌, ◌⊎◌, ℕ, zero, suc, ◌+◌, ◌<◌, ◌≤◌, List, [], ◌∷◌, ◌++◌, length, map, set, take, get_or, slice_get, Some, refl, sym, ap, ap₂, subst, ◌∙◌, inl, inr, arith}
+use Rattle.std.proofs.Common.{◌≡◌, ◌≢◌, ◌⊎◌, ℕ, zero, suc, ◌+◌, ◌<◌, List, [], ◌∷◌, ◌++◌, length, map, set, take, get_or, slice_get, Some, refl, sym, ap, ap₂, subst, ◌∙◌, inl, inr, arith}
 use Rattle.fare_groups.specs.declared.group.FareGroup.{FareGroup}
 use Rattle.fare_groups.specs.declared.group.GroupKey.{GroupKey}
 use Rattle.fare_groups.specs.declared.group.GroupedFare.{GroupedFare}
-use Rattle.fare_groups.specs.declared.rungs.Rung.{Rung}
-use Rattle.fare_groups.specs.Grouping.{AreFares, AreGathered, AreKeys, AreRungs, Put, Runged, empty_group, fare_at}
+use Rattle.fare_groups.specs.Grouping.{AreFares, AreGathered, AreKeys, Put, empty_group, fare_at}
 use Rattle.fare_groups.specs.Groups.{group_of}
 use Rattle.fare_groups.proofs.Reordered.{of_mapped}
 use Rattle.fare_law.specs.declared.sheets.SheetRow.{SheetRow}
@@ -139,53 +138,3 @@ rows_more keys rows i d row key fare old new of lt is k f h p =
     subst (λ rs. AreGathered keys rs new) (sym (front_read rows i d row lt is))
     (put_more keys of.apart (take i rows) row old h (of.all row (read_in rows i d row lt is)) new
     (subst (λ n. Put (group_of row) (fare_at n row) old new) (sym (front_length rows i lt)) (subst (λ x. Put (group_of row) x old new) f (subst (λ x. Put x fare old new) k p))))
-
--- the cheapest of each class of one group are set
-pub rungs_kept : (keys : List GroupKey) (rows : List SheetRow) (at : ℕ) (rungs : List Rung) (old new : List FareGroup) → Runged at rungs old new → AreGathered keys rows old → AreGathered keys rows new
-rungs_kept keys rows at rungs old new r h = subst (AreGathered keys rows) (sym (r.now ∙ s.changed more)) (record {
-  keys_are = sym (keys_same r.group more s.front s.back refl) ∙ sym (ap (map (λ x. x.key)) s.whole) ∙ h.keys_are;
-  each = each_from (λ x. AreFares x.key 0 rows x.fares) (s.front ++ more ∷ s.back) (λ x i. each_one x (in_mid x more r.group s.front s.back i));
-})
-  where
-    s : Split old at r.group
-    s = split old at r.group r.stands
-
-    more : FareGroup
-    more = record { key = r.group.key; fares = r.group.fares; rungs = rungs }
-
-    each : Each (λ (x : FareGroup). AreFares x.key 0 rows x.fares) (s.front ++ r.group ∷ s.back)
-    each = subst (Each (λ x. AreFares x.key 0 rows x.fares)) s.whole h.each
-
-    each_one : (x : FareGroup) → (IsIn x s.front ⊎ IsIn x s.back) ⊎ (x ≡ more) → AreFares x.key 0 rows x.fares
-    each_one x (inl i) = each_in (λ (y : FareGroup). AreFares y.key 0 rows y.fares) (s.front ++ r.group ∷ s.back) x each (mid_in x r.group s.front s.back i)
-    each_one x (inr e) = subst (λ (y : FareGroup). AreFares y.key 0 rows y.fares) (sym e) (each_in (λ (y : FareGroup). AreFares y.key 0 rows y.fares) (s.front ++ r.group ∷ s.back) r.group each (in_right r.group s.front (r.group ∷ s.back) (inl refl)))
-
-pub low_kept : (at : ℕ) (rungs : List Rung) (old new : List FareGroup) → Runged at rungs old new → Each (λ g. Each (λ f. f.class ≤ 25) g.fares) old → Each (λ g. Each (λ f. f.class ≤ 25) g.fares) new
-low_kept at rungs old new r h = subst (Each (λ g. Each (λ f. f.class ≤ 25) g.fares)) (sym r.now) (low_set old at r.group r.stands h)
-  where
-    low_set : (xs : List FareGroup) (n : ℕ) (g : FareGroup) → slice_get xs n ≡ Some g → Each (λ x. Each (λ f. f.class ≤ 25) x.fares) xs → Each (λ x. Each (λ f. f.class ≤ 25) x.fares) (set xs n (record { key = g.key; fares = g.fares; rungs = rungs }))
-    low_set [] n g e k = absurd (cc)
-    low_set (x ∷ xs) zero g e k = let same : x ≡ g = cc in (subst (λ (y : FareGroup). Each (λ f. f.class ≤ 25) y.fares) same k.0, k.1)
-    low_set (x ∷ xs) (suc n) g e k = (k.0, low_set xs n g e k.1)
-
-pub rungs_long : (at : ℕ) (rungs : List Rung) (old new : List FareGroup) → Runged at rungs old new → length new ≡ length old
-rungs_long at rungs old new r = ap length r.now ∙ set_long old at
-  where
-    set_long : (xs : List FareGroup) (n : ℕ) → length (set xs n (record { key = r.group.key; fares = r.group.fares; rungs = rungs })) ≡ length xs
-    set_long [] n = refl
-    set_long (x ∷ xs) zero = refl
-    set_long (x ∷ xs) (suc n) = ap suc (set_long xs n)
-
--- group by group
-pub rungs_more : (at : ℕ) (rungs : List Rung) (old new : List FareGroup) (r : Runged at rungs old new) → AreRungs r.group.fares rungs → Each (λ g. AreRungs g.fares g.rungs) (take at old) → Each (λ g. AreRungs g.fares g.rungs) (take (at + 1) new)
-rungs_more at rungs old new r own h = subst (λ xs. Each (λ (g : FareGroup). AreRungs g.fares g.rungs) (take (at + 1) xs)) (sym r.now) (set_front old at r.stands h)
-  where
-    more : FareGroup
-    more = record { key = r.group.key; fares = r.group.fares; rungs = rungs }
-
-    set_front : (xs : List FareGroup) (n : ℕ) → slice_get xs n ≡ Some r.group → Each (λ g. AreRungs g.fares g.rungs) (take n xs) → Each (λ g. AreRungs g.fares g.rungs) (take (n + 1) (set xs n more))
-    set_front [] n e k = absurd (cc)
-    set_front (x ∷ xs) zero e k = (own, tt)
-    set_front (x ∷ xs) (suc n) e k =
-        let next : suc (n + 1) ≡ suc n + 1 = omega arith in
-        subst (λ m. Each (λ (g : FareGroup). AreRungs g.fares g.rungs) (take m (x ∷ set xs n more))) next (k.0, set_front xs n e k.1)

@@ -1,11 +1,13 @@
 -- Each row stands in one group, and what a group has. Given on to the crates above.
 use Rattle.std.proofs.Common.{◌≡◌, ◌≢◌, ℕ, zero, suc, ◌+◌, ◌≤◌, List, [], ◌∷◌, map, slice_get, Some, refl, sym, ap, subst, ◌∙◌, inl, inr, arith}
+use Rattle.std.proofs.lemmas.List.Sorted.{IsPermutation-sym}
 use Rattle.fare_groups.specs.declared.group.FareGroup.{FareGroup}
 use Rattle.fare_groups.specs.declared.group.GroupKey.{GroupKey}
 use Rattle.fare_groups.specs.declared.group.GroupedFare.{GroupedFare}
 use Rattle.fare_groups.specs.Grouping.{AreFares, AreRungs, ClassesAreLow, EachStandsOnce, FaresAreRows, AreGroups, HasRows, IsGroup, fare_at}
 use Rattle.fare_groups.specs.Groups.{group_of}
 use Rattle.fare_groups.proofs.Grouped.{keys_each}
+use Rattle.fare_groups.proofs.Reordered.{in_reordered}
 use Rattle.fare_law.specs.declared.sheets.SheetRow.{SheetRow}
 use Rattle.fare_law.specs.Lists.{AllDifferent, Each, IsIn}
 use Rattle.law_lemmas.proofs.EachOne.{each_from, each_in}
@@ -67,7 +69,8 @@ one_of_key (x ∷ groups) g h d (inr i) (inr j) e = one_of_key groups g h d.1 i 
 
 pub fares_are_rows : FaresAreRows
 fares_are_rows rows groups h g i f j =
-    let x = row_of g.key 0 rows g.fares f (each_in (IsGroup rows) groups g h.each i).fares j in
+    let own = (each_in (IsGroup rows) groups g h.each i).fares in
+    let x = row_of g.key 0 rows own.by_rows f own.are (in_reordered g.fares own.by_rows f (IsPermutation-sym own.by_rows g.fares own.same) j) in
     let place : f.place ≡ x.n = ap (λ y. y.place) x.fare ∙ none_plus x.n in
     record {
       row = x.row;
@@ -91,11 +94,12 @@ pub each_stands_once : EachStandsOnce
 each_stands_once rows groups h place row stands =
     let k = h.all row (got_in rows place row stands) in
     let g = k.0 in
+    let own = (each_in (IsGroup rows) groups g h.each k.1).fares in
     record {
       group = g;
       within = k.1;
       key = k.2;
-      stands = subst (λ n. IsIn (fare_at n row) g.fares) (none_plus place) (fare_of_row g.key 0 rows g.fares place row (each_in (IsGroup rows) groups g h.each k.1).fares stands (sym k.2));
+      stands = in_reordered own.by_rows g.fares (fare_at place row) own.same (subst (λ n. IsIn (fare_at n row) own.by_rows) (none_plus place) (fare_of_row g.key 0 rows own.by_rows place row own.are stands (sym k.2)));
       only = λ other i j.
           let x = fares_are_rows rows groups h other i (fare_at place row) j in
           let same : x.row ≡ row = some_same x.row row (sym x.stands ∙ stands) in

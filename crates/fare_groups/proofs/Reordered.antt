@@ -1,9 +1,13 @@
 -- What is among the elements of a list in another order, or of what its elements become. Given on to the crates above.
-use Rattle.std.proofs.Common.{◌≡◌, List, [], ◌∷◌, map, All, ap, sym, subst, refl, inl, inr}
+use Rattle.std.proofs.Common.{◌≡◌, ◌≢◌, ℕ, false, eqb, List, [], ◌∷◌, map, All, ap, sym, subst, refl, ◌∙◌, inl, inr}
+use Rattle.std.specs.List.{AllByRecursion, IsDistinct}
 use Rattle.std.specs.List.Sorted.{IsPermutation}
+use Rattle.std.proofs.lemmas.Bool.Decides.{eqb_tells}
 use Rattle.std.proofs.lemmas.List.Elements.{All-cons, All-nil, All-head, All-tail}
 use Rattle.std.proofs.lemmas.List.Sorted.{All-permutation, IsPermutation-sym}
-use Rattle.fare_law.specs.Lists.{IsIn}
+use Rattle.std.proofs.lemmas.Map.Keys.{IsDistinct-IsPermutation, IsDistinct-cons, IsDistinct-head, IsDistinct-tail}
+use Rattle.fare_law.specs.Lists.{AllDifferent, Each, IsIn}
+use Rattle.law_lemmas.proofs.Tests.{true_false}
 
 pub all_from : {X : Type 0} (P : X → Type 0) (xs : List X) → ((x : X) → IsIn x xs → P x) → All P xs
 all_from P [] h = All-nil P
@@ -26,3 +30,30 @@ pub of_mapped : {X Y : Type 0} (f : X → Y) (xs : List X) (y : Y) → IsIn y (m
 of_mapped f [] y i = absurd i
 of_mapped f (x ∷ xs) y (inl e) = (x, inl refl, e)
 of_mapped f (x ∷ xs) y (inr i) = let r = of_mapped f xs y i in (r.0, inr r.1, r.2)
+
+-- ---- numbers that differ do so in another order
+flips : (m n : ℕ) → eqb m n ≡ eqb n m
+flips m n = elim (eqb_tells m n) [
+  | inl y ↦ elim (eqb_tells n m) [ inl z ↦ y.0 ∙ sym z.0 | inr z ↦ absurd (z.1 (sym y.1)) ]
+  | inr y ↦ elim (eqb_tells n m) [ inl z ↦ absurd (y.1 (sym z.1)) | inr z ↦ y.0 ∙ sym z.0 ]
+]
+
+others_differ : (m : ℕ) (ns : List ℕ) → Each (λ n. m ≢ n) ns → AllByRecursion (λ n. eqb m n ≡ false) ns
+others_differ m [] h = _
+others_differ m (n ∷ ns) h = (elim (eqb_tells m n) [ inl y ↦ absurd (h.0 y.1) | inr y ↦ y.0 ], others_differ m ns h.1)
+
+differ_others : (m : ℕ) (ns : List ℕ) → AllByRecursion (λ n. eqb m n ≡ false) ns → Each (λ n. m ≢ n) ns
+differ_others m [] h = tt
+differ_others m (n ∷ ns) h = (λ e. elim (eqb_tells m n) [ inl y ↦ absurd (true_false y.0 h.0) | inr y ↦ absurd (y.1 e) ], differ_others m ns h.1)
+
+distinct : (ns : List ℕ) → AllDifferent ns → IsDistinct eqb ns
+unfolding IsDistinct
+distinct [] h = tt
+distinct (n ∷ ns) h = IsDistinct-cons eqb n ns (others_differ n ns h.0) (distinct ns h.1)
+
+different : (ns : List ℕ) → IsDistinct eqb ns → AllDifferent ns
+different [] h = tt
+different (n ∷ ns) h = (differ_others n ns (IsDistinct-head eqb n ns h), different ns (IsDistinct-tail eqb n ns h))
+
+pub differ_reordered : (ms ns : List ℕ) → IsPermutation ms ns → AllDifferent ms → AllDifferent ns
+differ_reordered ms ns p h = different ns (IsDistinct-IsPermutation eqb flips ms ns p (distinct ms h))

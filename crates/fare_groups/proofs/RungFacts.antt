@@ -1,22 +1,17 @@
 -- The first shares of rungs. Given on to the crates above.
-use Rattle.std.proofs.Common.{◌≡◌, ◌≢◌, ℕ, suc, ◌+◌, ◌<◌, ◌≤◌, ◌^◌, false, cond, List, [], ◌∷◌, ◌++◌, length, map, take, get_or, Option, None, Some, IsBitSet, bit_and, bit_or, refl, sym, ap, subst, ◌∙◌, inl, inr, arith}
-use Rattle.std.specs.List.Sorted.{IsPermutation, IsSorted}
-use Rattle.std.specs.Ordering.{is_lt, nat_cmp, ordering_then}
+use Rattle.std.proofs.Common.{◌≡◌, ◌≢◌, ℕ, ◌+◌, ◌<◌, ◌≤◌, ◌^◌, cond, List, [], ◌∷◌, ◌++◌, length, map, take, get_or, Option, None, Some, IsBitSet, bit_and, bit_or, refl, sym, ap, subst, ◌∙◌, inl, inr}
 use Rattle.std.proofs.lemmas.Bool.Decides.{eqb_tells}
-use Rattle.std.proofs.lemmas.List.Sorted.{IsPermutation-sym}
-use Rattle.fare_groups.specs.contracts.rungs.RungOrd.TheImpl as rung_order
 use Rattle.fare_groups.specs.declared.group.GroupedFare.{GroupedFare}
 use Rattle.fare_groups.specs.declared.rungs.Rung.{Rung}
-use Rattle.fare_groups.specs.Grouping.{AreFirsts, AreOneClass, AreRungs, Cheapest, first_share, rung_of}
+use Rattle.fare_groups.specs.Grouping.{AreCheapestFirst, AreFirsts, AreOneClass, AreRungs, Cheapest, first_share, rung_of}
 use Rattle.fare_groups.proofs.Bits.{either_set, none_set, one_class, zero_or_not}
-use Rattle.fare_groups.proofs.Reordered.{in_mapped, in_reordered, of_mapped}
+use Rattle.fare_groups.proofs.Reordered.{in_mapped, of_mapped}
 use Rattle.fare_law.specs.Lists.{Each, EachPair, IsIn}
 use Rattle.law_lemmas.proofs.EachOne.{each_from, each_in, each_more}
 use Rattle.law_lemmas.proofs.Lists.{front_read}
 use Rattle.law_lemmas.proofs.Members.{in_left, in_right}
-use Rattle.law_lemmas.proofs.Numbers.{at_most_or, le_itself, le_on}
+use Rattle.law_lemmas.proofs.Numbers.{le_itself, le_on}
 use Rattle.law_lemmas.proofs.Options.{none_some, some_same}
-use Rattle.law_lemmas.proofs.Tests.{less_is, true_false}
 
 -- a rung of one of the classes is the first, another is passed
 pub open_first : (r : Rung) (rs : List Rung) (classes : ℕ) → bit_and classes r.class ≢ 0 → first_share (r ∷ rs) classes ≡ Some r.share
@@ -51,22 +46,10 @@ first_of (x ∷ xs) classes share e = elim (zero_or_not (bit_and classes x.class
 abbrev pub Ascend : List Rung → Type 0
 Ascend rs = EachPair (λ (r s : Rung). r.share ≤ s.share) rs
 
--- a rung that doesn't come before another costs no less
-not_before : (x y : Rung) → is_lt (rung_order.ghosts.cmp y x) ≡ false → x.share ≤ y.share
-not_before x y h = elim (at_most_or x.share y.share) [
-  | inl le ↦ le
-  | inr lt ↦ absurd (true_false (ap (λ o. is_lt (ordering_then o (nat_cmp y.class x.class))) (less_is y.share x.share lt)) h)
-]
-
-pub sorted_ascends : (all : List Rung) → IsSorted rung_order.ghosts.cmp all → Ascend all
-sorted_ascends [] h = tt
-sorted_ascends (x ∷ []) h = tt
-sorted_ascends (x ∷ y ∷ ys) h = (not_before x y (h 0 x (omega arith) (omega arith)), sorted_ascends (y ∷ ys) rest)
-  where
-    rest : IsSorted rung_order.ghosts.cmp (y ∷ ys)
-    rest k d l lt =
-        let e : suc k + 1 ≡ suc (k + 1) = omega arith in
-        subst (λ n. is_lt (rung_order.ghosts.cmp (get_or (x ∷ y ∷ ys) n d) (get_or (y ∷ ys) k d)) ≡ false) e (h (suc k) d (omega arith) (omega (arith, lt)))
+pub fares_ascend : (fs : List GroupedFare) → AreCheapestFirst fs → Ascend (map rung_of fs)
+fares_ascend [] h = tt
+fares_ascend (f ∷ []) h = tt
+fares_ascend (f ∷ g ∷ fs) h = (h.0, fares_ascend (g ∷ fs) h.1)
 
 ascend_rest : (r : Rung) (rs : List Rung) → Ascend (r ∷ rs) → Ascend rs
 ascend_rest r [] h = tt
@@ -174,33 +157,27 @@ pub firsts_all : (all firsts : List Rung) (seen : ℕ) → TakesFirsts all all s
 firsts_all all firsts seen t = record { same = t.same; among = t.among }
 
 -- ---- rungs of fares
-mapped_one_class : (fs : List GroupedFare) → Each (λ f. f.class ≤ 25) fs → AreOneClass (map rung_of fs)
-mapped_one_class [] h = tt
-mapped_one_class (f ∷ fs) h = ((f.class, h.0, refl), mapped_one_class fs h.1)
+pub all_one_class : (fares : List GroupedFare) → Each (λ f. f.class ≤ 25) fares → AreOneClass (map rung_of fares)
+all_one_class [] h = tt
+all_one_class (f ∷ fs) h = ((f.class, h.0, refl), all_one_class fs h.1)
 
-module _ (fares : List GroupedFare) (all : List Rung) (order : IsPermutation (map rung_of fares) all) where
-  back : (r : Rung) → IsIn r all → IsIn r (map rung_of fares)
-  back r i = in_reordered all (map rung_of fares) r (IsPermutation-sym (map rung_of fares) all order) i
-
-  pub all_one_class : Each (λ f. f.class ≤ 25) fares → AreOneClass all
-  all_one_class low = each_from (λ (r : Rung). (class : ℕ) × (class ≤ 25) × (r.class ≡ 2 ^ class)) all (λ r i. each_in (λ (x : Rung). (class : ℕ) × (class ≤ 25) × (x.class ≡ 2 ^ class)) (map rung_of fares) r (mapped_one_class fares low) (back r i))
-
-  cheapest_of : Ascend all → (classes : ℕ) (o : Option ℕ) → first_share all classes ≡ o → Cheapest classes fares o
-  cheapest_of ascend classes None e = each_from (λ (f : GroupedFare). IsBitSet classes f.class → ⊥) fares (λ f i open_class. open_class (none_open all classes e (rung_of f) (in_reordered (map rung_of fares) all (rung_of f) order (in_mapped rung_of fares f i))))
-  cheapest_of ascend classes (Some share) e =
-      let first = first_of all classes share e in
-      let of = of_mapped rung_of fares first.rung (back first.rung first.within) in
+module _ (fares : List GroupedFare) (ascend : Ascend (map rung_of fares)) where
+  cheapest_of : (classes : ℕ) (o : Option ℕ) → first_share (map rung_of fares) classes ≡ o → Cheapest classes fares o
+  cheapest_of classes None e = each_from (λ (f : GroupedFare). IsBitSet classes f.class → ⊥) fares (λ f i open_class. open_class (none_open (map rung_of fares) classes e (rung_of f) (in_mapped rung_of fares f i)))
+  cheapest_of classes (Some share) e =
+      let first = first_of (map rung_of fares) classes share e in
+      let of = of_mapped rung_of fares first.rung first.within in
       record {
         fare = of.0;
         within = of.1;
         open_class = λ z. first.open_rung (ap (λ (r : Rung). bit_and classes r.class) of.2 ∙ z);
         costs = sym (ap (λ (r : Rung). r.share) of.2) ∙ first.share_is;
-        below = each_from (λ (f : GroupedFare). IsBitSet classes f.class → share ≤ f.share) fares (λ f i open_class. first_least all classes share ascend e (rung_of f) (in_reordered (map rung_of fares) all (rung_of f) order (in_mapped rung_of fares f i)) open_class);
+        below = each_from (λ (f : GroupedFare). IsBitSet classes f.class → share ≤ f.share) fares (λ f i open_class. first_least (map rung_of fares) classes share ascend e (rung_of f) (in_mapped rung_of fares f i) open_class);
       }
 
   -- the first of each class have the least shares of the fares
-  pub firsts_are : Ascend all → (firsts : List Rung) → AreFirsts all firsts → AreRungs fares firsts
-  firsts_are ascend firsts h = record {
-    least = λ classes. cheapest_of ascend classes (first_share firsts classes) (sym (h.same classes));
-    among = each_from (λ r. IsIn r (map rung_of fares)) firsts (λ r i. back r (each_in (λ r. IsIn r all) firsts r h.among i));
+  pub firsts_are : (firsts : List Rung) → AreFirsts (map rung_of fares) firsts → AreRungs fares firsts
+  firsts_are firsts h = record {
+    least = λ classes. cheapest_of classes (first_share firsts classes) (sym (h.same classes));
+    among = h.among;
   }

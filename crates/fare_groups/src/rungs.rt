@@ -1,6 +1,6 @@
 //! The cheapest fares of a group by classes.
 ghost use Rattle.std.specs.Prelude.{◌≡◌, ◌≤◌, [], map, IfOk, OnOk};
-ghost use Rattle.fare_groups.specs.Grouping.{AreFirsts, AreOneClass, AreRungs, first_share, rung_of};
+ghost use Rattle.fare_groups.specs.Grouping.{AreCheapestFirst, AreFirsts, AreOneClass, AreRungs, first_share, rung_of};
 ghost use Rattle.fare_law.specs.Lists.{Each};
 
 use crate::GroupedFare;
@@ -8,7 +8,7 @@ use fare_law::{List, Mem};
 use std::alloc::Global;
 
 /// The least share of a group's fares of a class.
-#[derive(Clone, Copy, PartialEq, Eq, PartialOrd, Ord)]
+#[derive(Clone, Copy)]
 pub struct Rung {
     pub share: u64,
     /// The class, as a set of one: bit c for class c.
@@ -17,11 +17,11 @@ pub struct Rung {
 
 /// The least share of each class of some fares, by shares.
 pub fn rungs_of(alloc: Global, fares: &[GroupedFare]) -> Result<List<Rung>, Mem>
-    requires { Each (λ f. f.class ≤ 25) fares.now }
+    requires low { Each (λ f. f.class ≤ 25) fares.now }
+    requires order { AreCheapestFirst fares.now }
     ensures { IfOk result (AreRungs fares.now) }
 {
-    let mut all = all_rungs(alloc, fares)?;
-    all.sort_unstable();
+    let all = all_rungs(alloc, fares)?;
     firsts_of(alloc, all.as_slice())
 }
 

@@ -7,8 +7,8 @@ ghost use Rattle.outlines.specs.Outcomes.{EntryWithin};
 
 use crate::Entry;
 use fare_law::{CombineRule, EndOnEnd, Place, Rule};
-use open_unit::Facts;
 use fare_rules::rules_stay_in_range;
+use open_unit::Facts;
 
 /// What a unit reads of an entry's component, which begins at this place and is sold on this day.
 pub fn facts_of<'a>(begin: Place, sale: i32, entry: &'a Entry) -> Facts<'a>

@@ -5,8 +5,8 @@ ghost use Rattle.fare_law.specs.Limits.{IsRequest};
 ghost use Rattle.pricing_graph.specs.NodesHold.{LeastRunsAreBest, NodesDiffer, NodesKeepLaws, RunsHaveMoves, TotalsAreSmall};
 ghost use Rattle.residual_keys.specs.Written.{InLimits};
 
-use residual_keys::{one_next, reached_is_written, residual_order, runs_are_short};
 use fare_rules::limits_are_met;
+use residual_keys::{one_next, reached_is_written, residual_order, runs_are_short};
 use search_steps::reached_states_are_reached;
 use ticket_order::codes_tell;
 

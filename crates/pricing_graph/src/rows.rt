@@ -7,9 +7,9 @@ ghost use Rattle.search_steps.specs.Cases.{IsSameCase};
 ghost use Rattle.search_steps.specs.Keys.{live, state};
 
 use crate::GraphFault;
+use fare_rules::limits_are_met;
 use graph_walk::WalkFault;
 use residual_keys::root;
-use fare_rules::limits_are_met;
 use search_steps::{ResidualRows, SearchSteps, least_prices_are_least, reached_states_are_reached};
 use std::alloc::Global;
 

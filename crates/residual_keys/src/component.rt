@@ -18,8 +18,8 @@ use fare_book::Book;
 use fare_law::{
     ArrayVec, FareKey, Flight, Leg, MOST_FLIGHTS_OF_A_COMPONENT, Move, Place, Role, SheetRow,
 };
-use open_unit::Facts;
 use fare_rules::rules_stay_in_range;
+use open_unit::Facts;
 use schedule_book::Schedule;
 
 /// The places and the flights of a book.

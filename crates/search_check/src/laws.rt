@@ -7,8 +7,8 @@ ghost use Rattle.search_check.specs.Texts.{HasText, IsKept};
 ghost use Rattle.whole_case.specs.declared.search.SearchCase.{SearchCase};
 
 use certificate::search_meets_checks;
-use residual_keys::{one_size, reached_is_written, runs_are_short};
 use fare_rules::limits_are_met;
+use residual_keys::{one_size, reached_is_written, runs_are_short};
 use word_text::{cuts_tell, numbers_tell};
 
 /// The certificate of a search has a text of its own, from which it is read again: its prices and bounds

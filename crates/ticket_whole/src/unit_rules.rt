@@ -17,8 +17,8 @@ use crate::stretch::{Stretch, stretches_of, unit_of};
 use crate::units::{UnitFacts, facts_of};
 use fare_book::Book;
 use fare_law::{Component, FareKind, MOST_COMPONENTS, MinStay, Partners, Rule, SheetRow, UnitKind};
-use market_time::first_sunday_after;
 use fare_rules::{advance_ok, season_ok, travel_ok};
+use market_time::first_sunday_after;
 
 /// Whether a component meets a demand in its unit, which is made of those of at most `MOST_COMPONENTS` components that
 /// have its label. One without a live fare or a known flight meets each.

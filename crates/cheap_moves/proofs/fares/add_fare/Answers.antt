@@ -1,6 +1,5 @@
-use Rattle.std.proofs.Common.{◌≡◌, ◌<◌, ◌+◌, ℕ, length, slice_get, Some, sym, ap, ap₂, subst, ◌∙◌}
-use Rattle.cheap_moves.specs.Within.{IsWithin}
-use Rattle.cheap_moves.proofs.FareMoves.{class_low, fare_made, place_low, row_at, share_low}
+use Rattle.std.proofs.Common.{◌≡◌, ◌<◌, length, slice_get, Some, sym, ap, subst, ◌∙◌}
+use Rattle.cheap_moves.proofs.FareMoves.{class_low, fare_made, place_low, row_at}
 use Rattle.fare_law.specs.Sheets.{Sheet}
 use Rattle.law_lemmas.proofs.Lists.{got_same}
 use Rattle.law_lemmas.proofs.Options.{on_ok}
@@ -11,12 +10,6 @@ is_open-requires g c =
     let k = c.args.component.now in
     let is = c.requires.component in
     class_low c.args.search.now.book.now c.args.search.now.request.now c.args.search.now.residual.now.at k.flown.now.way.path k.flown.now.way.flights k.flown.now.way.legs k.flown.now.classes k.facts.reverse k.market.now.sheet.value k.market.now.groups is.over.over k.group.now is.within c.args.fare.now c.requires.fare
-
-pub sum-price-requires-clause-share : goal.sum-price-requires-clause-share
-sum-price-requires-clause-share g c =
-    let k = c.args.component.now in
-    let is = c.requires.component in
-    share_low c.args.search.now.book.now c.args.search.now.request.now c.args.search.now.residual.now.at k.flown.now.way.path k.flown.now.way.flights k.flown.now.way.legs k.flown.now.classes k.facts.reverse k.market.now.sheet.value k.market.now.groups is.over.over k.group.now is.within c.args.fare.now c.requires.fare
 
 pub bounds-as_slice-fare : goal.bounds-as_slice-fare
 bounds-as_slice-fare g c =
@@ -36,6 +29,4 @@ returns g c =
     let same = got_same k.market.now.sheet.value.rows c.as_slice.result.now f.place _ x.row c.index-as_slice-fare.result rows c.index-as_slice-fare.is x.stands in
     let stands : slice_get k.market.now.sheet.value.rows f.place ≡ Some c.index-as_slice-fare.result = x.stands ∙ ap Some (sym same) in
     let open_class = c.is_open.ensures.0 c.if-not-is_open.false in
-    let total = ap₂ (λ (m n : ℕ). m + n) (c.from.ensures ∙ c.sum-price.ensures) c.from-2.ensures in
-    let within : IsWithin limit ((f.share + k.charges) + c.args.onward.now.rest) = subst (IsWithin limit) total (c.is_within.ensures.0 c.if-not-is_within.false) in
-    on_ok c.push.result _ _ (λ e. fare_made k limit c.args.onward.now f c.args.found.now c.push.new.self c.index-as_slice-fare.result c.move_of.result c.sum-price.result stands open_class within c.move_of.ensures c.sum-price.ensures e) c.push.ensures.items
+    on_ok c.push.result _ _ (λ e. fare_made k limit c.args.onward.now f c.args.found.now c.push.new.self c.index-as_slice-fare.result c.move_of.result c.args.price stands open_class c.requires.within c.move_of.ensures c.requires.price e) c.push.ensures.items
