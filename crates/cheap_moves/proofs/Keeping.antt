@@ -1,18 +1,16 @@
 -- A bucket of moves, as it grows path by path.
 use Rattle.std.proofs.Common.{◌≡◌, ◌≢◌, ◌⊎◌, ◌∙◌, ℕ, ◌+◌, ◌≤◌, ◌<◌, Bool, List, [], ◌∷◌, ◌++◌, length, map, take, get_or, Option, Some, refl, sym, ap, subst, inl, inr, arith}
 use Rattle.cheap_moves.specs.declared.least.CountedMove.{CountedMove}
+use Rattle.cheap_moves.specs.Drawing.{IsNext}
 use Rattle.cheap_moves.specs.LeastMoves.{AreKept, Counts, CountsOn, IsLimit, IsSooner, counted}
 use Rattle.cheap_moves.specs.Making.{IsWithinOn, Of}
-use Rattle.cheap_moves.specs.Sought.{AreSought}
 use Rattle.cheap_moves.specs.Within.{IsMoveWithin, IsWithin, total_of}
 use Rattle.cheap_moves.proofs.Cutting.{decided, limit_sank}
-use Rattle.cheap_moves.proofs.Joining.{one_added, one_of_key}
+use Rattle.cheap_moves.proofs.Joining.{one_of_key}
 use Rattle.cheap_moves.proofs.LeastWithin.{counts_with, first_same, within_is}
 use Rattle.cheap_moves.proofs.PathMoves.{paths_apart}
 use Rattle.cheap_moves.proofs.Sooner.{code_of}
-use Rattle.fare_law.specs.declared.flights.Flight.{Flight}
 use Rattle.fare_law.specs.declared.moves.Move.{Move}
-use Rattle.fare_law.specs.declared.names.Place.{Place}
 use Rattle.fare_law.specs.declared.requests.Request.{Request}
 use Rattle.fare_law.specs.Book.{Book}
 use Rattle.fare_law.specs.Codes.{move_code}
@@ -27,7 +25,6 @@ use Rattle.residual_keys.specs.Steps.{IsChosen}
 use Rattle.residual_keys.proofs.InOrder.{codes_differ}
 use Rattle.residual_keys.proofs.PathByPath.{all_coded}
 use Rattle.law_lemmas.proofs.EachOne.{each_append, each_from, each_in, each_weaker}
-use Rattle.law_lemmas.proofs.Lists.{front_read}
 use Rattle.law_lemmas.proofs.Members.{in_either, in_left, in_one, in_right}
 use Rattle.ticket_order.specs.Coding.{Coded}
 
@@ -56,19 +53,19 @@ counted_differ bound (c ∷ cs) h = (others cs h.0, counted_differ bound cs h.1)
 
 -- ---- one path more
 
-module _ (b : Book) (q : Request) (r : State) (bound : State → Option ℕ) (begun : Flight → Bool) (ending : Place → Bool) (paths : List Path) (are : AreSought b q.slices r.at begun ending paths) (first : Option ℕ) (wanted : ℕ) where
-  abbrev Has : ℕ → CountedMove → Type 0
-  Has i m = CountsOn b q r bound first (take i paths) m
+module _ (b : Book) (q : Request) (r : State) (bound : State → Option ℕ) (first : Option ℕ) (wanted : ℕ) where
+  abbrev Has : List Path → CountedMove → Type 0
+  Has paths m = CountsOn b q r bound first paths m
 
-  pub none_kept : (kept : List CountedMove) → kept ≡ [] → AreKept (Has 0) wanted first kept first
-  none_kept kept e = subst (λ ms. AreKept (Has 0) wanted first ms first) (sym e) (record { once = tt; one = λ m n i. absurd i; each = tt; rest = λ m h. absurd h.0.1; limit_is = inl refl })
+  pub none_kept : (kept : List CountedMove) → kept ≡ [] → AreKept (Has []) wanted first kept first
+  none_kept kept e = subst (λ ms. AreKept (Has []) wanted first ms first) (sym e) (record { once = tt; one = λ m n i. absurd i; each = tt; rest = λ m h. absurd h.0.1; limit_is = inl refl })
 
-  module _ (i : ℕ) (d p : Path) (lt : i < length paths) (e : p ≡ get_or paths i d) (limit : Option ℕ) (kept : List CountedMove) (old : AreKept (Has i) wanted first kept limit) where
-    stays : (m : CountedMove) → Has i m → Has (i + 1) m
-    stays m h = ((h.0.0, subst (IsIn h.0.0) (sym (front_read paths i d p lt e)) (in_left h.0.0 (take i paths) (p ∷ []) h.0.1), h.0.2), h.1)
+  module _ (seen : List Path) (p : Path) (next : IsNext b q r seen p) (limit : Option ℕ) (kept : List CountedMove) (old : AreKept (Has seen) wanted first kept limit) where
+    stays : (m : CountedMove) → Has seen m → Has (seen ++ p ∷ []) m
+    stays m h = ((h.0.0, in_left h.0.0 seen (p ∷ []) h.0.1, h.0.2), h.1)
 
-    new_one : (m : CountedMove) → IsWithinOn b q r bound first p m.chosen → m.total ≡ total_of bound m.chosen → Has (i + 1) m
-    new_one m h t = ((p, subst (IsIn p) (sym (front_read paths i d p lt e)) (in_right p (take i paths) (p ∷ []) (inl refl)), h), t)
+    new_one : (m : CountedMove) → IsWithinOn b q r bound first p m.chosen → m.total ≡ total_of bound m.chosen → Has (seen ++ p ∷ []) m
+    new_one m h t = ((p, in_right p seen (p ∷ []) (inl refl), h), t)
 
     module _ (more : List Chosen) (once : AllDifferent (map (λ c. c.mv) more)) (there : (c : Chosen) → IsIn c more → IsWithinOn b q r bound limit p c) (all : (c : Chosen) → IsWithinOn b q r bound limit p c → IsIn c more) where
       abbrev added : List CountedMove
@@ -76,15 +73,15 @@ module _ (b : Book) (q : Request) (r : State) (bound : State → Option ℕ) (be
 
       apart : (x y : CountedMove) → IsIn x kept → IsIn y added → move_of x ≢ move_of y
       apart x y j k s =
-          let h = each_in (Has i) kept x old.each j in
+          let h = each_in (Has seen) kept x old.each j in
           let z = in_counted bound y more k in
-          paths_apart b q r bound begun ending paths are first limit i d p h.0.0 lt e h.0.1 x.chosen z.0 h.0.2 (there z.0 z.1) (s ∙ ap move_of z.2)
+          paths_apart b q r bound first limit h.0.0 p (next.each h.0.0 h.0.1) next.own (next.other h.0.0 h.0.1) x.chosen z.0 h.0.2 (there z.0 z.1) (s ∙ ap move_of z.2)
 
-      new_each : (y : CountedMove) → IsIn y added → Has (i + 1) y
+      new_each : (y : CountedMove) → IsIn y added → Has (seen ++ p ∷ []) y
       new_each y k =
           let z = in_counted bound y more k in
           let w = there z.0 z.1 in
-          subst (Has (i + 1)) (sym z.2) (new_one (counted bound z.0) (w.0, counts_with b q r bound limit first z.0 w.1 (limit_sank wanted first kept limit old.limit_is (total_of bound z.0) (within_is b q r bound limit z.0 w.1))) refl)
+          subst (Has (seen ++ p ∷ [])) (sym z.2) (new_one (counted bound z.0) (w.0, counts_with b q r bound limit first z.0 w.1 (limit_sank wanted first kept limit old.limit_is (total_of bound z.0) (within_is b q r bound limit z.0 w.1))) refl)
 
       still_before : (P : CountedMove → Type 0) → HasMany wanted (λ n. IsIn n kept × P n) → HasMany wanted (λ n. IsIn n (kept ++ added) × P n)
       still_before P h = (h.0, h.1, h.2, each_weaker (λ n. IsIn n kept × P n) (λ n. IsIn n (kept ++ added) × P n) (λ n k. (in_left n kept added k.0, k.1)) h.0 h.3)
@@ -108,10 +105,10 @@ module _ (b : Book) (q : Request) (r : State) (bound : State → Option ℕ) (be
               let same : n' ≡ n = cc in
               still_before (λ x. IsSooner x m) (many.0, many.1, many.2, each_weaker (λ x. IsIn x kept × (x.total ≤ n')) (λ x. IsIn x kept × IsSooner x m) (λ x k. (k.0, inl (lower x.total n' (total_of bound m.chosen) m.total k.1 (subst (λ o. o < total_of bound m.chosen) (sym same) far) t))) many.0 many.3)
 
-      more_rest : (m : CountedMove) → Has (i + 1) m → IsIn m (kept ++ added) ⊎ HasMany wanted (λ n. IsIn n (kept ++ added) × IsSooner n m)
-      more_rest m h = elim (one_added paths i d p h.0.0 lt e h.0.1) [
+      more_rest : (m : CountedMove) → Has (seen ++ p ∷ []) m → IsIn m (kept ++ added) ⊎ HasMany wanted (λ n. IsIn n (kept ++ added) × IsSooner n m)
+      more_rest m h = elim (in_either h.0.0 seen (p ∷ []) h.0.1) [
         | inl j ↦ elim (old.rest m ((h.0.0, j, h.0.2), h.1)) [ inl k ↦ inl (in_left m kept added k) | inr k ↦ inr (still_before (λ n. IsSooner n m) k) ]
-        | inr s ↦ of_path m (subst (λ y. IsWithinOn b q r bound first y m.chosen) s h.0.2) h.1 old.limit_is
+        | inr s ↦ of_path m (subst (λ y. IsWithinOn b q r bound first y m.chosen) (in_one h.0.0 p s) h.0.2) h.1 old.limit_is
       ]
 
       more_one : (m n : CountedMove) → IsIn m (kept ++ added) → IsIn n (kept ++ added) → move_of m ≡ move_of n → m ≡ n
@@ -130,22 +127,22 @@ module _ (b : Book) (q : Request) (r : State) (bound : State → Option ℕ) (be
       more_limit (inl f) = inl f
       more_limit (inr (n, f, w, many)) = inr (n, f, w, still_before (λ m. m.total ≤ n) many)
 
-      more_kept : AreKept (Has (i + 1)) wanted first (kept ++ added) limit
+      more_kept : AreKept (Has (seen ++ p ∷ [])) wanted first (kept ++ added) limit
       more_kept = record {
         once = different_more kept added old.once (counted_differ bound more once) (λ m j k. apart m m j k refl);
         one = more_one;
-        each = each_append (Has (i + 1)) kept added (each_weaker (Has i) (Has (i + 1)) stays kept old.each) (each_from (Has (i + 1)) added new_each);
+        each = each_append (Has (seen ++ p ∷ [])) kept added (each_weaker (Has seen) (Has (seen ++ p ∷ [])) stays kept old.each) (each_from (Has (seen ++ p ∷ [])) added new_each);
         rest = more_rest;
         limit_is = more_limit old.limit_is;
       }
 
     -- the moves of a path within the limit
-    path_more : (found : List Chosen) → Adds (IsWithinOn b q r bound limit p) [] found → AreKept (Has (i + 1)) wanted first (kept ++ map (counted bound) found) limit
-    path_more found h = subst (λ cs. AreKept (Has (i + 1)) wanted first (kept ++ map (counted bound) cs) limit) (sym h.joined) (more_kept h.more h.once (λ c. (h.are c).0) (λ c. (h.are c).1))
+    path_more : (found : List Chosen) → Adds (IsWithinOn b q r bound limit p) [] found → AreKept (Has (seen ++ p ∷ [])) wanted first (kept ++ map (counted bound) found) limit
+    path_more found h = subst (λ cs. AreKept (Has (seen ++ p ∷ [])) wanted first (kept ++ map (counted bound) cs) limit) (sym h.joined) (more_kept h.more h.once (λ c. (h.are c).0) (λ c. (h.are c).1))
 
-    pub path_kept : (none found given : List Chosen) (new : List CountedMove) → none ≡ [] → Adds (IsWithinOn b q r bound limit p) none found → given ≡ found → new ≡ kept ++ map (counted bound) given → AreKept (Has (i + 1)) wanted first new limit
+    pub path_kept : (none found given : List Chosen) (new : List CountedMove) → none ≡ [] → Adds (IsWithinOn b q r bound limit p) none found → given ≡ found → new ≡ kept ++ map (counted bound) given → AreKept (Has (seen ++ p ∷ [])) wanted first new limit
     path_kept none found given new e h same is =
-        subst (λ ms. AreKept (Has (i + 1)) wanted first ms limit) (sym (is ∙ ap (λ cs. kept ++ map (counted bound) cs) same)) (path_more found (subst (λ cs. Adds (IsWithinOn b q r bound limit p) cs found) e h))
+        subst (λ ms. AreKept (Has (seen ++ p ∷ [])) wanted first ms limit) (sym (is ∙ ap (λ cs. kept ++ map (counted bound) cs) same)) (path_more found (subst (λ cs. Adds (IsWithinOn b q r bound limit p) cs found) e h))
 
 -- the codes of moves that differ, differ
 module _ (parts : (m n : Move) (us vs : List ℕ) → Coded m → Coded n → move_code m ++ us ≡ move_code n ++ vs → (m ≡ n) × (us ≡ vs)) where

@@ -11,6 +11,7 @@ pub mod MarketMoves
 pub mod PathMoves
 pub mod Cutting
 pub mod Keeping
+pub mod DrawnPaths
 pub mod LeadMoves
 pub mod Hoped
 pub mod Suiting

@@ -1,10 +1,10 @@
 -- The moves of a residual, path by path.
 use Rattle.std.proofs.Common.{◌≡◌, ◌≢◌, ◌⊎◌, ℕ, ◌<◌, Bool, true, false, List, [], length, take, get_or, slice_get, Option, Some, refl, sym, ap, subst, ◌∙◌, inl, inr}
 use Rattle.cheap_moves.specs.declared.component.Flown.{Flown}
+use Rattle.cheap_moves.specs.Drawing.{IsOwnPath}
 use Rattle.cheap_moves.specs.Making.{IsFlown, IsOver, IsWithinFiled, IsWithinOn, Of}
 use Rattle.cheap_moves.specs.Sought.{AreSought, StartWanted}
 use Rattle.cheap_moves.specs.Within.{CountsWithin, IsMoveWithin}
-use Rattle.cheap_moves.proofs.Joining.{differs_before, same_map, taken_in}
 use Rattle.fare_ends.specs.declared.markets.Market.{Market}
 use Rattle.fare_ends.specs.declared.markets.MarketKey.{MarketKey}
 use Rattle.fare_ends.specs.Markets.{AreMarkets, IsMarket, StandsAt}
@@ -73,15 +73,11 @@ path_one b q r p p' fs gs h k e =
     let after = flies_one b q.slices (Some r.at) p'.flights gs p.after p'.after (subst (λ xs. Flies b q.slices (Some r.at) p'.flights xs p.after) same flies) k.flies in
     λ i. record { flights = e i; after = after i }
 
-module _ (b : Book) (q : Request) (r : State) (bound : State → Option ℕ) (begun : Flight → Bool) (wanted : Place → Bool) (paths : List Path) (are : AreSought b q.slices r.at begun wanted paths) where
-  -- moves on different paths differ
-  pub paths_apart : (limit limit' : Option ℕ) (i : ℕ) (d p y : Path) → i < length paths → p ≡ get_or paths i d → IsIn y (take i paths) → (u v : Chosen) → IsWithinOn b q r bound limit y u → IsWithinOn b q r bound limit' p v → u.mv ≢ v.mv
-  paths_apart limit limit' i d p y lt e j u v x z s =
-      let k = are.each y (taken_in y i paths j) in
-      let l = are.each p (read_in paths i d p lt e) in
-      differs_before (λ (w : Path). w) paths i d p y (subst AllDifferent (same_map paths) are.once) lt e j
-      (path_one b q r y p k.0 l.0 k.1 l.1 (sym x.0.1 ∙ ap (λ (w : Move). w.flights) s ∙ z.0.1))
+-- moves on different paths differ
+pub paths_apart : (b : Book) (q : Request) (r : State) (bound : State → Option ℕ) (limit limit' : Option ℕ) (y p : Path) → IsOwnPath b q r y → IsOwnPath b q r p → y ≢ p → (u v : Chosen) → IsWithinOn b q r bound limit y u → IsWithinOn b q r bound limit' p v → u.mv ≢ v.mv
+paths_apart b q r bound limit limit' y p k l ne u v x z s = ne (path_one b q r y p k.0 l.0 k.1 l.1 (sym x.0.1 ∙ ap (λ (w : Move). w.flights) s ∙ z.0.1))
 
+module _ (b : Book) (q : Request) (r : State) (bound : State → Option ℕ) (begun : Flight → Bool) (wanted : Place → Bool) (paths : List Path) (are : AreSought b q.slices r.at begun wanted paths) where
   -- all paths that were seen have all moves, where each move begins and ends as it is wanted
   pub on_paths : (limit : Option ℕ) → ((c : Chosen) (k : IsChosen b q r c) → CountsWithin bound limit c → StartWanted begun k.flights) → ((c : Chosen) (k : IsChosen b q r c) → CountsWithin bound limit c → EndWanted wanted k.flights)
       → (c : Chosen) → IsMoveWithin b q r bound limit c → Of (IsWithinOn b q r bound limit) paths c

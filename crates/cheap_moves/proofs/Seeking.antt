@@ -1,6 +1,6 @@
 -- The paths of a position that begin with wanted flights, one flight after another.
 use Rattle.std.proofs.Common.{◌≡◌, ◌⊎◌, ℕ, ◌+◌, ◌≤◌, ◌<◌, Bool, true, false, List, [], ◌∷◌, ◌++◌, length, take, get_or, slice_get, Option, Some, refl, sym, ap, subst, ◌∙◌, inl, inr, arith}
-use Rattle.cheap_moves.specs.Sought.{AddsBegun, AreSought, AreSoughtBy, StartWanted, narrowed}
+use Rattle.cheap_moves.specs.Sought.{AreSought, AreSoughtBy, StartWanted, narrowed}
 use Rattle.cheap_moves.proofs.Joining.{one_added}
 use Rattle.fare_law.specs.declared.flights.Flight.{Flight}
 use Rattle.fare_law.specs.declared.names.Place.{Place}
@@ -86,7 +86,7 @@ module _ (b : Book) (sl : List Slice) (at : Position) where
 
     module _ (begun : Flight → Bool) (wanted : Place → Bool) (low : at.lo ≤ n) (high : n < at.hi) where
       -- the paths from where this flight alone leads on begin with it
-      begun_by : (paths : List Path) → AreReached b sl (narrowed at n) wanted paths → AreSoughtBy b sl at begun wanted (λ m. m ≡ n) paths
+      pub begun_by : (paths : List Path) → AreReached b sl (narrowed at n) wanted paths → AreSoughtBy b sl at begun wanted (λ m. m ≡ n) paths
       begun_by paths r = record {
         once = r.once;
         begin = λ p i. let h = r.each p i in flies_first p.flights h.0 p.after h.1.some h.1.flies;
@@ -94,16 +94,9 @@ module _ (b : Book) (sl : List Slice) (at : Position) where
         all = λ p fs first is starts ends. r.all p fs (record { some = is.some; flies = flies_narrow p.flights fs p.after first is.flies; shape = is.shape; called = is.called }) ends;
       }
 
-      pub adds_reached : (old new paths : List Path) → new ≡ old ++ paths → AreReached b sl (narrowed at n) wanted paths → AddsBegun b sl at begun wanted n old new
-      adds_reached old new paths e r = record { more = paths; joined = e; are = begun_by paths r }
-
-      -- where the flight isn't wanted there is nothing to add
-      pub adds_nothing : (old : List Path) (f : Flight) → slice_get b.timetable.flights n ≡ Some f → begun f ≡ false → old ≡ old ++ [] → AddsBegun b sl at begun wanted n old old
-      adds_nothing old f stands not e = record {
-        more = [];
-        joined = e;
-        are = record { once = tt; begin = λ p i. absurd i; each = λ p i. absurd i; all = λ p fs first is starts ends. absurd (other p.flights fs p.after first is.flies starts) };
-      }
+      -- where the flight isn't wanted there are none
+      pub none_begun : (f : Flight) → slice_get b.timetable.flights n ≡ Some f → begun f ≡ false → AreSoughtBy b sl at begun wanted (λ m. m ≡ n) []
+      none_begun f stands not = record { once = tt; begin = λ p i. absurd i; each = λ p i. absurd i; all = λ p fs first is starts ends. absurd (other p.flights fs p.after first is.flies starts) }
         where
           other : (ns : List ℕ) (fs : List Flight) (next : Option Position) → OnFirst (λ m. m ≡ n) ns → Flies b sl (Some at) ns fs next → StartWanted begun fs → ⊥
           other [] fs next first h starts = first
@@ -121,9 +114,9 @@ module _ (b : Book) (sl : List Slice) (at : Position) where
         none [] h = h
         none (n ∷ ns) h = h
 
-    pub sought_more : (numbers : List ℕ) (i d n : ℕ) (old new : List Path) → EachPair (λ k m. k < m) numbers → i < length numbers → n ≡ get_or numbers i d → AreSoughtBy b sl at begun wanted (λ m. IsIn m (take i numbers)) old → AddsBegun b sl at begun wanted n old new
-        → AreSoughtBy b sl at begun wanted (λ m. IsIn m (take (i + 1) numbers)) new
-    sought_more numbers i d n old new ascending lt e h added = subst (AreSoughtBy b sl at begun wanted (λ m. IsIn m (take (i + 1) numbers))) (sym added.joined) joined
+    pub sought_more : (numbers : List ℕ) (i d n : ℕ) (old more : List Path) → EachPair (λ k m. k < m) numbers → i < length numbers → n ≡ get_or numbers i d → AreSoughtBy b sl at begun wanted (λ m. IsIn m (take i numbers)) old → AreSoughtBy b sl at begun wanted (λ m. m ≡ n) more
+        → AreSoughtBy b sl at begun wanted (λ m. IsIn m (take (i + 1) numbers)) (old ++ more)
+    sought_more numbers i d n old more ascending lt e h are = joined
       where
         front : take (i + 1) numbers ≡ take i numbers ++ n ∷ []
         front = front_read numbers i d n lt e
@@ -137,17 +130,17 @@ module _ (b : Book) (sl : List Slice) (at : Position) where
         apart : (m : ℕ) → IsIn m (take i numbers) → m ≡ n → ⊥
         apart m j s = let less = before_smaller numbers i d m ascending lt j in omega (arith, less, s, e)
 
-        joined : AreSoughtBy b sl at begun wanted (λ m. IsIn m (take (i + 1) numbers)) (old ++ added.more)
+        joined : AreSoughtBy b sl at begun wanted (λ m. IsIn m (take (i + 1) numbers)) (old ++ more)
         joined = record {
-          once = different_more old added.more h.once added.are.once (λ p j k. first_both (λ m. IsIn m (take i numbers)) (λ m. m ≡ n) apart p.flights (h.begin p j) (added.are.begin p k));
-          begin = λ p j. elim (in_either p old added.more j) [
+          once = different_more old more h.once are.once (λ p j k. first_both (λ m. IsIn m (take i numbers)) (λ m. m ≡ n) apart p.flights (h.begin p j) (are.begin p k));
+          begin = λ p j. elim (in_either p old more j) [
             | inl k ↦ first_weaker (λ m. IsIn m (take i numbers)) (λ m. IsIn m (take (i + 1) numbers)) old_in p.flights (h.begin p k)
-            | inr k ↦ first_weaker (λ m. m ≡ n) (λ m. IsIn m (take (i + 1) numbers)) new_in p.flights (added.are.begin p k)
+            | inr k ↦ first_weaker (λ m. m ≡ n) (λ m. IsIn m (take (i + 1) numbers)) new_in p.flights (are.begin p k)
           ];
-          each = λ p j. elim (in_either p old added.more j) [ inl k ↦ h.each p k | inr k ↦ added.are.each p k ];
+          each = λ p j. elim (in_either p old more j) [ inl k ↦ h.each p k | inr k ↦ are.each p k ];
           all = λ p fs first is starts ends. elim (first_either (λ m. IsIn m (take i numbers)) (λ m. m ≡ n) (λ m. IsIn m (take (i + 1) numbers)) (λ m j. one_added numbers i d n m lt e j) p.flights first) [
-            | inl k ↦ in_left p old added.more (h.all p fs k is starts ends)
-            | inr k ↦ in_right p old added.more (added.are.all p fs k is starts ends)
+            | inl k ↦ in_left p old more (h.all p fs k is starts ends)
+            | inr k ↦ in_right p old more (are.all p fs k is starts ends)
           ];
         }
 

@@ -6,3 +6,4 @@ pub mod Hopes
 pub mod Sought
 pub mod Prospects
 pub mod LeastMoves
+pub mod Drawing

@@ -1,13 +1,17 @@
 -- The paths of a position that begin and end as it is wanted.
-use Rattle.std.specs.Prelude.{◌≡◌, ℕ, ◌+◌, Bool, true, List, ◌++◌}
+use Rattle.std.specs.Prelude.{◌≡◌, ℕ, ◌+◌, ◌<◌, Bool, true, List, length}
+use Rattle.cheap_moves.specs.declared.paths.Opening.{Opening}
 use Rattle.fare_law.specs.declared.flights.Flight.{Flight}
 use Rattle.fare_law.specs.declared.names.Place.{Place}
+use Rattle.fare_law.specs.declared.requests.Request.{Request}
 use Rattle.fare_law.specs.declared.requests.Slice.{Slice}
 use Rattle.fare_law.specs.Book.{Book}
-use Rattle.fare_law.specs.Lists.{AllDifferent, IsIn, OnFirst}
+use Rattle.fare_law.specs.Lists.{AllDifferent, Each, IsIn, OnFirst}
 use Rattle.flight_paths.specs.declared.positions.Path.{Path}
 use Rattle.flight_paths.specs.declared.positions.Position.{Position}
-use Rattle.flight_paths.specs.Heads.{EndWanted}
+use Rattle.flight_paths.specs.Heads.{EndWanted, TailsTo, chosen}
+use Rattle.flight_paths.specs.Marks.{AreMarks}
+use Rattle.flight_paths.specs.Plans.{HasPlan}
 use Rattle.flight_paths.specs.Positions.{IsPath}
 
 -- the position from where the flight of this number alone leads on
@@ -35,8 +39,15 @@ pub record AreSoughtBy (b : Book) (slices : List Slice) (at : Position) (begun :
   pub each : (p : Path) → IsIn p paths → (fs : List Flight) × IsFrom b slices at p fs
   pub all : (p : Path) (fs : List Flight) → OnFirst Such p.flights → IsFrom b slices at p fs → StartWanted begun fs → EndWanted wanted fs → IsIn p paths
 
--- To the old ones were added such paths that begin with the flight of this number.
-pub record AddsBegun (b : Book) (slices : List Slice) (at : Position) (begun : Flight → Bool) (wanted : Place → Bool) (number : ℕ) (old new : List Path) : Type 0 where
-  pub more : List Path
-  pub joined : new ≡ old ++ more
-  pub are : AreSoughtBy b slices at begun wanted (λ n. n ≡ number) more
+-- The tails are those of the slice after the position's, and among them is each that ends at a wanted place.
+pub record IsOpen (wanted : Place → Bool) (o : Opening) : Type 0 where
+  pub known : o.position.now.slice < length o.request.now.slices
+  pub marks : AreMarks o.schedule.now.flights o.tails.all.now o.tails.marks.now
+  pub numbers : Each (λ n. n < length o.tails.all.now) o.tails.numbers.now
+  pub tails : (b : Book) → HasPlan b o.schedule.now → TailsTo b o.request.now.slices (o.position.now.slice + 1) wanted (chosen o.tails.all.now o.tails.numbers.now)
+
+-- the position of a request on a book
+pub record IsOpeningOf (b : Book) (q : Request) (at : Position) (o : Opening) : Type 0 where
+  pub plan : HasPlan b o.schedule.now
+  pub request : o.request.now ≡ q
+  pub position : o.position.now ≡ at

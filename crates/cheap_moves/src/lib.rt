@@ -6,6 +6,7 @@
 mod bounds;
 mod bucket;
 mod component;
+mod drawing;
 mod fares;
 mod groups;
 mod hopes;

@@ -9,15 +9,14 @@ ghost use Rattle.fare_law.specs.Lists.{KLeast};
 
 use crate::MoveSearch;
 use crate::bounds::ResidualBounds;
-use crate::bucket::{add_counted, cut, is_full};
-use crate::hopes::hopes_of;
+use crate::drawing::{Draw, draw_all};
+use crate::hopes::{hopes_of, schedule_of};
 use crate::leads::{Lead, by_group};
 use crate::least::{CountedMove, keep_first};
-use crate::paths::hoped_paths;
-use crate::ways::add_path;
+use crate::paths::Opening;
 use component_table::Markets;
 use fare_law::{List, Mem};
-use flight_paths::Path;
+use flight_paths::{Path, SomeTails, tails_to};
 use residual_keys::book_limits;
 use std::alloc::Global;
 use ticket_order::{codes_tell, order_laws};
@@ -100,38 +99,29 @@ fn least_within<B: ResidualBounds>(
     ensures markets { AreMarkets search.now.book.now markets.new.kept.items }
     ensures least { IfOk result (KLeast (Counts search.now.book.now search.now.request.now search.now.residual.now (B.bound search.now.bounds.now) search.now.limit) IsSooner wanted) }
 {
-    codes_tell();
     order_laws();
+    codes_tell();
     book_limits(search.book);
-    let residual = search.residual;
-    let at = &residual.at;
-    let mut hopes = hopes_of(alloc, search, leads)?;
-    let paths = hoped_paths(alloc, search.book, search.request, at, tails, &hopes)?;
-    let mut kept = Vec::new(alloc);
-    let mut limit = search.limit;
-    for path in paths.as_slice() {
-        let narrowed = MoveSearch {
-            book: search.book,
-            request: search.request,
-            residual: search.residual,
-            bounds: search.bounds,
-            limit,
-        };
-        let mut found = List::new(alloc);
-        add_path(alloc, &mut found, &narrowed, &hopes, markets, path)?;
-        add_counted(&mut kept, found.as_slice(), search.bounds)?;
-        if is_full(kept.as_slice(), wanted) {
-            limit = cut(&mut kept, wanted, limit);
-            let sunk = MoveSearch {
-                book: search.book,
-                request: search.request,
-                residual: search.residual,
-                bounds: search.bounds,
-                limit,
-            };
-            hopes = hopes_of(alloc, &sunk, leads)?;
-        }
-    }
-    keep_first(&mut kept, wanted);
-    Ok(List::from_vec(kept))
+    let hopes = hopes_of(alloc, search, leads)?;
+    let schedule = schedule_of(search.book);
+    let numbers = tails_to(alloc, schedule, tails, &hopes)?;
+    let opening = Opening {
+        schedule,
+        request: search.request,
+        position: &search.residual.at,
+        tails: SomeTails {
+            all: tails,
+            marks: &[],
+            numbers: numbers.as_slice(),
+        },
+    };
+    let draw = Draw {
+        search,
+        leads,
+        hopes: &hopes,
+        wanted,
+    };
+    let mut drawn = draw_all(alloc, &draw, &opening, markets)?;
+    keep_first(&mut drawn.kept, wanted);
+    Ok(List::from_vec(drawn.kept))
 }
