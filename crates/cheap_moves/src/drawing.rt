@@ -142,11 +142,7 @@ fn hopes_within<'h>(drawn: &'h Drawn, first: &'h Hopes) -> &'h Hopes
 }
 
 /// Keeps only the first moves and lets the limit sink, where there are many more than are wanted.
-fn sink<B: ResidualBounds>(
-    alloc: Global,
-    drawn: &mut Drawn,
-    draw: &Draw<'_, B>,
-) -> Result<(), Mem>
+fn sink<B: ResidualBounds>(alloc: Global, drawn: &mut Drawn, draw: &Draw<'_, B>) -> Result<(), Mem>
     requires leads { AreLeads draw.now.search.now.book.now draw.now.search.now.request.now draw.now.search.now.residual.now (B.bound draw.now.search.now.bounds.now) draw.now.leads.now }
     requires codes { AllDifferent (map (λ m. move_code m.chosen.mv) drawn.old.kept.items) }
     ensures { OnOk result ((seen : Items OnePath) → IsDrawn ⟦<PathStart as PartialEq>⟧.eq ⟦<Place as PartialEq>⟧.eq ⟦<PathClass as PartialEq>⟧.eq draw.now.search.now.book.now draw.now.search.now.request.now draw.now.search.now.residual.now (B.bound draw.now.search.now.bounds.now) draw.now.search.now.limit draw.now.wanted seen drawn.old → IsDrawn ⟦<PathStart as PartialEq>⟧.eq ⟦<Place as PartialEq>⟧.eq ⟦<PathClass as PartialEq>⟧.eq draw.now.search.now.book.now draw.now.search.now.request.now draw.now.search.now.residual.now (B.bound draw.now.search.now.bounds.now) draw.now.search.now.limit draw.now.wanted seen drawn.new) }
