@@ -1,5 +1,5 @@
 -- Moves as they are drawn, path by path. Given on to the crates above.
-use Rattle.std.proofs.Common.{◌≡◌, ◌≢◌, ℕ, zero, suc, ◌+◌, ◌<◌, Bool, List, [], ◌∷◌, ◌++◌, length, map, take, get_or, slice_get, Option, None, Some, append_assoc, append-nil, refl, sym, ap, subst, subst₂, ◌∙◌, inl, inr}
+use Rattle.std.proofs.Common.{◌≡◌, ◌≢◌, ℕ, ◌+◌, ◌<◌, Bool, List, [], ◌∷◌, ◌++◌, length, take, get_or, slice_get, Option, None, Some, append_assoc, refl, sym, ap, subst, subst₂, ◌∙◌, inl, inr}
 use Rattle.cheap_moves.specs.declared.hopes.Hopes.{Hopes}
 use Rattle.cheap_moves.specs.declared.hopes.PathClass.{PathClass}
 use Rattle.cheap_moves.specs.declared.hopes.PathStart.{PathStart}

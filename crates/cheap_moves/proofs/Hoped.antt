@@ -1,5 +1,5 @@
 -- What the leads within a limit tell of the paths on which moves within it may be.
-use Rattle.std.proofs.Common.{◌≡◌, ℕ, suc, ◌+◌, ◌-◌, ◌≤◌, ◌<◌, Bool, true, false, List, [], ◌∷◌, ◌++◌, length, take, get_or, slice_get, MatchOption, MatchBool, All, Option, Some, None, IfNone, IfSome, IsSome, Result, Ok, Err, OnOk, refl, sym, ap, subst, ◌∙◌, inl, inr, arith}
+use Rattle.std.proofs.Common.{◌≡◌, ℕ, suc, ◌+◌, ◌-◌, ◌≤◌, ◌<◌, Bool, true, false, List, [], ◌∷◌, length, take, get_or, slice_get, MatchOption, MatchBool, All, Option, Some, None, IfNone, IfSome, IsSome, Result, Ok, Err, OnOk, refl, sym, ap, subst, ◌∙◌, inl, inr, arith}
 use Rattle.std.proofs.lemmas.List.Elements.{All-head}
 use Rattle.cheap_moves.specs.declared.hopes.Hopes.{Hopes}
 use Rattle.cheap_moves.specs.declared.hopes.PathClass.{PathClass}

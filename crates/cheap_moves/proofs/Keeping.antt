@@ -1,5 +1,5 @@
 -- A bucket of moves, as it grows path by path.
-use Rattle.std.proofs.Common.{◌≡◌, ◌≢◌, ◌⊎◌, ◌∙◌, ℕ, ◌+◌, ◌≤◌, ◌<◌, Bool, List, [], ◌∷◌, ◌++◌, length, map, take, get_or, Option, Some, refl, sym, ap, subst, inl, inr, arith}
+use Rattle.std.proofs.Common.{◌≡◌, ◌≢◌, ◌⊎◌, ◌∙◌, ℕ, ◌≤◌, ◌<◌, List, [], ◌∷◌, ◌++◌, map, Option, Some, refl, sym, ap, subst, inl, inr, arith}
 use Rattle.cheap_moves.specs.declared.least.CountedMove.{CountedMove}
 use Rattle.cheap_moves.specs.Drawing.{IsNext}
 use Rattle.cheap_moves.specs.LeastMoves.{AreKept, Counts, CountsOn, IsLimit, IsSooner, counted}

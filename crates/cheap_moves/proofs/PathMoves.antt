@@ -1,5 +1,5 @@
 -- The moves of a residual, path by path.
-use Rattle.std.proofs.Common.{◌≡◌, ◌≢◌, ◌⊎◌, ℕ, ◌<◌, Bool, true, false, List, [], length, take, get_or, slice_get, Option, Some, refl, sym, ap, subst, ◌∙◌, inl, inr}
+use Rattle.std.proofs.Common.{◌≡◌, ◌≢◌, ◌⊎◌, ℕ, Bool, true, false, List, [], slice_get, Option, Some, refl, sym, ap, subst, ◌∙◌, inl, inr}
 use Rattle.cheap_moves.specs.declared.component.Flown.{Flown}
 use Rattle.cheap_moves.specs.Drawing.{IsOwnPath}
 use Rattle.cheap_moves.specs.Making.{IsFlown, IsOver, IsWithinFiled, IsWithinOn, Of}
@@ -16,7 +16,6 @@ use Rattle.fare_law.specs.declared.moves.Role.TheVariants.{Alone, Opens, GoesOn,
 use Rattle.fare_law.specs.declared.names.Place.{Place}
 use Rattle.fare_law.specs.declared.requests.Request.{Request}
 use Rattle.fare_law.specs.Book.{Book}
-use Rattle.fare_law.specs.Lists.{AllDifferent, IsIn}
 use Rattle.flight_paths.specs.declared.positions.Path.{Path}
 use Rattle.flight_paths.specs.Heads.{EndWanted}
 use Rattle.flight_paths.specs.Positions.{Flies}
@@ -30,7 +29,7 @@ use Rattle.residual_keys.proofs.OneNext.{flies_one}
 use Rattle.residual_keys.proofs.Runs.{flies_numbers}
 use Rattle.law_lemmas.proofs.EachOne.{each_in}
 use Rattle.law_lemmas.proofs.LawFacts.{numbers_one}
-use Rattle.law_lemmas.proofs.Members.{got_in, read_in}
+use Rattle.law_lemmas.proofs.Members.{got_in}
 use Rattle.law_lemmas.proofs.Tests.{true_false}
 
 module _ (b : Book) (q : Request) (r : State) (bound : State → Option ℕ) (limit : Option ℕ) (path : Path) where

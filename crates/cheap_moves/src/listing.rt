@@ -83,11 +83,11 @@ fn guessed_limit(alloc: Global, leads: &[Lead], wanted: usize) -> Result<Option<
 }
 
 /// The first `wanted` of the moves that count within the limit of the search.
-fn least_within<B: ResidualBounds>(
+fn least_within<'x, B: ResidualBounds>(
     alloc: Global,
-    search: &MoveSearch<'_, B>,
-    leads: &[Lead],
-    tails: &[Path],
+    search: &'x MoveSearch<'x, B>,
+    leads: &'x [Lead],
+    tails: &'x [Path],
     markets: &mut Markets,
     wanted: usize,
 ) -> Result<List<CountedMove>, Mem>
@@ -102,13 +102,14 @@ fn least_within<B: ResidualBounds>(
     order_laws();
     codes_tell();
     book_limits(search.book);
+    let residual = search.residual;
     let hopes = hopes_of(alloc, search, leads)?;
     let schedule = schedule_of(search.book);
     let numbers = tails_to(alloc, schedule, tails, &hopes)?;
     let opening = Opening {
         schedule,
         request: search.request,
-        position: &search.residual.at,
+        position: &residual.at,
         tails: SomeTails {
             all: tails,
             marks: &[],

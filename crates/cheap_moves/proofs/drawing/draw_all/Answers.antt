@@ -1,4 +1,4 @@
-use Rattle.std.proofs.Common.{List, [], ◌++◌, ◌+◌, Bool, refl, subst, sym, ap, take}
+use Rattle.std.proofs.Common.{List, [], ◌++◌, ◌+◌, Bool, refl, subst, sym, take}
 use Rattle.std.proofs.lemmas.List.{take_all}
 use Rattle.cheap_moves.specs.contracts.hopes.PathClassPartialEq.TheImpl as class
 use Rattle.cheap_moves.specs.contracts.hopes.PathStartPartialEq.TheImpl as start
@@ -29,14 +29,14 @@ loop-number-init g c =
       drawn = record { kept = none_kept s.book.now s.request.now s.residual.now (g.B.ResidualBounds.bound s.bounds.now) s.limit c.args.draw.now.wanted c.new.result.items c.new.ensures.items; hopes = refl };
     }
 
-pub paths_from-paths-requires-clause-range : goal.paths_from-paths-requires-clause-range
-paths_from-paths-requires-clause-range g c =
+pub paths_from-requires-clause-range : goal.paths_from-requires-clause-range
+paths_from-requires-clause-range g c =
     let items = c.from_place-number-items.result.now in
     let is = (c.from_place-number-items.ensures.are _).0 (read_in items c.loop-number.number-index _ _ c.loop-number-test.true refl) in
     (is.0, is.1)
 
-pub paths_from-paths-requires-clause-departs : goal.paths_from-paths-requires-clause-departs
-paths_from-paths-requires-clause-departs g c =
+pub paths_from-requires-clause-departs : goal.paths_from-requires-clause-departs
+paths_from-requires-clause-departs g c =
     let items = c.from_place-number-items.result.now in
     ((c.from_place-number-items.ensures.are _).0 (read_in items c.loop-number.number-index _ _ c.loop-number-test.true refl)).2
 

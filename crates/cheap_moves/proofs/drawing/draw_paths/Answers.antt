@@ -1,4 +1,4 @@
-use Rattle.std.proofs.Common.{List, [], ◌∷◌, ◌++◌, ◌+◌, append-nil, subst, sym, take}
+use Rattle.std.proofs.Common.{List, ◌++◌, append-nil, subst, sym, take}
 use Rattle.std.proofs.lemmas.List.{take_all}
 use Rattle.cheap_moves.specs.contracts.hopes.PathClassPartialEq.TheImpl as class
 use Rattle.cheap_moves.specs.contracts.hopes.PathStartPartialEq.TheImpl as start

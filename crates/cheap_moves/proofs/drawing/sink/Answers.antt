@@ -1,13 +1,9 @@
-use Rattle.std.proofs.Common.{List, ◌≤◌, length, subst, sym}
-use Rattle.cheap_moves.specs.contracts.hopes.PathClassPartialEq.TheImpl as class
-use Rattle.cheap_moves.specs.contracts.hopes.PathStartPartialEq.TheImpl as start
+use Rattle.std.proofs.Common.{List, ◌≤◌, length, subst}
 use Rattle.cheap_moves.specs.declared.least.CountedMove.{CountedMove}
-use Rattle.cheap_moves.specs.Drawing.{IsDrawn}
 use Rattle.cheap_moves.specs.LeastMoves.{CountsOn, IsSooner}
 use Rattle.cheap_moves.proofs.Cutting.{cut_kept}
 use Rattle.cheap_moves.proofs.Keeping.{counted_within}
 use Rattle.cheap_moves.proofs.Sooner.{code_of}
-use Rattle.fare_law.specs.contracts.names.PlacePartialEq.TheImpl as place
 use Rattle.cheap_moves.proofs.drawing.sink.Goals as goal
 
 pub returns : goal.returns

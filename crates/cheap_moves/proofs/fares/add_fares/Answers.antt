@@ -42,4 +42,4 @@ returns-in_default g c =
     let e = c.as_slice-fare-items.ensures in
     let i = c.loop-fare.fare-index in
     no_more c.args.search.now.book.now c.args.search.now.request.now c.args.search.now.residual.now c.args.component.now c.args.search.now.limit c.args.onward.now c.requires i no_fare (get_or items i no_fare) c.args.found.now c.loop-fare.found (subst (λ xs. i < length xs) e c.loop-fare-test.true) (ap (λ xs. get_or xs i no_fare) e)
-    c.in_default.ensures (subst (λ xs. Adds (Of (IsFareMove c.args.component.now c.args.search.now.limit c.args.onward.now) (take i xs)) c.args.found.now c.loop-fare.found) e c.loop-fare.invariant)
+    c.in_default.ensures.none (subst (λ xs. Adds (Of (IsFareMove c.args.component.now c.args.search.now.limit c.args.onward.now) (take i xs)) c.args.found.now c.loop-fare.found) e c.loop-fare.invariant)

@@ -1,4 +1,4 @@
-use Rattle.std.proofs.Common.{◌≡◌, ◌+◌, ℕ, sym, ap₂, subst, ◌∙◌}
+use Rattle.std.proofs.Common.{◌+◌, ℕ, sym, ap₂, subst, ◌∙◌}
 use Rattle.cheap_moves.specs.Within.{IsWithin}
 use Rattle.cheap_moves.proofs.FareMoves.{share_low}
 use Rattle.law_lemmas.proofs.Tests.{true_false}

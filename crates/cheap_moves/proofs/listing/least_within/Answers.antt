@@ -1,4 +1,4 @@
-use Rattle.std.proofs.Common.{◌≡◌, ◌<◌, Bool, List, length, refl, subst, sym, ◌∙◌, ◌+◌}
+use Rattle.std.proofs.Common.{◌<◌, ℕ, Bool, List, length, ap, refl, subst, sym, ◌∙◌, ◌+◌}
 use Rattle.cheap_moves.specs.contracts.hopes.PathStartPartialEq.TheImpl as start
 use Rattle.cheap_moves.specs.declared.least.CountedMove.{CountedMove}
 use Rattle.cheap_moves.specs.Hopes.{begins_with, marked}
@@ -13,23 +13,25 @@ use Rattle.fare_law.specs.declared.names.Place.{Place}
 use Rattle.fare_law.specs.contracts.names.PlacePartialEq.TheImpl as place
 use Rattle.fare_law.specs.Lists.{Each, KLeast}
 use Rattle.flight_paths.specs.Heads.{TailsTo, chosen}
+use Rattle.residual_keys.specs.Residuals.{State}
 use Rattle.cheap_moves.proofs.listing.least_within.Goals as goal
 
 pub draw_all-requires-clause-open : goal.draw_all-requires-clause-open
 draw_all-requires-clause-open g c = record {
-  known = c.requires.known;
+  known = subst (λ (x : State). x.at.slice < length c.args.search.now.request.now.slices) (sym c.residual.view_is) c.requires.known;
   marks = no_marks c.schedule_of-schedule.result.now.flights c.args.tails.now _ refl;
   numbers = subst (Each (λ n. n < length c.args.tails.now)) (sym c.as_slice.ensures) c.in_ok-numbers.ensures.within;
   tails = λ b h.
       let s = c.schedule_of-schedule.ensures in
       let q = c.args.search.now.request.now in
       let n = c.args.search.now.residual.now.at.slice + 1 in
+      let at = λ (ns : List ℕ) (x : State). TailsTo b q.slices (x.at.slice + 1) (marked place.ghosts.eq c.in_ok-hopes.hopes.ends) (chosen c.args.tails.now ns) in
       let to = c.in_ok-numbers.ensures.tails b q.slices n h (c.requires.tails b (record { places = h.places ∙ sym s.places; flights = h.flights ∙ sym s.flights })) in
-      subst (λ ns. TailsTo b q.slices n (marked place.ghosts.eq c.in_ok-hopes.hopes.ends) (chosen c.args.tails.now ns)) (sym c.as_slice.ensures) to;
+      subst (at c.as_slice.result.now) (sym c.residual.view_is) (subst (λ ns. at ns c.args.search.now.residual.now) (sym c.as_slice.ensures) to);
 }
 
 pub draw_all-requires-clause-of : goal.draw_all-requires-clause-of
-draw_all-requires-clause-of g c = record { plan = c.schedule_of-schedule.ensures; request = refl; position = refl }
+draw_all-requires-clause-of g c = record { plan = c.schedule_of-schedule.ensures; request = refl; position = ap (λ (x : State). x.at) c.residual.view_is }
 
 pub keep_first-requires : goal.keep_first-requires
 keep_first-requires g c =

@@ -1,4 +1,4 @@
-use Rattle.std.proofs.Common.{◌≡◌, ◌+◌, Bool, List, [], false, slice_get, sym, ap, subst, ◌∙◌}
+use Rattle.std.proofs.Common.{◌≡◌, ◌+◌, Bool, [], false, slice_get, sym, ap, subst, ◌∙◌}
 use Rattle.cheap_moves.specs.contracts.hopes.PathStartPartialEq.TheImpl as start
 use Rattle.cheap_moves.specs.Hopes.{begins_with, marked}
 use Rattle.cheap_moves.specs.Sought.{AreSoughtBy}
@@ -6,7 +6,6 @@ use Rattle.cheap_moves.proofs.Seeking.{begun_by, none_begun}
 use Rattle.fare_law.specs.declared.flights.Flight.{Flight}
 use Rattle.fare_law.specs.declared.names.Place.{Place}
 use Rattle.fare_law.specs.contracts.names.PlacePartialEq.TheImpl as place
-use Rattle.flight_paths.specs.declared.positions.Path.{Path}
 use Rattle.flight_paths.specs.declared.positions.Position.{Position}
 use Rattle.flight_paths.specs.Heads.{AreReached, AreSomeTails, HasTails, chosen}
 use Rattle.law_lemmas.proofs.Lists.{get_is}
@@ -35,5 +34,5 @@ returns c = λ b h.
     let wanted : Place → Bool = marked place.ghosts.eq c.args.hopes.now.ends in
     let tails = subst (λ (p : Position). HasTails b o.request.now.slices (p.slice + 1) wanted (chosen o.tails.all.now o.tails.numbers.now)) (sym c.narrowed-narrow.ensures) (c.requires.open.tails b h).all in
     let saw = c.in_ok-visit_paths.ensures b h wanted tails in
-    subst (AreSoughtBy b o.request.now.slices o.position.now begun wanted (λ m. m ≡ c.args.number)) (sym (c.from_vec.ensures ∙ saw.told [] c.new.ensures.items))
+    subst (AreSoughtBy b o.request.now.slices o.position.now begun wanted (λ m. m ≡ c.args.number)) (sym (c.from_vec.ensures ∙ saw.told [] c.new-2.ensures.items))
     (begun_by b o.request.now.slices o.position.now c.args.number begun wanted c.requires.range.0 c.requires.range.1 saw.seen (subst (λ (p : Position). AreReached b o.request.now.slices p wanted saw.seen) c.narrowed-narrow.ensures saw.are))

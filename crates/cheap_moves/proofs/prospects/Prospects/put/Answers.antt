@@ -1,5 +1,5 @@
-use Rattle.std.proofs.Common.{◌≡◌, ◌≤◌, subst, sym, arith}
-use Rattle.cheap_moves.specs.Prospects.{AreOnce, code_of}
+use Rattle.std.proofs.Common.{◌≤◌, subst, sym, arith}
+use Rattle.cheap_moves.specs.Prospects.{AreOnce}
 use Rattle.cheap_moves.proofs.Suiting.{group_put}
 use Rattle.fare_law.specs.Lists.{IsIn}
 use Rattle.law_lemmas.proofs.Tests.{not_so}
