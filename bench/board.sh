@@ -19,7 +19,7 @@ done
 mkdir -p "$copy/crates/board_bench/src" "$copy/crates/board_bench/proofs/workers"
 cp "$top/bench/board/main.rt.txt" "$copy/crates/board_bench/src/main.rt"
 cp "$top/bench/board/Invariants.antt.txt" "$copy/crates/board_bench/proofs/workers/Invariants.antt"
-echo 'board_bench: core fare_law fare_io fare_book fare_component node_publish search_core shared_board whole_case board_slots atomic_table certificate residual_keys' >>"$copy/crates.txt"
+echo 'board_bench: core fare_law fare_io fare_book fare_component node_publish search_core shared_board whole_case atomic_table certificate residual_keys' >>"$copy/crates.txt"
 cd "$copy/crates/board_bench"
 rt run <"$case" >"$copy/lines" 2>"$copy/build.txt" || { cat "$copy/build.txt" >&2; exit 1; }
 echo "$(nproc) cores, $(sed -n 's/^model name[^:]*: //p' /proc/cpuinfo | head -n 1)"

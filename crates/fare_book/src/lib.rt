@@ -10,6 +10,7 @@ mod fare_actions;
 mod fare_table;
 mod faults;
 mod keys;
+mod known_list;
 mod laws;
 mod rows;
 mod rule_actions;

@@ -1,8 +1,8 @@
 //! What is known before any filing.
 ghost use Rattle.std.specs.Prelude.{◌≡◌};
 
+use crate::known_list::KnownList;
 use fare_law::SeatRow;
-use known_list::KnownList;
 use schedule_book::Schedule;
 use std::marker::Model;
 

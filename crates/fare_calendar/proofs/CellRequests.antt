@@ -4,7 +4,7 @@ use Rattle.std.proofs.Common.{◌≡◌, ℕ, ℤ, pos, ◌+ℤ◌, ◌≤ℤ◌
 use Rattle.std.proofs.lemmas.Bool.{and_parts, leb-true}
 use Rattle.std.proofs.lemmas.Int.{ints}
 use Rattle.fare_calendar.specs.Cells.{cell, in_days, two_slices}
-use Rattle.cell_prices.specs.Sharing.{AreAlike, IsLike}
+use Rattle.fare_calendar.specs.Sharing.{AreAlike, IsLike}
 use Rattle.fare_calendar.specs.declared.columns.OutDays.{OutDays}
 use Rattle.fare_calendar.specs.declared.spans.Spans.{Spans}
 use Rattle.fare_calendar.specs.Calendars.{span_fits, spans_fit}

@@ -4,3 +4,10 @@ pub mod CellRequests
 pub mod DayPairs
 pub mod CellLines
 pub mod Values
+pub mod SharedPaths
+pub mod SharedMoves
+pub mod Relations
+pub mod FirstMoves
+pub mod Rows
+pub mod Shared
+pub mod WindowFacts

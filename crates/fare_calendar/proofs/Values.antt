@@ -1,7 +1,7 @@
 -- What the least price tells of a cell: for `calendar`.
 use Rattle.std.proofs.Common.{◌≡◌, ◌∙◌, ℕ, ℤ, List, [], ◌∷◌, map, Option, Some, None, sym, subst, arith}
 use Rattle.fare_calendar.specs.Cells.{cell}
-use Rattle.cell_prices.specs.LeastPrices.{IsLeastPrice}
+use Rattle.fare_calendar.specs.LeastPrices.{IsLeastPrice}
 use Rattle.fare_calendar.specs.declared.cell.Cell.{Cell}
 use Rattle.fare_calendar.specs.declared.cell.CellValue.{CellValue}
 use Rattle.fare_calendar.specs.CalendarText.{HasDates}

@@ -3,3 +3,7 @@ pub mod Calendars
 pub mod Columns
 pub mod CalendarText
 pub mod BestOfCells
+pub mod Sharing
+pub mod FirstRuns
+pub mod LeastPrices
+pub mod Windows

@@ -1,7 +1,7 @@
 //! The columns of a calendar: what the cells of one day back tell, all found in the steps of one request, whose window has
 //! their days out.
 ghost use Rattle.std.specs.Prelude.{◌≡◌, ◌<◌, IfOk};
-ghost use Rattle.cell_prices.specs.Sharing.{IsLike, SharesMoves};
+ghost use Rattle.fare_calendar.specs.Sharing.{IsLike, SharesMoves};
 ghost use Rattle.fare_calendar.specs.Calendars.{HasValue, value_of};
 ghost use Rattle.fare_calendar.specs.Cells.{cell};
 ghost use Rattle.fare_calendar.specs.Columns.{AreColumns, AreDaysOut, HasCells, IsColumn, column};
@@ -9,8 +9,9 @@ ghost use Rattle.fare_law.specs.Limits.{IsRequest};
 ghost use Rattle.search_steps.specs.Cases.{IsSameCase};
 
 use crate::asking::{cell_request, column_request};
+use crate::pricing::least_price;
+use crate::sharing::shares_moves;
 use crate::{CellValue, Spans};
-use cell_prices::{least_price, shares_moves};
 use fare_book::Book;
 use fare_law::{List, Mem, Request};
 use pricing_graph::GraphFault;

@@ -2,7 +2,8 @@
 //! The layer above relies on the clauses of `calendar`, that the cells are those of the calendar in order or why there
 //! is none, of `push_calendar`, that the bytes are the calendar's text, and on the law `cells_have_the_best`, by which
 //! the least price of the cells is that of the best ticket over all their days. The crates above cite the definition of
-//! a cell's request.
+//! a cell's request. The price of a cell is what the first run of its request costs, found in the steps of a request that
+//! shares its moves: nothing is put in order.
 #![tactic(auto)]
 
 mod asking;
@@ -11,7 +12,10 @@ mod cell;
 mod cells;
 mod columns;
 mod fault;
+mod first_runs;
 mod laws;
+mod pricing;
+mod sharing;
 mod spans;
 mod text;
 

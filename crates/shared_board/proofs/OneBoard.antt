@@ -1,9 +1,9 @@
 -- A board is told by its numbers. For the calls of a pass that lend it to a source of offers.
 use Rattle.std.proofs.Common.{◌≡◌, ◌∙◌, get_or, drop, None, sym}
-use Rattle.board_slots.specs.Holding.{BoardView, PassView}
+use Rattle.shared_board.specs.Holding.{SlotsView, PassView}
 use Rattle.shared_board.specs.Naming.{numbers_of}
 
-one_board : (b c : BoardView) → numbers_of b ≡ numbers_of c → b ≡ c
+one_board : (b c : SlotsView) → numbers_of b ≡ numbers_of c → b ≡ c
 one_board b c e = λ i. record {
   board = record {
     words = get_or (e i) 1 0;

@@ -1,2 +1,4 @@
+pub mod Standing
+pub mod Holding
 pub mod Naming
 pub mod Searched

@@ -1,6 +1,6 @@
 -- What a board of a search is to a contract. A pass is its board's slots and the slot whose node it holds.
 use Rattle.std.specs.Prelude.{ℕ}
-use Rattle.board_slots.specs.Holding.{BoardView as SlotsView}
+use Rattle.shared_board.specs.Holding.{SlotsView}
 use Rattle.fare_law.specs.declared.requests.Request.{Request}
 use Rattle.fare_law.specs.Book.{Book}
 

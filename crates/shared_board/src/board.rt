@@ -3,7 +3,7 @@ ghost use Rattle.std.specs.Prelude.{◌≡◌, ◌≤◌, None, IfOk};
 ghost use Rattle.std.specs.Arc.{arc_value};
 
 use crate::BoardPass;
-use board_slots::SlotBoard;
+use crate::slot_board::SlotBoard;
 use fare_book::Book;
 use fare_law::{Mem, Request};
 use node_publish::Node;

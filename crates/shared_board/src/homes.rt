@@ -5,7 +5,8 @@ ghost use Rattle.fare_component.specs.Keys.{asked};
 ghost use Rattle.fare_component.specs.Offers.{AreOffers};
 ghost use Rattle.node_publish.specs.Homes.{home, homes};
 
-use board_slots::{SlotBoard, SlotPass};
+use crate::slot_board::SlotBoard;
+use crate::slot_pass::SlotPass;
 use fare_component::OfferRows;
 use fare_law::{Mem, OfferKey};
 use node_publish::{Node, home_of};

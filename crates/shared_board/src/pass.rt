@@ -6,9 +6,9 @@ ghost use Rattle.fare_law.specs.Requests.{judged, known_places};
 ghost use Rattle.search_core.specs.Answers.{HasCause, IsAnswer, Searchable};
 
 use crate::Board;
+use crate::slot_pass::SlotPass;
 use crate::source::BoardSource;
 use crate::walking::walk_all;
-use board_slots::SlotPass;
 use core::mem::replace_with;
 use fare_law::{Gate, Mem, NoGate};
 use node_publish::Node;
@@ -33,7 +33,7 @@ struct HeldNode {
 
 impl Model for BoardPass {
     ghost use Rattle.std.specs.Prelude.{◌≡◌, ◌<◌, option_map, IfSome};
-    ghost use Rattle.board_slots.specs.Holding.{PassView};
+    ghost use Rattle.shared_board.specs.Holding.{PassView};
 
     ghost Value = { PassView };
 

@@ -1,10 +1,9 @@
 //! Offers by way of a board.
-ghost use Rattle.std.specs.Prelude.{◌≡◌, ⊤, None, IfOk, IfSome};
-ghost use Rattle.fare_component.specs.Keys.{IsKey, asked};
-ghost use Rattle.fare_component.specs.Offers.{AreOffers};
+ghost use Rattle.std.specs.Prelude.{◌≡◌, ⊤, None};
 
 use crate::homes::{home, homes, offers_in, put_in, shared};
-use board_slots::{SlotBoard, SlotPass};
+use crate::slot_board::SlotBoard;
+use crate::slot_pass::SlotPass;
 use fare_component::{OfferRows, OfferSource};
 use fare_law::{Gate, Mem, OfferKey};
 use node_publish::Node;
@@ -35,6 +34,11 @@ impl<'a, G: Gate> OfferSource for BoardSource<'a, G> {
         false
     }
 
+    /// Each key is to be taken, so that its node is there for the passes beside this one.
+    fn settles_home(&mut self, _home: usize) -> bool {
+        false
+    }
+
     fn take(&mut self, alloc: Global, key: OfferKey) -> Result<Arc<OfferRows>, Mem> {
         let board = self.board;
         for j in 0..homes(board) {
@@ -44,7 +48,7 @@ impl<'a, G: Gate> OfferSource for BoardSource<'a, G> {
             }
         }
         self.gate.pass(0);
-        let node = built(alloc, &key)?;
+        let node = Node::build_for(alloc, &key)?;
         self.built = self.built.saturating_add(1);
         let rows = shared(node.offers_for(&key))?;
         let mut left = Some(node);
@@ -57,16 +61,4 @@ impl<'a, G: Gate> OfferSource for BoardSource<'a, G> {
         }
         Ok(rows)
     }
-}
-
-/// The node of the key.
-fn built(alloc: Global, key: &OfferKey) -> Result<Node, Mem>
-    requires { IsKey key.now }
-    ensures { IfOk result (λ node. node ≡ asked key.now) }
-{
-    let key = OfferKey {
-        legs: key.legs.copied(),
-        sheet: Arc::try_clone(&key.sheet)?,
-    };
-    Node::build(alloc, key)
 }

@@ -1,6 +1,6 @@
 use Rattle.std.proofs.Common.{IfOk, sym, subst}
-use Rattle.cell_prices.specs.Sharing.{SharesMoves}
-use Rattle.cell_prices.proofs.SharedMoves.{shares_self}
+use Rattle.fare_calendar.specs.Sharing.{SharesMoves}
+use Rattle.fare_calendar.proofs.SharedMoves.{shares_self}
 use Rattle.fare_calendar.specs.Calendars.{HasValue}
 use Rattle.fare_law.specs.Book.{Book}
 use Rattle.fare_law.specs.Limits.{IsRequest}

@@ -1,5 +1,5 @@
 use Rattle.std.proofs.Common.{refl, IfOk, sym, ap, subst}
-use Rattle.cell_prices.specs.Sharing.{IsLike}
+use Rattle.fare_calendar.specs.Sharing.{IsLike}
 use Rattle.fare_calendar.specs.Calendars.{HasValue}
 use Rattle.fare_calendar.specs.Cells.{cell}
 use Rattle.fare_law.specs.Limits.{IsRequest}

@@ -1,6 +1,6 @@
 use Rattle.std.proofs.Common.{◌≡◌, ◌∙◌, ◌+◌, ◌<◌, ℕ, sym, subst, arith}
 use Rattle.fare_calendar.specs.Cells.{cell}
-use Rattle.cell_prices.specs.Sharing.{IsLike}
+use Rattle.fare_calendar.specs.Sharing.{IsLike}
 use Rattle.fare_calendar.specs.Columns.{AreNumbered}
 use Rattle.fare_law.specs.Limits.{IsRequest}
 use Rattle.fare_law.specs.declared.requests.Request.{Request}

@@ -1,4 +1,0 @@
-use Rattle.cell_prices.proofs.first_runs.+first_run.Given as goal
-
-abbrev pub decreases-first_run : goal.decreases-first_run
-decreases-first_run l = l.more

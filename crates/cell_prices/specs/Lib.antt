@@ -1,4 +1,0 @@
-pub mod Sharing
-pub mod FirstRuns
-pub mod LeastPrices
-pub mod Windows
