@@ -18,8 +18,7 @@ const NYC: Place = Place(*b"NYC");
 const OURS: Carrier = Carrier(*b"QX");
 
 /// The key of QX 101 on 2031-03-03 and a sheet of one fare of that amount.
-fn key(alloc: Global, amount: u32) -> Result<OfferKey, Mem>
-    requires { amount ≤ 1000000000 }
+fn key(alloc: Global, amount: u16) -> Result<OfferKey, Mem>
     ensures { IfOk result IsKey }
 {
     let mut legs = ArrayVec::new();
@@ -62,9 +61,7 @@ fn key(alloc: Global, amount: u32) -> Result<OfferKey, Mem>
 }
 
 /// The node of that key.
-fn node(alloc: Global, amount: u32) -> Result<Node, Mem>
-    requires { amount ≤ 1000000000 }
-{
+fn node(alloc: Global, amount: u16) -> Result<Node, Mem> {
     Node::build(alloc, key(alloc, amount)?)
 }
 
@@ -81,34 +78,25 @@ fn kept(kept: Kept<'_>) -> Option<&Node> {
     }
 }
 
-/// The price of what a pass keeps of the node of that key, or `None` where there is no room.
+/// The price of what a pass keeps of that node, or `None` where there is no room.
 fn keep(
     alloc: Global,
     store: &NodeStore,
     pass: &mut StorePass,
-    amount: u32,
+    node: &Node,
 ) -> Result<Option<u64>, Mem>
-    requires pass { pass.old.cells ≡ store.now }
-    requires amount { amount ≤ 1000000000 }
+    requires { pass.old.cells ≡ store.now }
     ensures { pass.new.cells ≡ pass.old.cells }
 {
-    let node = node(alloc, amount)?;
-    Ok(kept(store.keep(alloc, pass, &node)?).and_then(price))
+    Ok(kept(store.keep(alloc, pass, node)?).and_then(price))
 }
 
 /// The price of what a pass finds by that key.
-fn find(
-    alloc: Global,
-    store: &NodeStore,
-    pass: &mut StorePass,
-    amount: u32,
-) -> Result<Option<u64>, Mem>
-    requires pass { pass.old.cells ≡ store.now }
-    requires amount { amount ≤ 1000000000 }
+fn find(store: &NodeStore, pass: &mut StorePass, key: &OfferKey) -> Option<u64>
+    requires { pass.old.cells ≡ store.now }
     ensures { pass.new.cells ≡ pass.old.cells }
 {
-    let key = key(alloc, amount)?;
-    Ok(store.find(pass, &key).and_then(price))
+    store.find(pass, key).and_then(price)
 }
 
 /// Whether the key asks for the same as itself, as another of the same amount, and as one of another amount.
@@ -125,40 +113,83 @@ fn same(alloc: Global) -> Result<[bool; 3], Mem> {
 
 #[test]
 fn tells_keys(rt: HostRuntime) {
-    assert_eq!(rt; same(rt.alloc()), Ok([true, true, false]));
+    assert!(rt; same(rt.alloc()) == Ok([true, true, false]));
+}
+
+/// What a pass does: it keeps a node of the key of this amount, or finds what is kept by it, and is to tell this price.
+type Deed = (bool, u16, Option<u64>);
+
+const KEEPS: bool = true;
+
+const FINDS: bool = false;
+
+/// What a pass tells of a deed.
+fn told(
+    alloc: Global,
+    store: &NodeStore,
+    pass: &mut StorePass,
+    deed: &Deed,
+) -> Result<Option<u64>, Mem>
+    requires { pass.old.cells ≡ store.now }
+    ensures { pass.new.cells ≡ pass.old.cells }
+{
+    let node = node(alloc, deed.1)?;
+    if deed.0 {
+        keep(alloc, store, pass, &node)
+    } else {
+        Ok(find(store, pass, &node.key))
+    }
+}
+
+/// Whether a pass that knows nothing yet tells what it is to tell.
+fn tells(alloc: Global, store: &NodeStore, deeds: &[Deed]) -> Result<bool, Mem> {
+    let mut pass = store.pass(alloc)?;
+    for deed in deeds {
+        if told(alloc, store, &mut pass, deed)? != deed.2 {
+            return Ok(false);
+        }
+    }
+    Ok(true)
+}
+
+/// Whether passes, one after the other, tell what they are to tell.
+fn tell(alloc: Global, store: &NodeStore, passes: &[&[Deed]]) -> Result<bool, Mem> {
+    for deeds in passes {
+        if !tells(alloc, store, deeds)? {
+            return Ok(false);
+        }
+    }
+    Ok(true)
 }
 
 /// What a pass finds in one empty cell and keeps there, what a second one keeps by the same key and by another one, and what a
 /// third one finds by both.
-fn in_one_cell(alloc: Global, store: &NodeStore) -> Result<[Option<u64>; 6], Mem> {
-    let mut first = store.pass(alloc)?;
-    let none = find(alloc, store, &mut first, 20000)?;
-    let kept = keep(alloc, store, &mut first, 20000)?;
-    let mut second = store.pass(alloc)?;
-    let same = keep(alloc, store, &mut second, 20000)?;
-    let other = keep(alloc, store, &mut second, 15000)?;
-    let mut third = store.pass(alloc)?;
-    let found = find(alloc, store, &mut third, 20000)?;
-    let lost = find(alloc, store, &mut third, 15000)?;
-    Ok([none, kept, same, other, found, lost])
-}
+const ONE_CELL: [&[Deed]; 3] = [
+    &[(FINDS, 20000, None), (KEEPS, 20000, Some(20000))],
+    &[(KEEPS, 20000, Some(20000)), (KEEPS, 15000, None)],
+    &[(FINDS, 20000, Some(20000)), (FINDS, 15000, None)],
+];
 
 #[test]
 fn keeps_in_one_cell(rt: HostRuntime) -> Result<(), Fail> {
     let store = NodeStore::new(rt.alloc(), 1)?;
-    let expected = [None, Some(20000), Some(20000), None, Some(20000), None];
-    assert_eq!(rt; in_one_cell(rt.alloc(), &store), Ok(expected));
+    assert!(rt; tell(rt.alloc(), &store, &ONE_CELL)?);
     Ok(())
 }
 
 /// Whether two nodes that two passes built of one key, each before either was kept, are both kept, with the same key and offers.
 fn by_two(alloc: Global, store: &NodeStore) -> Result<bool, Mem> {
-    let mut first = store.pass(alloc)?;
-    let mut second = store.pass(alloc)?;
     let one = node(alloc, 20000)?;
     let other = node(alloc, 20000)?;
-    let here = kept(store.keep(alloc, &mut first, &one)?);
-    let there = kept(store.keep(alloc, &mut second, &other)?);
+    are_kept(alloc, store, &one, &other)
+}
+
+/// Whether two passes keep these nodes, one each, with the same key and offers.
+fn are_kept(alloc: Global, store: &NodeStore, one: &Node, other: &Node) -> Result<bool, Mem> {
+    let mut first = store.pass(alloc)?;
+    let mut second = store.pass(alloc)?;
+    let here = kept(store.keep(alloc, &mut first, one)?);
+    let there = kept(store.keep(alloc, &mut second, other)?);
     Ok(are_one(here, there))
 }
 
@@ -176,42 +207,41 @@ fn are_one(one: Option<&Node>, other: Option<&Node>) -> bool {
 #[test]
 fn keeps_what_two_passes_built(rt: HostRuntime) -> Result<(), Fail> {
     let store = NodeStore::new(rt.alloc(), 16)?;
-    assert_eq!(rt; by_two(rt.alloc(), &store), Ok(true));
+    assert!(rt; by_two(rt.alloc(), &store)?);
     Ok(())
 }
 
-/// What a pass that knows nothing keeps, or finds, by nine keys of one home.
-fn of_one_home(alloc: Global, store: &NodeStore, keeps: bool) -> Result<[Option<u64>; 9], Mem> {
-    let mut pass = store.pass(alloc)?;
-    let mut told = [None; 9];
-    for amount in 0..9 {
-        told[amount as usize] = if keeps {
-            keep(alloc, store, &mut pass, amount)?
-        } else {
-            find(alloc, store, &mut pass, amount)?
-        };
-    }
-    Ok(told)
-}
+/// What a pass keeps, and another one finds, by nine keys of one home.
+const NINE_KEYS: [&[Deed]; 2] = [
+    &[
+        (KEEPS, 0, Some(0)),
+        (KEEPS, 1, Some(1)),
+        (KEEPS, 2, Some(2)),
+        (KEEPS, 3, Some(3)),
+        (KEEPS, 4, Some(4)),
+        (KEEPS, 5, Some(5)),
+        (KEEPS, 6, Some(6)),
+        (KEEPS, 7, Some(7)),
+        (KEEPS, 8, None),
+    ],
+    &[
+        (FINDS, 0, Some(0)),
+        (FINDS, 1, Some(1)),
+        (FINDS, 2, Some(2)),
+        (FINDS, 3, Some(3)),
+        (FINDS, 4, Some(4)),
+        (FINDS, 5, Some(5)),
+        (FINDS, 6, Some(6)),
+        (FINDS, 7, Some(7)),
+        (FINDS, 8, None),
+    ],
+];
 
 /// The ninth key of one home finds no room in a store of many cells; the others are found in each of its eight home cells, by a pass
 /// that kept none of them. It fails where only the first home cell is read.
 #[test]
 fn fills_eight_cells(rt: HostRuntime) -> Result<(), Fail> {
     let store = NodeStore::new(rt.alloc(), 16)?;
-    let eight = [
-        Some(0),
-        Some(1),
-        Some(2),
-        Some(3),
-        Some(4),
-        Some(5),
-        Some(6),
-        Some(7),
-        None,
-    ];
-    let kept = of_one_home(rt.alloc(), &store, true);
-    let found = of_one_home(rt.alloc(), &store, false);
-    assert_eq!(rt; [kept, found], [Ok(eight), Ok(eight)]);
+    assert!(rt; tell(rt.alloc(), &store, &NINE_KEYS)?);
     Ok(())
 }

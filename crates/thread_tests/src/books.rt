@@ -1,51 +1,31 @@
-//! The book of one flight, and what is filed and asked for it.
-ghost use Rattle.std.specs.Prelude.{◌≡◌, ◌≤◌, IfOk};
-ghost use Rattle.fare_law.specs.FilingLimits.{IsAction};
+//! Books of rows, and what is filed and asked for over one flight.
+ghost use Rattle.std.specs.Prelude.{◌≡◌, ◌≤◌, length, IfOk};
+ghost use Rattle.std.specs.Arc.{arc_value};
+ghost use Rattle.fare_law.specs.FilingLimits.{IsAction, IsFiling};
 ghost use Rattle.fare_law.specs.Limits.{IsFareKey};
+ghost use Rattle.fare_law.specs.declared.limits.TheConstants.{MOST_SEAT_ROWS};
 
-use crate::filings::{LON, NYC, QX, Y, fare_key, filing_of, put, seats};
+use crate::filings::{LON, NYC, QX, Y, fare_key, filing_of, put};
 use fare_book::Book;
-use fare_law::{Action, ArrayVec, FareKey, FareKind, FlightRow, Mem, PlaceRow, Request, Slice};
+use fare_law::{Action, ArrayVec, FareKey, FareKind, Filing, Mem, Request, SeatRow, Slice};
 use fare_versions::{Clerk, FileFault, Receipt};
 use schedule_book::Schedule;
 use std::alloc::Global;
-use std::sync::Wait;
+use std::sync::{Arc, Wait};
 use std::test::Fail;
 
-const PLACES: [PlaceRow; 2] = [
-    PlaceRow {
-        line: 2,
-        place: LON,
-        connect: 60,
-    },
-    PlaceRow {
-        line: 3,
-        place: NYC,
-        connect: 60,
-    },
-];
+/// The book of a schedule and these seats, and no filing.
+pub fn empty(alloc: Global, schedule: Schedule, seats: &[SeatRow]) -> Result<Book, Fail>
+    requires { length seats.now ≤ MOST_SEAT_ROWS }
+{
+    Ok(Book::empty(alloc, schedule, seats)?)
+}
 
-/// From London to New York on Monday 2031-03-03, from 11:00 to 14:00.
-pub const FLIGHT: FlightRow = FlightRow {
-    line: 5,
-    carrier: QX,
-    number: 1,
-    from: LON,
-    to: NYC,
-    dep: 660,
-    dep_offset: 0,
-    arr: 840,
-    arr_offset: -300,
-    shift: 0,
-    first: 22341,
-    last: 22341,
-    days: 1,
-};
-
-/// The book of one flight with nine seats in class Y and no fare.
-pub fn opening(alloc: Global) -> Result<Book, Fail> {
-    let schedule = Schedule::build(alloc, &PLACES, &[FLIGHT])?;
-    Ok(Book::empty(alloc, schedule, &[seats(QX, 1, LON, [0, 0, 9])])?)
+/// The book with this filing more.
+pub fn filed(alloc: Global, book: &Book, filing: Arc<Filing>) -> Result<Book, Fail>
+    requires { IsFiling (arc_value filing) }
+{
+    Ok(book.with(alloc, filing)?)
 }
 
 /// The key of the fare QX LON NYC with this basis of one letter.
@@ -54,14 +34,6 @@ pub fn key_out(letter: u8) -> FareKey
     ensures { IsFareKey result }
 {
     fare_key(QX, LON, NYC, letter)
-}
-
-/// The key of the fare QX NYC LON with this basis of one letter.
-pub fn key_back(letter: u8) -> FareKey
-    requires { (65 ≤ letter) × (letter ≤ 90) }
-    ensures { IsFareKey result }
-{
-    fare_key(QX, NYC, LON, letter)
 }
 
 /// The one-way fare of this key in class Y is put at this amount.

@@ -10,21 +10,14 @@ fn is_shared<T: Sync>() {}
 /// Takes a type whose values may be handed to another thread.
 fn is_moved<T: Send>() {}
 
+/// Books are shared, clerks, watches and receipts are handed over, and stores are shared, with passes that are handed over.
 #[test]
-fn shares_books() {
+fn crosses_to_other_threads() {
     is_shared::<Arc<Book>>();
     is_moved::<Arc<Book>>();
-}
-
-#[test]
-fn hands_over_clerks_watches_and_receipts() {
     is_moved::<Clerk>();
     is_moved::<Watch>();
     is_moved::<Receipt>();
-}
-
-#[test]
-fn shares_stores_and_hands_over_passes() {
     is_shared::<NodeStore>();
     is_moved::<NodeStore>();
     is_moved::<StorePass>();

@@ -7,7 +7,8 @@ ghost use Rattle.fare_law.specs.Lists.{Each};
 ghost use Rattle.fare_law.specs.Names.{IsCarrier};
 
 use fare_law::{
-    Action, ArrayVec, Basis, Carrier, Fare, FareKey, FareKind, Filing, List, Mem, Place, SeatRow,
+    Action, ArrayVec, Basis, BookWhy, Carrier, Fare, FareKey, FareKind, Filing, List, Mem, Place,
+    Refused, SeatRow,
 };
 use std::alloc::Global;
 use std::sync::Arc;
@@ -20,6 +21,12 @@ pub const NYC: Place = Place(*b"NYC");
 
 /// The class Y.
 pub const Y: u8 = 24;
+
+/// Why a filing is refused whose first action drops a fare that isn't there.
+pub const NO_FARE: Refused = Refused {
+    action: 1,
+    why: BookWhy::NoFare,
+};
 
 /// The seats of all days of a flight in the classes J, Q and Y.
 pub fn seats(carrier: Carrier, number: u16, from: Place, [j, q, y]: [u8; 3]) -> SeatRow {

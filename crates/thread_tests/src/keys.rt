@@ -2,7 +2,7 @@
 ghost use Rattle.std.specs.Prelude.{IfOk};
 ghost use Rattle.fare_component.specs.Keys.{IsKey};
 
-use crate::filings::{LON, NYC, QX};
+use crate::filings::{LON, NYC, QX, Y};
 use fare_law::{
     ArrayVec, Basis, Fare, FareKey, FareKind, Flight, Leg, List, MarketSheet, Mem, OfferKey, Rule,
     Shared, SheetRow,
@@ -10,22 +10,25 @@ use fare_law::{
 use std::alloc::Global;
 use std::sync::Arc;
 
-/// The key of QX 101 on 2031-03-03 and a sheet of one fare.
+/// QX 101 on 2031-03-03.
+const FLIGHT: Flight = Flight {
+    carrier: QX,
+    number: 101,
+    from: LON,
+    to: NYC,
+    day: 22341,
+    minute: 600,
+    dep: 32171640,
+    arr: 32172120,
+};
+
+/// The key of that flight with seats in class Y, and a sheet of one fare.
 pub fn key(alloc: Global) -> Result<OfferKey, Mem>
     ensures { IfOk result IsKey }
 {
     let mut legs = ArrayVec::new();
     legs.push(Leg {
-        flight: Flight {
-            carrier: QX,
-            number: 101,
-            from: LON,
-            to: NYC,
-            day: 22341,
-            minute: 600,
-            dep: 32171640,
-            arr: 32172120,
-        },
+        flight: FLIGHT,
         classes: 1 << 24,
     });
     let mut letters = ArrayVec::new();
@@ -39,7 +42,7 @@ pub fn key(alloc: Global) -> Result<OfferKey, Mem>
                 to: NYC,
                 basis: Basis(letters),
             },
-            class: 24,
+            class: Y,
             kind: FareKind::O,
             amount: 20000,
             rule: 0,

@@ -33,8 +33,6 @@ mod two_carriers;
 #[cfg(test)]
 mod versions;
 #[cfg(test)]
-mod wanting;
-#[cfg(test)]
 mod workloads;
 #[cfg(test)]
 mod worlds;

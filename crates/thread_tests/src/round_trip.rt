@@ -4,6 +4,7 @@ ghost use Rattle.std.specs.Prelude.{IfOk};
 ghost use Rattle.std.specs.Arc.{arc_value};
 ghost use Rattle.fare_law.specs.FilingLimits.{IsFiling};
 
+use crate::books;
 use crate::filings::{LON, NYC, QX, Y, fare_key, filing, put, seats};
 use fare_book::Book;
 use fare_law::{ArrayVec, FareKind, Filing, FlightRow, List, Mem, PlaceRow, Request, Slice};
@@ -61,28 +62,28 @@ const FLIGHTS: [FlightRow; 2] = [
 
 /// The book of the flights, with one filing.
 pub fn book(alloc: Global) -> Result<Book, Fail> {
-    let filing = fares(alloc)?;
-    Ok(empty(alloc)?.with(alloc, filing)?)
+    let empty = empty(alloc)?;
+    books::filed(alloc, &empty, fares(alloc)?)
 }
 
-fn empty(alloc: Global) -> Result<Book, Fail> {
+/// The book of the flights with nine seats each in class Y and no fare.
+pub fn empty(alloc: Global) -> Result<Book, Fail> {
     let schedule = Schedule::build(alloc, &PLACES, &FLIGHTS)?;
     let rows = [
         seats(QX, 101, LON, [0, 0, 9]),
         seats(QX, 102, NYC, [0, 0, 9]),
     ];
-    Ok(Book::empty(alloc, schedule, &rows)?)
+    books::empty(alloc, schedule, &rows)
 }
 
 /// The fares R and Y there, and the fare Z back.
 fn fares(alloc: Global) -> Result<Arc<Filing>, Mem>
     ensures { IfOk result (λ filing. IsFiling (arc_value filing)) }
 {
-    let mut actions = List::new(alloc);
-    actions.push(put(fare_key(QX, LON, NYC, b'R'), Y, FareKind::R, 40000, 0))?;
-    actions.push(put(fare_key(QX, LON, NYC, b'Y'), Y, FareKind::O, 25000, 0))?;
-    actions.push(put(fare_key(QX, NYC, LON, b'Z'), Y, FareKind::O, 24000, 0))?;
-    filing(alloc, actions)
+    let there = put(fare_key(QX, LON, NYC, b'R'), Y, FareKind::R, 40000, 0);
+    let full = put(fare_key(QX, LON, NYC, b'Y'), Y, FareKind::O, 25000, 0);
+    let back = put(fare_key(QX, NYC, LON, b'Z'), Y, FareKind::O, 24000, 0);
+    filing(alloc, List::from_vec(vec![in alloc; there, full, back]?))
 }
 
 /// There and back for so many, and four tickets at most.

@@ -2,10 +2,11 @@
 //! residuals.
 ghost use Rattle.std.specs.Prelude.{IfOk};
 ghost use Rattle.std.specs.Arc.{arc_value};
-ghost use Rattle.fare_law.specs.FilingLimits.{IsFiling};
+ghost use Rattle.fare_law.specs.FilingLimits.{IsAction, IsFiling};
+ghost use Rattle.fare_law.specs.Names.{IsCarrier};
 ghost use Rattle.fare_law.specs.RuleLimits.{IsRule};
 
-use crate::books::FLIGHT;
+use crate::books;
 use crate::filings::{LON, NYC, Y, fare_key, filing, put, seats};
 use crate::round_trip::there_and_back;
 use fare_book::Book;
@@ -50,7 +51,16 @@ const THERE: FlightRow = FlightRow {
     line: 1,
     carrier: BX,
     number: 11,
-    ..FLIGHT
+    from: LON,
+    to: NYC,
+    dep: 660,
+    dep_offset: 0,
+    arr: 840,
+    arr_offset: -300,
+    shift: 0,
+    first: 22341,
+    last: 22341,
+    days: 1,
 };
 
 /// On Wednesday 2031-03-12 from 19:00 to 6:30 of the day after.
@@ -115,13 +125,9 @@ const FLIGHTS: [FlightRow; 6] = [
 
 /// The book of the flights, with one filing.
 pub fn book(alloc: Global) -> Result<Book, Fail> {
-    let filing = rules_and_fares(alloc)?;
-    Ok(empty(alloc)?.with(alloc, filing)?)
-}
-
-fn empty(alloc: Global) -> Result<Book, Fail> {
     let schedule = Schedule::build(alloc, &PLACES, &FLIGHTS)?;
-    Ok(Book::empty(alloc, schedule, &all_seats())?)
+    let empty = books::empty(alloc, schedule, &all_seats())?;
+    books::filed(alloc, &empty, rules_and_fares(alloc)?)
 }
 
 fn all_seats() -> [SeatRow; 6] {
@@ -139,14 +145,26 @@ fn all_seats() -> [SeatRow; 6] {
 fn rules_and_fares(alloc: Global) -> Result<Arc<Filing>, Mem>
     ensures { IfOk result (λ filing. IsFiling (arc_value filing)) }
 {
-    let mut actions = List::new(alloc);
-    actions.push(Action::PutRule(BX, 1, Shared::new(alloc, round_trips())?))?;
-    actions.push(Action::PutRule(EX, 1, Shared::new(alloc, online())?))?;
-    actions.push(put(fare_key(BX, LON, NYC, b'Q'), Q, FareKind::R, 42000, 1))?;
-    actions.push(put(fare_key(BX, LON, NYC, b'Y'), Y, FareKind::R, 90000, 0))?;
-    actions.push(put(fare_key(EX, LON, NYC, b'Q'), Q, FareKind::R, 36000, 1))?;
-    actions.push(put(fare_key(EX, LON, NYC, b'Y'), Y, FareKind::O, 30000, 0))?;
-    filing(alloc, actions)
+    let ours = rule_put(alloc, BX, round_trips())?;
+    let theirs = rule_put(alloc, EX, online())?;
+    let actions = vec![in alloc;
+        ours,
+        theirs,
+        put(fare_key(BX, LON, NYC, b'Q'), Q, FareKind::R, 42000, 1),
+        put(fare_key(BX, LON, NYC, b'Y'), Y, FareKind::R, 90000, 0),
+        put(fare_key(EX, LON, NYC, b'Q'), Q, FareKind::R, 36000, 1),
+        put(fare_key(EX, LON, NYC, b'Y'), Y, FareKind::O, 30000, 0),
+    ]?;
+    filing(alloc, List::from_vec(actions))
+}
+
+/// The rule 1 of a carrier is put.
+fn rule_put(alloc: Global, carrier: Carrier, rule: Rule) -> Result<Action, Mem>
+    requires carrier { IsCarrier carrier }
+    requires rule { IsRule rule }
+    ensures { IfOk result IsAction }
+{
+    Ok(Action::PutRule(carrier, 1, Shared::new(alloc, rule)?))
 }
 
 /// Round trips over a Sunday and of at most 30 days, bought 14 days before, with a partner of the same carrier.
@@ -189,7 +207,7 @@ fn online() -> Rule
     }
 }
 
-/// There and back for so many, and three tickets at most.
-pub fn request(party: u8) -> Request {
-    there_and_back(22350, 22320, party, 3)
+/// There and back for two, and three tickets at most.
+pub fn request() -> Request {
+    there_and_back(22350, 22320, 2, 3)
 }

@@ -1,4 +1,4 @@
-//! What runs of desks are given to do, and how the tests wait for what comes of it.
+//! What runs of desks are given to do, and what their tellers say.
 ghost use Rattle.std.specs.Prelude.{◌≡◌, ◌≤◌, length, All, IfOk};
 ghost use Rattle.std.specs.Arc.{arc_value};
 ghost use Rattle.fare_law.specs.FilingLimits.{IsFiling};
@@ -17,7 +17,6 @@ use script_text::{Script, read_script};
 use serve_desks::{Ask, Body, Reply, Workload};
 use std::alloc::Global;
 use std::sync::Arc;
-use std::sync::atomic::{AtomicU64, Ordering};
 use std::test::Fail;
 
 /// The number of the version that the watch sees, and the count of wants of memory after that look.
@@ -42,18 +41,6 @@ pub(crate) fn too_large(number: u32) -> Reply
         number,
         body: Body::TooLarge,
     }
-}
-
-const MOST_TURNS: u64 = 1_000_000_000;
-
-/// Waits until something came so often, for so many turns at most, and says whether it did.
-pub(crate) fn has_come(times: &AtomicU64, wanted: u64) -> bool {
-    for _ in 0..MOST_TURNS {
-        if times.load(Ordering::SeqCst) >= wanted {
-            return true;
-        }
-    }
-    false
 }
 
 /// A fare is put, and then another dropped that isn't there.

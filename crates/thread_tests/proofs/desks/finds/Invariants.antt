@@ -1,5 +1,5 @@
 use Rattle.std.proofs.Common.{◌≡◌}
-use Rattle.thread_tests.proofs.desks.follow.Given as goal
+use Rattle.thread_tests.proofs.desks.finds.Given as goal
 
 -- the desk is of the clerk's house and of the store, and the clerk stays in its house
 abbrev pub invariant-loop-step : goal.invariant-loop-step
