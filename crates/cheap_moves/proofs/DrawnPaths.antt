@@ -5,8 +5,6 @@ use Rattle.cheap_moves.specs.declared.hopes.PathClass.{PathClass}
 use Rattle.cheap_moves.specs.declared.hopes.PathStart.{PathStart}
 use Rattle.cheap_moves.specs.Drawing.{AreNext, AreSunk, IsNext}
 use Rattle.cheap_moves.specs.Hopes.{AreHopes}
-use Rattle.cheap_moves.specs.declared.paths.Opening.{Opening}
-use Rattle.cheap_moves.specs.Sought.{AreSoughtBy, IsOpeningOf}
 use Rattle.cheap_moves.proofs.Joining.{differs_before, same_map, taken_in}
 use Rattle.fare_law.specs.declared.flights.Flight.{Flight}
 use Rattle.fare_law.specs.declared.names.Place.{Place}
@@ -14,7 +12,6 @@ use Rattle.fare_law.specs.declared.requests.Request.{Request}
 use Rattle.fare_law.specs.Book.{Book}
 use Rattle.fare_law.specs.Lists.{AllDifferent, IsIn}
 use Rattle.flight_paths.specs.declared.positions.Path.{Path}
-use Rattle.flight_paths.specs.declared.positions.Position.{Position}
 use Rattle.flight_paths.specs.Marks.{AreMarks}
 use Rattle.residual_keys.specs.Residuals.{State}
 use Rattle.law_lemmas.proofs.EachOne.{each_in}
@@ -45,13 +42,6 @@ module _ (b : Book) (q : Request) (r : State) (seen paths : List Path) where
 
     pub seen_more : (seen ++ take i paths) ++ p ∷ [] ≡ seen ++ take (i + 1) paths
     seen_more = append_assoc seen (take i paths) (p ∷ []) ∙ ap (λ ps. seen ++ ps) (sym (front_read paths i d p lt e))
-
-  pub next_from : (begun : Flight → Bool) (wanted : Place → Bool) (Such : ℕ → Type 0) → AreSoughtBy b q.slices r.at begun wanted Such (seen ++ paths) → AreNext b q r seen paths
-  next_from begun wanted Such h = record { once = h.once; each = h.each }
-
--- the paths of an opening are the residual's
-pub own_batch : (b : Book) (q : Request) (r : State) (begun : Flight → Bool) (wanted : Place → Bool) (Such : ℕ → Type 0) (o : Opening) → IsOpeningOf b q r.at o → (ps : List Path) → AreSoughtBy b o.request.now.slices o.position.now begun wanted Such ps → AreSoughtBy b q.slices r.at begun wanted Such ps
-own_batch b q r begun wanted Such o of ps h = subst₂ (λ (x : Request) (at : Position). AreSoughtBy b x.slices at begun wanted Such ps) of.request of.position h
 
 module _ (same_start : PathStart → PathStart → Bool) (same_place : Place → Place → Bool) (same_class : PathClass → PathClass → Bool) (b : Book) (q : Request) (r : State) (bound : State → Option ℕ) (first : Option ℕ) where
   -- what the leads tell within the limit

@@ -3,11 +3,11 @@ use Rattle.std.proofs.Common.{◌≡◌, ◌≢◌, ◌⊎◌, ◌∙◌, ℕ, �
 use Rattle.cheap_moves.specs.declared.least.CountedMove.{CountedMove}
 use Rattle.cheap_moves.specs.Drawing.{IsNext}
 use Rattle.cheap_moves.specs.LeastMoves.{AreKept, Counts, CountsOn, IsLimit, IsSooner, counted}
-use Rattle.cheap_moves.specs.Making.{IsWithinOn, Of}
-use Rattle.cheap_moves.specs.Within.{IsMoveWithin, IsWithin, total_of}
+use Rattle.cheap_moves.specs.Making.{IsWithinOn}
+use Rattle.cheap_moves.specs.Within.{IsWithin, total_of}
 use Rattle.cheap_moves.proofs.Cutting.{decided, limit_sank}
 use Rattle.cheap_moves.proofs.Joining.{one_of_key}
-use Rattle.cheap_moves.proofs.LeastWithin.{counts_with, first_same, within_is}
+use Rattle.cheap_moves.proofs.LeastWithin.{counts_with, within_is}
 use Rattle.cheap_moves.proofs.PathMoves.{paths_apart}
 use Rattle.cheap_moves.proofs.Sooner.{code_of}
 use Rattle.fare_law.specs.declared.moves.Move.{Move}
@@ -15,7 +15,7 @@ use Rattle.fare_law.specs.declared.requests.Request.{Request}
 use Rattle.fare_law.specs.Book.{Book}
 use Rattle.fare_law.specs.Codes.{move_code}
 use Rattle.fare_law.specs.Limits.{HasKeys}
-use Rattle.fare_law.specs.Lists.{AllDifferent, Each, HasMany, IsIn, KLeast}
+use Rattle.fare_law.specs.Lists.{AllDifferent, Each, HasMany, IsIn}
 use Rattle.flight_paths.proofs.Apart.{different_more}
 use Rattle.flight_paths.specs.declared.positions.Path.{Path}
 use Rattle.residual_keys.specs.declared.residual.Chosen.{Chosen}
@@ -154,17 +154,16 @@ module _ (parts : (m n : Move) (us vs : List ℕ) → Coded m → Coded n → mo
       others [] g k f = tt
       others (n ∷ ns) g k f = ((codes_differ parts (m.chosen ∷ n.chosen ∷ []) (h.0, (g.0, tt)) (((λ e. k.0 (f n (inl refl) e)), tt), (tt, tt))).0.0, others ns g.1 k.1 (λ x i. f x (inr i)))
 
-module _ (b : Book) (q : Request) (r : State) (bound : State → Option ℕ) (keys : HasKeys b) where
-  pub counted_coded : (limit : Option ℕ) (paths : List Path) (ms : List CountedMove) → Each (CountsOn b q r bound limit paths) ms → Each (λ m. Coded (move_of m)) ms
-  counted_coded limit paths ms h = each_weaker (CountsOn b q r bound limit paths) (λ m. Coded (move_of m)) (λ m k. (all_coded b q r keys (m.chosen ∷ []) (λ c i. subst (IsChosen b q r) (sym (in_one c m.chosen i)) k.0.2.0.0)).0) ms h
+module _ (b : Book) (q : Request) (r : State) (keys : HasKeys b) (Has : CountedMove → Type 0) (chosen : (m : CountedMove) → Has m → IsChosen b q r m.chosen) where
+  counted_coded : (ms : List CountedMove) → Each Has ms → Each (λ m. Coded (move_of m)) ms
+  counted_coded ms h = each_weaker Has (λ m. Coded (move_of m)) (λ m k. (all_coded b q r keys (m.chosen ∷ []) (λ c i. subst (IsChosen b q r) (sym (in_one c m.chosen i)) (chosen m k))).0) ms h
 
-  pub kept_codes : (parts : (m n : Move) (us vs : List ℕ) → Coded m → Coded n → move_code m ++ us ≡ move_code n ++ vs → (m ≡ n) × (us ≡ vs)) (first : Option ℕ) (paths : List Path) (wanted : ℕ) (kept : List CountedMove) (limit : Option ℕ) → AreKept (CountsOn b q r bound first paths) wanted first kept limit → AllDifferent (map code_of kept)
-  kept_codes parts first paths wanted kept limit h = codes_apart parts kept (counted_coded first paths kept h.each) h.once h.one
+  pub kept_codes : (parts : (m n : Move) (us vs : List ℕ) → Coded m → Coded n → move_code m ++ us ≡ move_code n ++ vs → (m ≡ n) × (us ≡ vs)) (first : Option ℕ) (wanted : ℕ) (kept : List CountedMove) (limit : Option ℕ) → AreKept Has wanted first kept limit → AllDifferent (map code_of kept)
+  kept_codes parts first wanted kept limit h = codes_apart parts kept (counted_coded kept h.each) h.once h.one
 
-module _ (b : Book) (q : Request) (r : State) (bound : State → Option ℕ) (limit : Option ℕ) (paths : List Path) where
-  pub counted_within : (m : CountedMove) → CountsOn b q r bound limit paths m → IsWithin limit m.total
-  counted_within m h = subst (IsWithin limit) (sym h.1) (within_is b q r bound limit m.chosen h.0.2.1)
+module _ (b : Book) (q : Request) (r : State) (bound : State → Option ℕ) (limit : Option ℕ) where
+  pub all_within : (m : CountedMove) → Counts b q r bound limit m → IsWithin limit m.total
+  all_within m h = subst (IsWithin limit) (sym h.1) (within_is b q r bound limit m.chosen h.0.1)
 
-  -- where all moves are on these paths, their first are the first of all
-  pub all_counted : ((c : Chosen) → IsMoveWithin b q r bound limit c → Of (IsWithinOn b q r bound limit) paths c) → (wanted : ℕ) (ms : List CountedMove) → KLeast (CountsOn b q r bound limit paths) IsSooner wanted ms → KLeast (Counts b q r bound limit) IsSooner wanted ms
-  all_counted on wanted ms h = first_same (Counts b q r bound limit) (CountsOn b q r bound limit paths) IsSooner (λ m k. ((k.0.2.0.0, k.0.2.1), k.1)) (λ m k. (on m.chosen k.0, k.1)) wanted ms h
+  pub counted_within : (paths : List Path) (m : CountedMove) → CountsOn b q r bound limit paths m → IsWithin limit m.total
+  counted_within paths m h = all_within m ((h.0.2.0.0, h.0.2.1), h.1)

@@ -33,10 +33,6 @@ module _ {X : Type 0} (total : X → ℕ) (Below : X → X → Type 0) (lower : 
     ];
   }
 
--- the first of the same things
-pub first_same : {X : Type 0} (Has Near : X → Type 0) (Below : X → X → Type 0) → ((x : X) → Near x → Has x) → ((x : X) → Has x → Near x) → (wanted : ℕ) (xs : List X) → KLeast Near Below wanted xs → KLeast Has Below wanted xs
-first_same Has Near Below has near wanted xs h = record { ascending = h.ascending; each = each_weaker Near Has has xs h.each; few = h.few; rest = λ x i out. h.rest x (near x i) out }
-
 module _ (b : Book) (q : Request) (r : State) (bound : State → Option ℕ) where
   -- a total that is within a limit
   pub total_is : (c : Chosen) (rest : ℕ) → rest_of bound c.next ≡ Some rest → c.price + rest ≡ total_of bound c

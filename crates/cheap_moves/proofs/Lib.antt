@@ -16,3 +16,4 @@ pub mod LeadMoves
 pub mod Hoped
 pub mod Suiting
 pub mod Seeking
+pub mod Passing

@@ -2,9 +2,7 @@
 use Rattle.std.proofs.Common.{◌≡◌, ◌≢◌, ◌⊎◌, ℕ, Bool, true, false, List, [], slice_get, Option, Some, refl, sym, ap, subst, ◌∙◌, inl, inr}
 use Rattle.cheap_moves.specs.declared.component.Flown.{Flown}
 use Rattle.cheap_moves.specs.Drawing.{IsOwnPath}
-use Rattle.cheap_moves.specs.Making.{IsFlown, IsOver, IsWithinFiled, IsWithinOn, Of}
-use Rattle.cheap_moves.specs.Sought.{AreSought, StartWanted}
-use Rattle.cheap_moves.specs.Within.{CountsWithin, IsMoveWithin}
+use Rattle.cheap_moves.specs.Making.{IsFlown, IsOver, IsWithinFiled, IsWithinOn}
 use Rattle.fare_ends.specs.declared.markets.Market.{Market}
 use Rattle.fare_ends.specs.declared.markets.MarketKey.{MarketKey}
 use Rattle.fare_ends.specs.Markets.{AreMarkets, IsMarket, StandsAt}
@@ -13,17 +11,15 @@ use Rattle.fare_law.specs.declared.flights.Flight.{Flight}
 use Rattle.fare_law.specs.declared.moves.Move.{Move}
 use Rattle.fare_law.specs.declared.moves.Role.{Role}
 use Rattle.fare_law.specs.declared.moves.Role.TheVariants.{Alone, Opens, GoesOn, Closes}
-use Rattle.fare_law.specs.declared.names.Place.{Place}
 use Rattle.fare_law.specs.declared.requests.Request.{Request}
 use Rattle.fare_law.specs.Book.{Book}
 use Rattle.flight_paths.specs.declared.positions.Path.{Path}
-use Rattle.flight_paths.specs.Heads.{EndWanted}
 use Rattle.flight_paths.specs.Positions.{Flies}
 use Rattle.open_unit.specs.declared.units.OpenUnit.{OpenUnit}
 use Rattle.residual_keys.specs.declared.residual.Chosen.{Chosen}
 use Rattle.residual_keys.specs.Gathered.{Adds, IsPathOf}
 use Rattle.residual_keys.specs.Residuals.{State, UnitStep, closes}
-use Rattle.residual_keys.specs.Steps.{IsChosen, MarketOver}
+use Rattle.residual_keys.specs.Steps.{MarketOver}
 use Rattle.residual_keys.proofs.Adding.{adds_like, adds_then}
 use Rattle.residual_keys.proofs.OneNext.{flies_one}
 use Rattle.residual_keys.proofs.Runs.{flies_numbers}
@@ -75,14 +71,6 @@ path_one b q r p p' fs gs h k e =
 -- moves on different paths differ
 pub paths_apart : (b : Book) (q : Request) (r : State) (bound : State → Option ℕ) (limit limit' : Option ℕ) (y p : Path) → IsOwnPath b q r y → IsOwnPath b q r p → y ≢ p → (u v : Chosen) → IsWithinOn b q r bound limit y u → IsWithinOn b q r bound limit' p v → u.mv ≢ v.mv
 paths_apart b q r bound limit limit' y p k l ne u v x z s = ne (path_one b q r y p k.0 l.0 k.1 l.1 (sym x.0.1 ∙ ap (λ (w : Move). w.flights) s ∙ z.0.1))
-
-module _ (b : Book) (q : Request) (r : State) (bound : State → Option ℕ) (begun : Flight → Bool) (wanted : Place → Bool) (paths : List Path) (are : AreSought b q.slices r.at begun wanted paths) where
-  -- all paths that were seen have all moves, where each move begins and ends as it is wanted
-  pub on_paths : (limit : Option ℕ) → ((c : Chosen) (k : IsChosen b q r c) → CountsWithin bound limit c → StartWanted begun k.flights) → ((c : Chosen) (k : IsChosen b q r c) → CountsWithin bound limit c → EndWanted wanted k.flights)
-      → (c : Chosen) → IsMoveWithin b q r bound limit c → Of (IsWithinOn b q r bound limit) paths c
-  on_paths limit starts ends c k =
-      let p : Path = record { flights = c.mv.flights; after = k.0.after } in
-      (p, are.all p k.0.flights k.0.moves.path (starts c k.0 k.1) (ends c k.0 k.1), ((k.0, refl), k.1))
 
 -- the market that was found
 pub market_over : (b : Book) (q : Request) (r : State) (flown : Flown) (reverse : Bool) (key : MarketKey) (ms : List Market) (n : ℕ) (m : Market) → IsFlown b q r flown → MarketOver reverse flown.way.flights key.from key.to → Limited b → AreMarkets b ms → StandsAt ms key n → slice_get ms n ≡ Some m → IsOver b q r flown reverse m

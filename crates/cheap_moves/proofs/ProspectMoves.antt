@@ -27,13 +27,9 @@ module _ (b : Book) (q : Request) (r : State) (bound : State → Option ℕ) (li
   P x c = IsProspectMove q r bound limit flown reverse m x c
 
   module _ (x : Prospect) (old : List Chosen) where
-    -- those of a group's fares that are filed the other way
-    pub prospect_other : (x.reverse ≡ reverse → ⊥) → Adds (P x) old old
-    prospect_other ne = adds_none (P x) old (λ c k. ne k.way)
-
-    -- where the market has no such group there is none
-    pub prospect_none : Each (λ (g : FareGroup). g.key ≢ x.key) m.groups → Adds (P x) old old
-    prospect_none none = adds_none (P x) old (λ c k. each_in (λ (g : FareGroup). g.key ≢ x.key) m.groups k.group none k.within k.key)
+    -- where the market has no such group that is filed this way there is none
+    pub prospect_none : (x.reverse ≡ reverse → Each (λ (g : FareGroup). g.key ≢ x.key) m.groups) → Adds (P x) old old
+    prospect_none none = adds_none (P x) old (λ c k. each_in (λ (g : FareGroup). g.key ≢ x.key) m.groups k.group (none k.way) k.within k.key)
 
     -- and else they are the group's
     pub prospect_had : (new : List Chosen) (g : FareGroup) → x.reverse ≡ reverse → IsIn g m.groups → g.key ≡ x.key → Adds (IsGroupMove q r bound limit flown reverse m g) old new → Adds (P x) old new

@@ -1,35 +1,18 @@
--- The paths of a position that begin with wanted flights, one flight after another.
-use Rattle.std.proofs.Common.{◌≡◌, ◌⊎◌, ℕ, ◌+◌, ◌≤◌, ◌<◌, Bool, true, false, List, [], ◌∷◌, ◌++◌, length, take, get_or, slice_get, Option, Some, refl, sym, ap, subst, ◌∙◌, inl, inr, arith}
-use Rattle.cheap_moves.specs.Sought.{AreSought, AreSoughtBy, StartWanted, narrowed}
-use Rattle.cheap_moves.proofs.Joining.{one_added}
+-- The paths of a position that begin with one flight.
+use Rattle.std.proofs.Common.{◌≡◌, ℕ, ◌≤◌, ◌<◌, Bool, true, false, List, [], ◌∷◌, slice_get, Option, Some, refl, sym, ap, subst, ◌∙◌, arith}
+use Rattle.cheap_moves.specs.Sought.{AreSoughtBy, StartWanted, narrowed}
 use Rattle.fare_law.specs.declared.flights.Flight.{Flight}
 use Rattle.fare_law.specs.declared.names.Place.{Place}
 use Rattle.fare_law.specs.declared.requests.Slice.{Slice}
 use Rattle.fare_law.specs.Book.{Book}
-use Rattle.fare_law.specs.Lists.{EachPair, IsIn, OnFirst}
+use Rattle.fare_law.specs.Lists.{IsIn, OnFirst}
 use Rattle.flight_paths.specs.declared.positions.Path.{Path}
 use Rattle.flight_paths.specs.declared.positions.Position.{Position}
 use Rattle.flight_paths.specs.Heads.{AreReached}
 use Rattle.flight_paths.specs.Positions.{Flies}
-use Rattle.flight_paths.proofs.Apart.{different_more}
-use Rattle.flight_paths.proofs.Orders.{before_smaller}
 use Rattle.schedule_book.specs.Departures.{AreDepartures}
-use Rattle.law_lemmas.proofs.Lists.{front_read}
-use Rattle.law_lemmas.proofs.Members.{in_either, in_left, in_right}
 use Rattle.law_lemmas.proofs.Options.{some_one}
 use Rattle.law_lemmas.proofs.Tests.{true_false}
-
-first_weaker : (P Q : ℕ → Type 0) → ((n : ℕ) → P n → Q n) → (ns : List ℕ) → OnFirst P ns → OnFirst Q ns
-first_weaker P Q to [] h = absurd h
-first_weaker P Q to (n ∷ ns) h = to n h
-
-first_either : (P Q R : ℕ → Type 0) → ((n : ℕ) → R n → P n ⊎ Q n) → (ns : List ℕ) → OnFirst R ns → OnFirst P ns ⊎ OnFirst Q ns
-first_either P Q R to [] h = absurd h
-first_either P Q R to (n ∷ ns) h = to n h
-
-first_both : (P Q : ℕ → Type 0) → ((n : ℕ) → P n → Q n → ⊥) → (ns : List ℕ) → OnFirst P ns → OnFirst Q ns → ⊥
-first_both P Q not [] h k = h
-first_both P Q not (n ∷ ns) h k = not n h k
 
 module _ (b : Book) (sl : List Slice) (at : Position) where
   -- ---- one flight
@@ -104,51 +87,8 @@ module _ (b : Book) (sl : List Slice) (at : Position) where
           other (m ∷ ns) (g ∷ fs) next first (s, known, takes, after, leads, rest) starts =
               true_false (subst (λ (x : Flight). begun x ≡ true) (some_one (slice_get b.timetable.flights n) g f (subst (λ k. slice_get b.timetable.flights k ≡ Some g) first takes.known) stands) starts) not
 
-  -- ---- flight by flight
-
-  module _ (begun : Flight → Bool) (wanted : Place → Bool) where
-    pub sought_none : AreSoughtBy b sl at begun wanted (λ m. IsIn m []) []
-    sought_none = record { once = tt; begin = λ p i. absurd i; each = λ p i. absurd i; all = λ p fs first is starts ends. absurd (none p.flights first) }
-      where
-        none : (ns : List ℕ) → OnFirst (λ m. IsIn m []) ns → ⊥
-        none [] h = h
-        none (n ∷ ns) h = h
-
-    pub sought_more : (numbers : List ℕ) (i d n : ℕ) (old more : List Path) → EachPair (λ k m. k < m) numbers → i < length numbers → n ≡ get_or numbers i d → AreSoughtBy b sl at begun wanted (λ m. IsIn m (take i numbers)) old → AreSoughtBy b sl at begun wanted (λ m. m ≡ n) more
-        → AreSoughtBy b sl at begun wanted (λ m. IsIn m (take (i + 1) numbers)) (old ++ more)
-    sought_more numbers i d n old more ascending lt e h are = joined
-      where
-        front : take (i + 1) numbers ≡ take i numbers ++ n ∷ []
-        front = front_read numbers i d n lt e
-
-        old_in : (m : ℕ) → IsIn m (take i numbers) → IsIn m (take (i + 1) numbers)
-        old_in m j = subst (IsIn m) (sym front) (in_left m (take i numbers) (n ∷ []) j)
-
-        new_in : (m : ℕ) → m ≡ n → IsIn m (take (i + 1) numbers)
-        new_in m s = subst (IsIn m) (sym front) (in_right m (take i numbers) (n ∷ []) (inl s))
-
-        apart : (m : ℕ) → IsIn m (take i numbers) → m ≡ n → ⊥
-        apart m j s = let less = before_smaller numbers i d m ascending lt j in omega (arith, less, s, e)
-
-        joined : AreSoughtBy b sl at begun wanted (λ m. IsIn m (take (i + 1) numbers)) (old ++ more)
-        joined = record {
-          once = different_more old more h.once are.once (λ p j k. first_both (λ m. IsIn m (take i numbers)) (λ m. m ≡ n) apart p.flights (h.begin p j) (are.begin p k));
-          begin = λ p j. elim (in_either p old more j) [
-            | inl k ↦ first_weaker (λ m. IsIn m (take i numbers)) (λ m. IsIn m (take (i + 1) numbers)) old_in p.flights (h.begin p k)
-            | inr k ↦ first_weaker (λ m. m ≡ n) (λ m. IsIn m (take (i + 1) numbers)) new_in p.flights (are.begin p k)
-          ];
-          each = λ p j. elim (in_either p old more j) [ inl k ↦ h.each p k | inr k ↦ are.each p k ];
-          all = λ p fs first is starts ends. elim (first_either (λ m. IsIn m (take i numbers)) (λ m. m ≡ n) (λ m. IsIn m (take (i + 1) numbers)) (λ m j. one_added numbers i d n m lt e j) p.flights first) [
-            | inl k ↦ in_left p old more (h.all p fs k is starts ends)
-            | inr k ↦ in_right p old more (are.all p fs k is starts ends)
-          ];
-        }
-
-    -- the paths by all flights that depart from the position's place are all
-    pub sought_all : (flights : List Flight) (numbers : List ℕ) (paths : List Path) → b.timetable.flights ≡ flights → AreDepartures flights at.place at.lo at.hi numbers → AreSoughtBy b sl at begun wanted (λ m. IsIn m numbers) paths → AreSought b sl at begun wanted paths
-    sought_all flights numbers paths plan departures h = record { once = h.once; each = h.each; all = λ p fs is starts ends. h.all p fs (first p.flights fs p.after is.some is.flies) is starts ends }
-      where
-        first : (ns : List ℕ) (fs : List Flight) (next : Option Position) → (ns ≡ [] → ⊥) → Flies b sl (Some at) ns fs next → OnFirst (λ m. IsIn m numbers) ns
-        first [] fs next some flies = absurd (some refl)
-        first (m ∷ ns) [] next some flies = absurd flies
-        first (m ∷ ns) (f ∷ fs) next some (s, known, takes, after, leads, rest) = (departures.are m).1 (takes.low, takes.high, (f, ap (λ xs. slice_get xs m) (sym plan) ∙ takes.known, takes.departs))
+  -- a path of the position begins with a flight that departs from its place
+  pub begins_there : (flights : List Flight) (numbers : List ℕ) → b.timetable.flights ≡ flights → AreDepartures flights at.place at.lo at.hi numbers → (ns : List ℕ) (fs : List Flight) (next : Option Position) → (ns ≡ [] → ⊥) → Flies b sl (Some at) ns fs next → OnFirst (λ m. IsIn m numbers) ns
+  begins_there flights numbers plan departures [] fs next some flies = absurd (some refl)
+  begins_there flights numbers plan departures (m ∷ ns) [] next some flies = absurd flies
+  begins_there flights numbers plan departures (m ∷ ns) (f ∷ fs) next some (s, known, takes, after, leads, rest) = (departures.are m).1 (takes.low, takes.high, (f, ap (λ xs. slice_get xs m) (sym plan) ∙ takes.known, takes.departs))

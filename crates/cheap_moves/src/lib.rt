@@ -7,6 +7,7 @@ mod bounds;
 mod bucket;
 mod component;
 mod drawing;
+mod endings;
 mod fares;
 mod groups;
 mod hopes;

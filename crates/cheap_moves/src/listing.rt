@@ -10,13 +10,12 @@ ghost use Rattle.fare_law.specs.Lists.{KLeast};
 use crate::MoveSearch;
 use crate::bounds::ResidualBounds;
 use crate::drawing::{Draw, draw_all};
-use crate::hopes::{hopes_of, schedule_of};
+use crate::hopes::hopes_of;
 use crate::leads::{Lead, by_group};
 use crate::least::{CountedMove, keep_first};
-use crate::paths::Opening;
 use component_table::Markets;
 use fare_law::{List, Mem};
-use flight_paths::{Path, SomeTails, tails_to};
+use flight_paths::Path;
 use residual_keys::book_limits;
 use std::alloc::Global;
 use ticket_order::{codes_tell, order_laws};
@@ -68,17 +67,19 @@ pub fn least_moves<B: ResidualBounds>(
     }
 }
 
-/// A limit within which there are as many moves as are wanted, since each lead is that of a move. None: no limit,
-/// where there are fewer leads. It is a guess: where too few moves are within it, all are listed.
+/// A limit within which there are as many moves as are wanted, since each lead is that of a move: the total of the last of so many
+/// leads. Where there are fewer, each may be that of many moves, and the least is tried. None: no limit. It is a guess: where too
+/// few moves are within it, all are listed.
 fn guessed_limit(alloc: Global, leads: &[Lead], wanted: usize) -> Result<Option<u128>, Mem> {
     let mut totals = Vec::with_capacity(alloc, leads.len())?;
     for lead in leads {
         totals.push(lead.total)?;
     }
     totals.sort_unstable();
-    Ok(match wanted {
+    let last = if wanted <= totals.len() { wanted } else { 1 };
+    Ok(match last {
         0 => None,
-        _ => totals.get(wanted - 1).copied(),
+        _ => totals.get(last - 1).copied(),
     })
 }
 
@@ -102,27 +103,15 @@ fn least_within<'x, B: ResidualBounds>(
     order_laws();
     codes_tell();
     book_limits(search.book);
-    let residual = search.residual;
     let hopes = hopes_of(alloc, search, leads)?;
-    let schedule = schedule_of(search.book);
-    let numbers = tails_to(alloc, schedule, tails, &hopes)?;
-    let opening = Opening {
-        schedule,
-        request: search.request,
-        position: &residual.at,
-        tails: SomeTails {
-            all: tails,
-            marks: &[],
-            numbers: numbers.as_slice(),
-        },
-    };
     let draw = Draw {
         search,
         leads,
         hopes: &hopes,
+        tails,
         wanted,
     };
-    let mut drawn = draw_all(alloc, &draw, &opening, markets)?;
+    let mut drawn = draw_all(alloc, &draw, markets)?;
     keep_first(&mut drawn.kept, wanted);
     Ok(List::from_vec(drawn.kept))
 }

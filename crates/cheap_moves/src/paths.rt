@@ -1,13 +1,15 @@
 //! The paths of a position that begin with a flight, and begin and end as moves within the limit do.
-ghost use Rattle.std.specs.Prelude.{◌≡◌, ◌<◌, ◌≤◌, IfOk, ⊤};
+ghost use Rattle.std.specs.Prelude.{◌≡◌, ◌<◌, ◌≤◌, ◌+◌, Bool as Truth, IfOk, ⊤};
 ghost use Rattle.cheap_moves.specs.Hopes.{begins_with, marked};
 ghost use Rattle.cheap_moves.specs.Sought.{AreSoughtBy, IsOpen, narrowed};
+ghost use Rattle.fare_law.specs.declared.names.Place.{Place as PlaceName};
 ghost use Rattle.fare_law.specs.Book.{Book as Version};
+ghost use Rattle.flight_paths.specs.Heads.{HasTails, chosen};
 ghost use Rattle.flight_paths.specs.Plans.{HasPlan};
 ghost use Rattle.schedule_book.specs.Departures.{DepartsFrom};
 
 use crate::hopes::{Hopes, PathStart, may_begin};
-use fare_law::{List, Mem, Place, Request};
+use fare_law::{List, Mem, Request};
 use flight_paths::{Path, PathVisitor, Position, SomeTails, visit_paths};
 use schedule_book::Schedule;
 use std::alloc::Global;
@@ -38,18 +40,18 @@ pub struct Opening<'a> {
     pub tails: SomeTails<'a>,
 }
 
-/// Paths of a position that begin with the flight of this number, each once, and among them each that begins and ends as one
-/// with a move within the limit may.
+/// Paths of a position that begin with the flight of this number, each once, and among them each that begins as one with a move
+/// within the limit may, and ends where all tails are.
 pub fn paths_from(
     alloc: Global,
     opening: &Opening<'_>,
     hopes: &Hopes,
     number: u32,
 ) -> Result<List<Path>, Mem>
-    requires open { IsOpen (marked ⟦<Place as PartialEq>⟧.eq hopes.now.ends) opening.now }
+    requires open { IsOpen opening.now }
     requires range { (opening.now.position.now.lo ≤ number) × (number < opening.now.position.now.hi) }
     requires departs { DepartsFrom opening.now.schedule.now.flights opening.now.position.now.place number }
-    ensures { IfOk result (λ paths. (b : Version) → HasPlan b opening.now.schedule.now → AreSoughtBy b opening.now.request.now.slices opening.now.position.now (λ f. marked ⟦<PathStart as PartialEq>⟧.eq hopes.now.starts (begins_with f)) (marked ⟦<Place as PartialEq>⟧.eq hopes.now.ends) (λ n. n ≡ number) paths) }
+    ensures { IfOk result (λ paths. (b : Version) (wanted : PlaceName → Truth) → HasPlan b opening.now.schedule.now → HasTails b opening.now.request.now.slices (opening.now.position.now.slice + 1) wanted (chosen opening.now.tails.all.now opening.now.tails.numbers.now) → AreSoughtBy b opening.now.request.now.slices opening.now.position.now (λ f. marked ⟦<PathStart as PartialEq>⟧.eq hopes.now.starts (begins_with f)) wanted (λ n. n ≡ number) paths) }
 {
     if !may_begin(hopes, &opening.schedule.flights()[number as usize]) {
         return Ok(List::new(alloc));

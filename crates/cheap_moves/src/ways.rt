@@ -1,12 +1,14 @@
 //! The moves of a path: with the fares that are filed from its beginning to its end, and those in reverse.
-ghost use Rattle.std.specs.Prelude.{◌≡◌, ◌≢◌, [], IfOk, OnOk};
+ghost use Rattle.std.specs.Prelude.{◌≡◌, ◌≢◌, [], IfNone, IfOk, IfSome, IsTrue, OnOk};
 ghost use Rattle.cheap_moves.specs.Hopes.{AreHopes};
 ghost use Rattle.cheap_moves.specs.Making.{IsFlown, IsOver, IsWithinFiled, IsWithinOn};
-ghost use Rattle.cheap_moves.specs.Prospects.{HasProspects, IsProspectMove};
+ghost use Rattle.cheap_moves.specs.Prospects.{HasProspects};
 ghost use Rattle.fare_ends.specs.Markets.{AreMarkets};
+ghost use Rattle.fare_groups.specs.Grouping.{AreInOrder, HasKeyAt};
 ghost use Rattle.fare_law.specs.declared.flights.Flight.{Flight as DatedFlight};
 ghost use Rattle.std.specs.Prelude.{List as Items};
 ghost use Rattle.fare_law.specs.Limits.{IsRequest};
+ghost use Rattle.fare_law.specs.Lists.{Each};
 ghost use Rattle.residual_keys.specs.Gathered.{Adds, IsPathOf};
 ghost use Rattle.residual_keys.specs.Steps.{MarketOver};
 
@@ -17,7 +19,7 @@ use crate::groups::add_group;
 use crate::hopes::{Hopes, PathClass, PathStart, class_over, groups_of};
 use crate::prospects::Prospect;
 use component_table::{Market, MarketKey, Markets};
-use fare_groups::{classes_of_all, place_of};
+use fare_groups::{FareGroup, GroupKey, classes_of_all, place_of};
 use fare_law::{Flight, List, Mem, Place};
 use flight_paths::Path;
 use residual_keys::{Chosen, OpenUnits, Way, first_of, last_of};
@@ -118,7 +120,8 @@ fn key_over(flights: &[Flight], reverse: bool) -> MarketKey
     }
 }
 
-/// Adds the moves on a path that are within the limit, with the fares of a market.
+/// Adds the moves on a path that are within the limit, with the fares of a market. Groups come in the order of the market's
+/// mostly, so each is looked for right behind the one before it first.
 fn add_market<B: ResidualBounds>(
     found: &mut List<Chosen>,
     search: &MoveSearch<'_, B>,
@@ -132,32 +135,51 @@ fn add_market<B: ResidualBounds>(
     ensures { OnOk result (Adds (IsWithinFiled search.now.book.now search.now.request.now search.now.residual.now (B.bound search.now.bounds.now) search.now.limit flown.now.way.path.flights reverse) found.old found.new) }
 {
     order_laws();
+    let groups = market.groups.as_slice();
+    let mut next = 0;
     for prospect in flown.prospects.as_slice() {
-        add_prospect(found, search, flown, reverse, market, prospect)?;
+        let Some(at) = place_from(groups, prospect, reverse, next) else {
+            continue;
+        };
+        add_group(found, search, flown, reverse, market, &groups[at])?;
+        next = at.saturating_add(1);
     }
     Ok(())
 }
 
-/// Adds the moves on a path that are within the limit, with the fares of a group of a market, if there is such a group and
-/// they are filed this way.
-fn add_prospect<B: ResidualBounds>(
-    found: &mut List<Chosen>,
-    search: &MoveSearch<'_, B>,
-    flown: &Flown,
-    reverse: bool,
-    market: &Market,
+/// How many kinds of fares a rule may have groups of.
+const KINDS: usize = 3;
+
+/// The place of a prospect's group, where it is filed this way and there is such a group. It is looked for among the next ones from
+/// a place on first, which is a guess: rules come in order mostly, and a rule has few groups.
+fn place_from(
+    groups: &[FareGroup],
     prospect: &Prospect,
-) -> Result<(), Mem>
-    requires request { IsRequest search.now.request.now }
-    requires over { IsOver search.now.book.now search.now.request.now search.now.residual.now flown.now reverse market.now }
-    ensures { OnOk result (Adds (IsProspectMove search.now.request.now search.now.residual.now (B.bound search.now.bounds.now) search.now.limit flown.now reverse market.now prospect.now) found.old found.new) }
+    reverse: bool,
+    guess: usize,
+) -> Option<usize>
+    requires { AreInOrder groups.now }
+    ensures some { IfSome result (λ at. (prospect.now.reverse ≡ reverse) × HasKeyAt prospect.now.key groups.now at) }
+    ensures none { IfNone result (prospect.now.reverse ≡ reverse → Each (λ g. g.key ≢ prospect.now.key) groups.now) }
 {
     if prospect.reverse != reverse {
-        return Ok(());
+        return None;
     }
-    let groups = market.groups.as_slice();
-    match place_of(groups, prospect.key) {
-        Some(at) => add_group(found, search, flown, reverse, market, &groups[at]),
-        None => Ok(()),
+    for ahead in 0..KINDS {
+        let at = guess.saturating_add(ahead);
+        if stands_at(groups, at, prospect.key) {
+            return Some(at);
+        }
+    }
+    place_of(groups, prospect.key)
+}
+
+/// Whether the group at a place has this key.
+fn stands_at(groups: &[FareGroup], at: usize, key: GroupKey) -> bool
+    ensures { IsTrue result → HasKeyAt key groups.now at }
+{
+    match groups.get(at) {
+        Some(group) => group.key.is(key),
+        None => false,
     }
 }

@@ -1,9 +1,7 @@
 use Rattle.std.proofs.Common.{List, take}
 use Rattle.cheap_moves.specs.contracts.hopes.PathClassPartialEq.TheImpl as class
 use Rattle.cheap_moves.specs.contracts.hopes.PathStartPartialEq.TheImpl as start
-use Rattle.cheap_moves.specs.Drawing.{IsDrawn}
-use Rattle.cheap_moves.specs.Hopes.{begins_with, marked}
-use Rattle.cheap_moves.specs.Sought.{AreSoughtBy}
+use Rattle.cheap_moves.specs.Drawing.{ArePassed, AreTailsFor, IsDrawn}
 use Rattle.fare_ends.specs.Markets.{AreMarkets}
 use Rattle.fare_law.specs.contracts.names.PlacePartialEq.TheImpl as place
 use Rattle.fare_law.specs.Lists.{IsIn}
@@ -14,6 +12,7 @@ abbrev pub invariant-loop-number : goal.invariant-loop-number
 invariant-loop-number g l = record {
   markets : AreMarkets l.draw.search.now.book.now l.markets.kept.items;
   seen : List Path;
-  sought : AreSoughtBy l.draw.search.now.book.now l.draw.search.now.request.now.slices l.draw.search.now.residual.now.at (λ f. marked start.ghosts.eq l.draw.hopes.now.starts (begins_with f)) (marked place.ghosts.eq l.draw.hopes.now.ends) (λ m. IsIn m (take l.number-index l.number-items)) seen;
+  tails : AreTailsFor l.draw.search.now.book.now l.draw.search.now.request.now l.draw.search.now.residual.now (g.B.ResidualBounds.bound l.draw.search.now.bounds.now) l.draw.search.now.limit l.draw.wanted seen l.draw.tails.now l.endings.numbers;
+  passed : ArePassed l.draw.search.now.book.now l.draw.search.now.request.now l.draw.search.now.residual.now (g.B.ResidualBounds.bound l.draw.search.now.bounds.now) l.draw.search.now.limit l.draw.wanted seen (λ m. IsIn m (take l.number-index l.number-items)) seen;
   drawn : IsDrawn start.ghosts.eq place.ghosts.eq class.ghosts.eq l.draw.search.now.book.now l.draw.search.now.request.now l.draw.search.now.residual.now (g.B.ResidualBounds.bound l.draw.search.now.bounds.now) l.draw.search.now.limit l.draw.wanted seen l.drawn;
 }

@@ -1,6 +1,7 @@
 use Rattle.std.proofs.Common.{[], ◌∷◌, ◌++◌}
 use Rattle.cheap_moves.specs.contracts.hopes.PathClassPartialEq.TheImpl as class
 use Rattle.cheap_moves.specs.contracts.hopes.PathStartPartialEq.TheImpl as start
+use Rattle.cheap_moves.specs.LeastMoves.{CountsOn}
 use Rattle.cheap_moves.proofs.DrawnPaths.{hopes_now}
 use Rattle.cheap_moves.proofs.Keeping.{kept_codes, path_kept}
 use Rattle.fare_law.specs.contracts.names.PlacePartialEq.TheImpl as place
@@ -23,7 +24,7 @@ sink-requires-clause-codes g c =
     let w = c.requires.drawn in
     let d = c.args.drawn.now in
     let bound = g.B.ResidualBounds.bound s.bounds.now in
-    kept_codes s.book.now s.request.now s.residual.now bound c.book_limits.ensures.fares.keys c.codes_tell.ensures.parts s.limit (w.0 ++ c.args.path.now ∷ []) c.args.draw.now.wanted c.add_counted.new.kept.items d.limit
+    kept_codes s.book.now s.request.now s.residual.now c.book_limits.ensures.fares.keys (CountsOn s.book.now s.request.now s.residual.now bound s.limit (w.0 ++ c.args.path.now ∷ [])) (λ m k. k.0.2.0.0) c.codes_tell.ensures.parts s.limit c.args.draw.now.wanted c.add_counted.new.kept.items d.limit
     (path_kept s.book.now s.request.now s.residual.now bound s.limit c.args.draw.now.wanted w.0 c.args.path.now w.1 d.limit d.kept.items w.2.kept c.new-found.result c.add_path.new.found c.as_slice.result.now c.add_counted.new.kept.items c.new-found.ensures c.in_ok-add_path.ensures.moves c.as_slice.ensures c.in_ok-add_counted.ensures)
 
 pub returns-clause-drawn : goal.returns-clause-drawn
