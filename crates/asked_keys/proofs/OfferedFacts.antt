@@ -17,7 +17,7 @@ use Rattle.fare_law.specs.declared.rules.TransferRule.{TransferRule}
 use Rattle.fare_law.specs.declared.sheets.Leg.{Leg}
 use Rattle.fare_law.specs.declared.sheets.SheetRow.{SheetRow}
 use Rattle.fare_law.specs.Book.{Book}
-use Rattle.fare_law.specs.Lists.{Each, IsIn, Less, OnFirst}
+use Rattle.fare_law.specs.Lists.{IsIn, Less, OnFirst}
 use Rattle.fare_law.specs.Offers.{IsOffered, flights_of}
 use Rattle.fare_law.specs.Parts.{TransfersHold, transfers}
 use Rattle.fare_law.specs.RuleLimits.{IsRule}

@@ -3,6 +3,7 @@
 #![tactic(auto)]
 
 mod asking;
+mod homes;
 mod offered;
 mod served;
 mod settling;

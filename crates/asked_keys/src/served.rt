@@ -60,7 +60,7 @@ pub fn served_paths(
 }
 
 /// The places and the flights of a book.
-fn schedule_of(book: &Book) -> &Schedule
+pub fn schedule_of(book: &Book) -> &Schedule
     ensures { HasPlan book.now result.now }
 {
     book.timetable().schedule()

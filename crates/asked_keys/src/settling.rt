@@ -1,6 +1,6 @@
 //! The keys of residuals on which there may be offers, taken from a source so that it settles them.
-ghost use Rattle.std.specs.Prelude.{◌≡◌, ◌≤◌, OnOk, length};
-ghost use Rattle.asked_keys.specs.Asking.{HasKeysSettled, IsFiledKey, IsWay};
+ghost use Rattle.std.specs.Prelude.{◌≡◌, ◌<◌, ◌≤◌, OnOk, length};
+ghost use Rattle.asked_keys.specs.Asking.{HasKeysSettled, IsFiledKey, IsWay, begun_by, narrowed};
 ghost use Rattle.fare_ends.specs.Markets.{AreMarkets, IsMarket};
 ghost use Rattle.component_table.specs.Networks.{IsNetwork};
 ghost use Rattle.fare_component.specs.Keys.{Asked, asked};
@@ -12,12 +12,14 @@ ghost use Rattle.residual_keys.specs.AskedKeys.{IsKey, KeyOfFlights};
 ghost use Rattle.residual_keys.specs.Steps.{MarketOver};
 ghost use Rattle.residual_keys.specs.WaysOf.{IsWayOf};
 
+use crate::homes::home_over;
 use crate::offered::may_be_offered;
-use crate::served::served_paths;
+use crate::served::{schedule_of, served_paths};
 use component_table::{Market, MarketKey, Markets, Network};
 use fare_book::Book;
 use fare_component::OfferSource;
 use fare_law::{Flight, Mem, OfferKey, Request};
+use flight_paths::Position;
 use residual_keys::{OpenUnits, Residual, Way, first_of, last_of};
 use std::alloc::Global;
 use std::sync::Arc;
@@ -39,9 +41,58 @@ pub fn settle_keys<O: OfferSource>(
 {
     let mut network = Network::new(alloc);
     for residual in residuals {
-        take_keys(alloc, book, request, &mut network, residual, offers)?;
+        take_all(alloc, book, request, &mut network, residual, offers)?;
     }
     Ok(())
+}
+
+/// Takes the keys of a residual, by one first flight after another, so that only the paths of one are listed at a time.
+fn take_all<O: OfferSource>(
+    alloc: Global,
+    book: &Book,
+    request: &Request,
+    network: &mut Network,
+    residual: &Residual,
+    offers: &mut O,
+) -> Result<(), Mem>
+    requires request { IsRequest request.now }
+    requires network { IsNetwork book.now request.now network.old }
+    ensures network { IsNetwork book.now request.now network.new }
+    ensures settled { OnOk result (HasKeysSettled book.now request.now (O.settled offers.new) residual.now) }
+    ensures base { O.base offers.new ≡ O.base offers.old }
+    ensures stays { (a : Asked) → O.settled offers.old a → O.settled offers.new a }
+{
+    for number in schedule_of(book).from_place(residual.at.place, residual.at.lo, residual.at.hi) {
+        let one = begun_by(residual, *number);
+        take_keys(alloc, book, request, network, &one, offers)?;
+    }
+    Ok(())
+}
+
+/// The residual from where the flight of this number alone leads on.
+fn begun_by(residual: &Residual, number: u32) -> Residual
+    requires { number < residual.now.at.hi }
+    ensures { result ≡ begun_by residual.now number }
+{
+    Residual {
+        at: narrowed(&residual.at, number),
+        ..*residual
+    }
+}
+
+/// The position from where the flight of this number alone leads on.
+fn narrowed(at: &Position, number: u32) -> Position
+    requires { number < at.now.hi }
+    ensures { result ≡ narrowed at.now number }
+{
+    Position {
+        slice: at.slice,
+        leg: at.leg,
+        place: at.place,
+        via: at.via,
+        lo: number,
+        hi: number + 1,
+    }
 }
 
 /// Takes the keys of a residual, path by path.
@@ -65,6 +116,9 @@ fn take_keys<O: OfferSource>(
     }
     let paths = served_paths(alloc, book, request, network, &residual.at)?;
     for path in paths.as_slice() {
+        if offers.settles_home(home_over(book, path)) {
+            continue;
+        }
         let way = Way::of(book, request, path);
         take_way(alloc, book, &mut network.markets, residual, &way, offers)?;
     }

@@ -5,3 +5,4 @@ pub mod Listed
 pub mod OneList
 pub mod Prices
 pub mod Steps
+pub mod Weighing

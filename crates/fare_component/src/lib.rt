@@ -4,12 +4,14 @@
 #![tactic(auto)]
 
 mod component;
+mod homes;
 mod laws;
 mod list;
 mod offer;
 mod source;
 
 pub use component::is_offered;
+pub use homes::weighed;
 pub use laws::{no_offers, one_list, prices_are_low, same_offers};
 pub use list::offers;
 pub use offer::{Offer, OfferRows};

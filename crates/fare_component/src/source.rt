@@ -1,5 +1,6 @@
 //! Where a search has its offers from.
-ghost use Rattle.std.specs.Prelude.{◌≡◌, ⊤, ℕ, List, [], IfOk, IsTrue, OnOk};
+ghost use Rattle.std.specs.Prelude.{◌≡◌, ◌<◌, ◌^◌, ⊤, ℕ, List, [], IfOk, IsTrue, OnOk};
+ghost use Rattle.fare_component.specs.Homes.{home_of};
 ghost use Rattle.fare_component.specs.Keys.{Asked, IsKey, asked};
 ghost use Rattle.fare_component.specs.Offers.{AreOffers, HasNoOffers};
 
@@ -20,6 +21,14 @@ pub trait OfferSource {
     /// who needs no offers of a key need not take them to have it settled.
     fn settles_all(&self) -> bool
         ensures { IsTrue result → (a : Asked) → settled self.now a };
+
+    /// Whether all is settled that keys of this home may ask for. It is true only then, so a caller who needs no offers of such
+    /// a key need not make it.
+    fn settles_home(&mut self, home: usize) -> bool
+        requires { home < 2 ^ 50 }
+        ensures base { base self.new ≡ base self.old }
+        ensures stays { (a : Asked) → settled self.old a → settled self.new a }
+        ensures those { IsTrue result → (a : Asked) → home_of a ≡ home → settled self.new a };
 
     /// The offers of a key. What is settled stays so, and after `Ok` what the key asks for is settled.
     fn take(&mut self, alloc: Global, key: OfferKey) -> Result<Arc<OfferRows>, Mem>
@@ -45,6 +54,10 @@ impl OfferSource for Plain {
     fn settles_all(&self) -> bool
         ensures { IsTrue result }
     {
+        true
+    }
+
+    fn settles_home(&mut self, _home: usize) -> bool {
         true
     }
 

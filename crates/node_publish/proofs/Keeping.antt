@@ -1,6 +1,11 @@
 -- What a walk over the home cells of a key knows.
-use Rattle.std.proofs.Common.{◌≡◌, ◌≢◌, ◌⊎◌, ℕ, ◌+◌, ◌<◌, ◌∙◌, ap, sym, subst, List, length, Some, inl, inr, ⊎_elim}
-use Rattle.fare_component.specs.Keys.{Asked}
+use Rattle.std.proofs.Common.{◌≡◌, ◌≢◌, ℕ, ◌+◌, ◌<◌, ◌∙◌, ap, sym, subst, List, length, Some, inl, inr, ⊎_elim}
+use Rattle.fare_component.specs.Keys.{Asked, IsKey, IsLeg, IsRow, asked}
+use Rattle.fare_law.specs.declared.limits.TheConstants.{MOST_FLIGHTS_OF_A_COMPONENT}
+use Rattle.fare_law.specs.declared.market.OfferKey.{OfferKey}
+use Rattle.fare_law.specs.Lists.{Each}
+use Rattle.fare_law.specs.RuleLimits.{IsListOf}
+use Rattle.fare_law.specs.Sheets.{IsSheet}
 use Rattle.node_publish.specs.Homes.{Known, at_cell, at_home, home, homes, Keeps, ReadsAt, IsTaken, Knows, HasNoRoom, StaysPublished}
 use Rattle.law_lemmas.proofs.Numbers.{here_or_before}
 
@@ -45,4 +50,12 @@ knows_here p q a found j at names own r is less same = record {
   place = j;
   within = subst (λ (l : List ℕ). j < homes (length l)) (sym (r.keeps.cells ∙ own)) less;
   here = subst (λ (m : ℕ). at_cell q m ≡ Some found) (is ∙ ap (λ l. home (length l) a j) (sym (r.keeps.cells ∙ own))) r.here ∙ ap Some same;
+}
+
+-- a key that asks for the same is one too
+pub key_like : (k l : OfferKey) → asked k ≡ asked l → IsKey k → IsKey l
+key_like k l e h = record {
+  legs = subst (λ (a : Asked). IsListOf MOST_FLIGHTS_OF_A_COMPONENT IsLeg a.legs) e h.legs;
+  sheet = subst (λ (a : Asked). IsSheet a.sheet.from a.sheet.to a.sheet.rows) e h.sheet;
+  rows = subst (λ (a : Asked). Each IsRow a.sheet.rows) e h.rows;
 }

@@ -2,4 +2,4 @@ pub mod Keeping
 pub mod Notes
 pub mod SameLegs
 pub mod SameRows
-pub mod Weighing
+pub mod Filling

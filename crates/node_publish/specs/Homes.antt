@@ -1,18 +1,7 @@
 -- Where the node of a key may be kept, and what a pass knows of the cells of a store.
-use Rattle.std.specs.Prelude.{◌≡◌, ◌≢◌, ◌⊎◌, ℕ, ◌+◌, ◌*◌, ◌%◌, ◌<◌, min, List, [], ◌∷◌, length, slice_index_or, unsigned_abs, Option, Some, None}
-use Rattle.fare_law.specs.declared.sheets.Leg.{Leg}
+use Rattle.std.specs.Prelude.{◌≡◌, ◌≢◌, ◌⊎◌, ℕ, ◌+◌, ◌%◌, ◌<◌, min, List, length, slice_index_or, Option, Some, None}
+use Rattle.fare_component.specs.Homes.{home_of}
 use Rattle.fare_component.specs.Keys.{Asked}
-
-abbrev pub leg_number : Leg → ℕ
-leg_number leg = 10000 * unsigned_abs leg.flight.day + leg.flight.number
-
--- the legs' numbers, the first of them so many times, and each further one once more
-abbrev pub weighed : ℕ → List Leg → ℕ
-weighed times [] = 0
-weighed times (leg ∷ legs) = times * leg_number leg + weighed (times + 1) legs
-
-abbrev pub home_of : Asked → ℕ
-home_of a = weighed 1 a.legs
 
 -- how many home cells a key has among n cells
 abbrev pub homes : ℕ → ℕ

@@ -1,10 +1,11 @@
 //! Keys: whether two ask for the same, and where the node of one may be kept.
-ghost use Rattle.std.specs.Prelude.{◌≡◌, ◌↔◌, ◌*◌, ◌<◌, ◌≤◌, ◌^◌, IsTrue, length, slice_index_or, take};
+ghost use Rattle.std.specs.Prelude.{◌≡◌, ◌↔◌, ◌<◌, ◌^◌, IsTrue, length, slice_index_or, take};
+ghost use Rattle.fare_component.specs.Homes.{home_of};
 ghost use Rattle.fare_component.specs.Keys.{asked};
 ghost use Rattle.fare_law.specs.declared.sheets.SheetRow.{SheetRow};
-ghost use Rattle.node_publish.specs.Homes.{home_of, leg_number};
 
-use fare_law::{Leg, MOST_FLIGHTS_OF_A_COMPONENT, MarketSheet, OfferKey};
+use fare_component::weighed;
+use fare_law::{Leg, MarketSheet, OfferKey};
 
 /// Whether two keys ask for the same: equal legs, and sheets of one market with equal rows.
 pub fn asks_same(one: &OfferKey, other: &OfferKey) -> bool
@@ -67,24 +68,8 @@ pub fn home_of(key: &OfferKey) -> usize
     let mut home = 0;
     let mut times = 1;
     for leg in key.legs.as_slice() {
-        home += many_times(times, leg_number(leg));
+        home += weighed(times, &leg.flight);
         times += 1;
     }
     home
-}
-
-fn many_times(times: usize, number: usize) -> usize
-    requires few { times ≤ MOST_FLIGHTS_OF_A_COMPONENT }
-    requires low { number < 2 ^ 45 }
-    ensures value { result ≡ times * number }
-    ensures low { result < 2 ^ 47 }
-{
-    times * number
-}
-
-fn leg_number(leg: &Leg) -> usize
-    ensures value { result ≡ leg_number leg.now }
-    ensures low { result < 2 ^ 45 }
-{
-    10000 * leg.flight.day.unsigned_abs() as usize + leg.flight.number as usize
 }

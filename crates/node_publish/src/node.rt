@@ -38,6 +38,15 @@ impl Node {
         Ok(Node { key, offers })
     }
 
+    /// The node of a key that stays, with its offers built anew.
+    pub fn build_for(alloc: Global, key: &OfferKey) -> Result<Node, Mem>
+        requires { IsKey key.now }
+        ensures { IfOk result (λ node. node ≡ asked key.now) }
+    {
+        let key = copied(key)?;
+        Node::build(alloc, key)
+    }
+
     /// Whether it is a node of the key.
     pub fn is_for(&self, key: &OfferKey) -> bool
         ensures { IsTrue result ↔ (self.now ≡ asked key.now) }
@@ -58,12 +67,19 @@ impl Node {
     pub fn copy(&self) -> Result<Node, Mem>
         ensures { IfOk result (λ node. node ≡ self.now) }
     {
-        let key = OfferKey {
-            legs: self.key.legs.copied(),
-            sheet: Arc::try_clone(&self.key.sheet)?,
-        };
+        let key = copied(&self.key)?;
         let offers = Arc::try_clone(&self.offers)?;
         same_offers();
         Ok(Node { key, offers })
     }
+}
+
+/// A second key with the same sheet.
+fn copied(key: &OfferKey) -> Result<OfferKey, Mem>
+    ensures { IfOk result (λ copy. asked copy ≡ asked key.now) }
+{
+    Ok(OfferKey {
+        legs: key.legs.copied(),
+        sheet: Arc::try_clone(&key.sheet)?,
+    })
 }

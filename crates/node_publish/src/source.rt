@@ -1,6 +1,5 @@
 //! Offers by way of a store of nodes.
 ghost use Rattle.std.specs.Prelude.{◌≡◌, ◌⊎◌, IfOk};
-ghost use Rattle.fare_component.specs.Keys.{IsKey, asked};
 ghost use Rattle.fare_component.specs.Offers.{HasNoOffers};
 ghost use Rattle.node_publish.specs.Homes.{Published};
 
@@ -35,30 +34,22 @@ impl<'a, G: Gate> OfferSource for StoreSource<'a, G> {
         false
     }
 
+    fn settles_home(&mut self, home: usize) -> bool {
+        self.store.is_full(&mut self.pass, home)
+    }
+
     fn take(&mut self, alloc: Global, key: OfferKey) -> Result<Arc<OfferRows>, Mem> {
         let store = self.store;
         if let Some(node) = store.find(&mut self.pass, &key) {
             return shared(node.offers_for(&key));
         }
         self.gate.pass(self.desk);
-        let node = built(alloc, &key)?;
+        let node = Node::build_for(alloc, &key)?;
         match store.keep(alloc, &mut self.pass, &node)? {
             Kept::Here(kept) => shared(kept.offers_for(&key)),
             Kept::NoRoom => shared(node.offers_for(&key)),
         }
     }
-}
-
-/// The node of the key.
-fn built(alloc: Global, key: &OfferKey) -> Result<Node, Mem>
-    requires { IsKey key.now }
-    ensures { IfOk result (λ node. node ≡ asked key.now) }
-{
-    let key = OfferKey {
-        legs: key.legs.copied(),
-        sheet: Arc::try_clone(&key.sheet)?,
-    };
-    Node::build(alloc, key)
 }
 
 /// A second pointer to the offers.

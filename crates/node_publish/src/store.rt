@@ -1,9 +1,10 @@
 //! Cells that nodes are kept in, and what a desk knows of them.
-ghost use Rattle.std.specs.Prelude.{◌≡◌, ◌+◌, ◌%◌, ◌<◌, ◌≤◌, ℕ, length, IsNone, IsSome, IfNone, IfOk, IfSome, OnErr, Some, None};
+ghost use Rattle.std.specs.Prelude.{◌≡◌, ◌+◌, ◌%◌, ◌<◌, ◌≤◌, ◌^◌, ℕ, length, IsNone, IsSome, IsTrue, IfNone, IfOk, IfSome, OnErr, Some, None};
 ghost use Rattle.std.specs.Option.{option_copied};
-ghost use Rattle.fare_component.specs.Keys.{asked};
+ghost use Rattle.fare_component.specs.Homes.{home_of};
+ghost use Rattle.fare_component.specs.Keys.{Asked, asked};
 ghost use Rattle.node_publish.specs.Found.{IsHere, IsKept};
-ghost use Rattle.node_publish.specs.Homes.{HasNoRoom, Keeps, Knows, ReadsAt, StaysPublished, at_cell, home, homes};
+ghost use Rattle.node_publish.specs.Homes.{HasNoRoom, Keeps, Knows, Published, ReadsAt, StaysPublished, at_cell, home, homes};
 
 use crate::Node;
 use crate::cells::settle;
@@ -123,6 +124,24 @@ impl NodeStore {
         Ok(Kept::NoRoom)
     }
 
+    /// Whether a node stands in each home cell of the keys of this home. Then each of them is published: one of the nodes is its
+    /// own, or there is no room for it.
+    pub fn is_full(&self, pass: &mut StorePass, home: usize) -> bool
+        requires own { pass.old.cells ≡ self.now }
+        requires low { home < 2 ^ 50 }
+        ensures keeps { Keeps pass.old pass.new }
+        ensures stays { StaysPublished pass.old pass.new }
+        ensures full { IsTrue result → (a : Asked) → home_of a ≡ home → Published pass.new a }
+    {
+        for j in 0..self.homes() {
+            let at = self.cell(home, j);
+            let Some(_node) = self.read(pass, at) else {
+                return false;
+            };
+        }
+        true
+    }
+
     /// How many home cells a key has.
     fn homes(&self) -> usize
         ensures { result ≡ homes (length self.now) }
@@ -136,7 +155,17 @@ impl NodeStore {
         ensures value { result ≡ home (length self.now) (asked key.now) j }
         ensures within { result < length self.now }
     {
-        (home_of(key) + j) % self.cells.len()
+        self.cell(home_of(key), j)
+    }
+
+    /// The j-th cell from this home on.
+    fn cell(&self, home: usize, j: usize) -> usize
+        requires low { home < 2 ^ 50 }
+        requires few { j < 8 }
+        ensures value { result ≡ (home + j) % length self.now }
+        ensures within { result < length self.now }
+    {
+        (home + j) % self.cells.len()
     }
 
     fn read<'a>(&'a self, pass: &mut StorePass, at: usize) -> Option<&'a Node>

@@ -16,9 +16,9 @@ loop-residual-preserved g c =
     let i = c.loop-residual.residual-index in
     let residual = c.residual-item.result in
     let before = c.loop-residual.invariant in
-    let now = c.in_ok-take_keys.ensures in
+    let now = c.in_ok-take_all.ensures in
     let Before = HasKeysSettled c.args.book.now c.args.request.now (g.O.OfferSource.settled c.loop-residual.offers) in
-    let Now = HasKeysSettled c.args.book.now c.args.request.now (g.O.OfferSource.settled c.take_keys.new.offers) in
+    let Now = HasKeysSettled c.args.book.now c.args.request.now (g.O.OfferSource.settled c.take_all.new.offers) in
     record {
       network = now.network;
       settled =

@@ -1,6 +1,6 @@
 use Rattle.std.proofs.Common.{◌≡◌, ◌≤◌, ◌+◌, ◌*◌, drop, length}
 use Rattle.fare_law.specs.declared.limits.TheConstants.{MOST_FLIGHTS_OF_A_COMPONENT}
-use Rattle.node_publish.specs.Homes.{weighed}
+use Rattle.fare_component.specs.Homes.{weighed}
 use Rattle.node_publish.proofs.keys.home_of.Given as goal
 
 abbrev pub invariant-loop-leg : goal.invariant-loop-leg
