@@ -11,7 +11,7 @@ use Rattle.lowfare.specs.Checked.{FailsCheck, MeetsChecks}
 use Rattle.lowfare.specs.Makes.{Makes, Owes}
 use Rattle.lowfare.specs.Refusals.{HasRefusal}
 use Rattle.lowfare.specs.declared.status.Status.{Status}
-use Rattle.lowfare.specs.declared.status.Status.TheVariants.{Done, Refused, Usage, ReadFault, WriteFault, OutOfMemory, TooLarge, No, TooLong}
+use Rattle.lowfare.specs.declared.status.Status.TheVariants.{Done, Refused, No}
 use Rattle.program_words.specs.declared.commands.Command.TheVariants.{Check}
 use Rattle.lowfare.proofs.Apart.{spelled_refused}
 use Rattle.law_lemmas.proofs.Options.{ok_same}
@@ -21,12 +21,7 @@ module _ (best at : Option ℕ) (bytes : List ℕ) where
   check_made Done text m = m.case
   check_made No text m = m.case
   check_made Refused text m = m.cause
-  check_made Usage text m = absurd m
-  check_made ReadFault text m = absurd m
-  check_made WriteFault text m = absurd m
-  check_made OutOfMemory text m = absurd m
-  check_made TooLarge text m = absurd m
-  check_made TooLong text m = absurd m
+  check_made other text m = absurd m
 
   -- which status is owed, and what for
   abbrev Due : Status → Type 0
@@ -36,12 +31,7 @@ module _ (best at : Option ℕ) (bytes : List ℕ) where
   by_status Done h = inl (refl, h)
   by_status No h = inr (inl (refl, h))
   by_status Refused h = inr (inr (refl, h))
-  by_status Usage h = absurd h
-  by_status ReadFault h = absurd h
-  by_status WriteFault h = absurd h
-  by_status OutOfMemory h = absurd h
-  by_status TooLarge h = absurd h
-  by_status TooLong h = absurd h
+  by_status other h = absurd h
 
   module _ (one : IsOne (check_case best at bytes)) (failure : (c : Certificate) (b : Book) (q : Request) → OneFailure c b q) where
     meets_fails : MeetsChecks best at bytes → FailsCheck best at bytes → ⊥

@@ -6,32 +6,19 @@ use Rattle.whole_case.specs.Stages.{IsOne}
 use Rattle.lowfare.specs.Made.{default_budget}
 use Rattle.lowfare.specs.Makes.{Makes, Owes}
 use Rattle.lowfare.specs.declared.status.Status.{Status}
-use Rattle.lowfare.specs.declared.status.Status.TheVariants.{Done, Refused, Usage, ReadFault, WriteFault, OutOfMemory, TooLarge, No, TooLong}
+use Rattle.lowfare.specs.declared.status.Status.TheVariants.{Done, TooLarge}
 use Rattle.program_words.specs.declared.commands.Command.TheVariants.{Make, Search}
 use Rattle.lowfare.proofs.SearchOwes.{search_owes_one}
 
 module _ (seed size : ℕ) (bytes : List ℕ) where
   text_made : (status : Status) (text : List ℕ) → Makes (Make seed size false) bytes status text → Owes (Make seed size false) bytes status
   text_made Done text m = tt
-  text_made TooLarge text m = absurd m
-  text_made Refused text m = absurd m
-  text_made Usage text m = absurd m
-  text_made ReadFault text m = absurd m
-  text_made WriteFault text m = absurd m
-  text_made OutOfMemory text m = absurd m
-  text_made No text m = absurd m
-  text_made TooLong text m = absurd m
+  text_made other text m = absurd m
 
   summary_made : (status : Status) (text : List ℕ) → Makes (Make seed size true) bytes status text → Owes (Make seed size true) bytes status
   summary_made Done text m = m.case
   summary_made TooLarge text m = m.case
-  summary_made Refused text m = absurd m
-  summary_made Usage text m = absurd m
-  summary_made ReadFault text m = absurd m
-  summary_made WriteFault text m = absurd m
-  summary_made OutOfMemory text m = absurd m
-  summary_made No text m = absurd m
-  summary_made TooLong text m = absurd m
+  summary_made other text m = absurd m
 
   pub make_made : (is_summary : Bool) (status : Status) (text : List ℕ) → Makes (Make seed size is_summary) bytes status text → Owes (Make seed size is_summary) bytes status
   make_made false status text m = text_made status text m
@@ -39,26 +26,13 @@ module _ (seed size : ℕ) (bytes : List ℕ) where
 
   is_done : (status : Status) → Owes (Make seed size false) bytes status → status ≡ Done
   is_done Done h = refl
-  is_done TooLarge h = absurd h
-  is_done Refused h = absurd h
-  is_done Usage h = absurd h
-  is_done ReadFault h = absurd h
-  is_done WriteFault h = absurd h
-  is_done OutOfMemory h = absurd h
-  is_done No h = absurd h
-  is_done TooLong h = absurd h
+  is_done other h = absurd h
 
   -- a summary owes what a search of the made case does
   as_search : (status : Status) → Owes (Make seed size true) bytes status → Owes (Search None default_budget None) (made_case seed size) status
   as_search Done h = h
   as_search TooLarge h = h
-  as_search Refused h = absurd h
-  as_search Usage h = absurd h
-  as_search ReadFault h = absurd h
-  as_search WriteFault h = absurd h
-  as_search OutOfMemory h = absurd h
-  as_search No h = absurd h
-  as_search TooLong h = absurd h
+  as_search other h = absurd h
 
   pub make_owes_one : IsOne (search_case None None (made_case seed size)) → (is_summary : Bool) (status due : Status) → Owes (Make seed size is_summary) bytes status → Owes (Make seed size is_summary) bytes due → status ≡ due
   make_owes_one one false status due h k = is_done status h ∙ sym (is_done due k)

@@ -8,7 +8,7 @@ use Rattle.lowfare.specs.Cases.{ExceedsBudget, FitsBudget}
 use Rattle.lowfare.specs.Makes.{Makes, Owes}
 use Rattle.lowfare.specs.Refusals.{HasRefusal}
 use Rattle.lowfare.specs.declared.status.Status.{Status}
-use Rattle.lowfare.specs.declared.status.Status.TheVariants.{Done, Refused, Usage, ReadFault, WriteFault, OutOfMemory, TooLarge, No, TooLong}
+use Rattle.lowfare.specs.declared.status.Status.TheVariants.{Done, Refused, TooLarge}
 use Rattle.program_words.specs.declared.commands.Command.TheVariants.{Search}
 use Rattle.lowfare.proofs.Apart.{spelled_refused}
 use Rattle.law_lemmas.proofs.Options.{ok_same}
@@ -18,12 +18,7 @@ module _ (best : Option ℕ) (budget : ℕ) (at : Option ℕ) (bytes : List ℕ)
   search_made Done text m = m.case
   search_made TooLarge text m = m.case
   search_made Refused text m = m.cause
-  search_made Usage text m = absurd m
-  search_made ReadFault text m = absurd m
-  search_made WriteFault text m = absurd m
-  search_made OutOfMemory text m = absurd m
-  search_made No text m = absurd m
-  search_made TooLong text m = absurd m
+  search_made other text m = absurd m
 
   -- which status is owed, and what for
   abbrev Due : Status → Type 0
@@ -33,12 +28,7 @@ module _ (best : Option ℕ) (budget : ℕ) (at : Option ℕ) (bytes : List ℕ)
   by_status Done h = inl (refl, h)
   by_status TooLarge h = inr (inl (refl, h))
   by_status Refused h = inr (inr (refl, h))
-  by_status Usage h = absurd h
-  by_status ReadFault h = absurd h
-  by_status WriteFault h = absurd h
-  by_status OutOfMemory h = absurd h
-  by_status No h = absurd h
-  by_status TooLong h = absurd h
+  by_status other h = absurd h
 
   module _ (one : IsOne (search_case best at bytes)) where
     within_beyond : FitsBudget best budget at bytes → ExceedsBudget best budget at bytes → ⊥

@@ -4,7 +4,7 @@ use Rattle.whole_case.specs.ServeCases.{serve_case}
 use Rattle.whole_case.specs.Stages.{IsOne}
 use Rattle.lowfare.specs.Makes.{Makes, Owes}
 use Rattle.lowfare.specs.declared.status.Status.{Status}
-use Rattle.lowfare.specs.declared.status.Status.TheVariants.{Done, Refused, Usage, ReadFault, WriteFault, OutOfMemory, TooLarge, No, TooLong}
+use Rattle.lowfare.specs.declared.status.Status.TheVariants.{Done, Refused}
 use Rattle.program_words.specs.declared.commands.Command.TheVariants.{Serve}
 use Rattle.lowfare.proofs.DoneOrRefused.{IsEither, one_of_two}
 
@@ -12,24 +12,12 @@ module _ (best : Option ℕ) (budget : ℕ) (bytes : List ℕ) where
   pub serve_made : (status : Status) (text : List ℕ) → Makes (Serve best budget) bytes status text → Owes (Serve best budget) bytes status
   serve_made Done text m = m.case
   serve_made Refused text m = m.cause
-  serve_made TooLarge text m = absurd m
-  serve_made Usage text m = absurd m
-  serve_made ReadFault text m = absurd m
-  serve_made WriteFault text m = absurd m
-  serve_made OutOfMemory text m = absurd m
-  serve_made No text m = absurd m
-  serve_made TooLong text m = absurd m
+  serve_made other text m = absurd m
 
   by_status : (status : Status) → Owes (Serve best budget) bytes status → IsEither (serve_case best bytes) status
   by_status Done h = inl (refl, h.found, h.spelled)
   by_status Refused h = inr (refl, h)
-  by_status TooLarge h = absurd h
-  by_status Usage h = absurd h
-  by_status ReadFault h = absurd h
-  by_status WriteFault h = absurd h
-  by_status OutOfMemory h = absurd h
-  by_status No h = absurd h
-  by_status TooLong h = absurd h
+  by_status other h = absurd h
 
   pub serve_owes_one : IsOne (serve_case best bytes) → (status due : Status) → Owes (Serve best budget) bytes status → Owes (Serve best budget) bytes due → status ≡ due
   serve_owes_one one status due h k = one_of_two (serve_case best bytes) one status due (by_status status h) (by_status due k)

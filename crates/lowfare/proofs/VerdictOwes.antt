@@ -4,7 +4,7 @@ use Rattle.whole_case.specs.Cases.{verdict_case}
 use Rattle.whole_case.specs.Stages.{IsOne}
 use Rattle.lowfare.specs.Makes.{Makes, Owes}
 use Rattle.lowfare.specs.declared.status.Status.{Status}
-use Rattle.lowfare.specs.declared.status.Status.TheVariants.{Done, Refused, Usage, ReadFault, WriteFault, OutOfMemory, TooLarge, No, TooLong}
+use Rattle.lowfare.specs.declared.status.Status.TheVariants.{Done, Refused}
 use Rattle.program_words.specs.declared.commands.Command.TheVariants.{Verdict}
 use Rattle.lowfare.proofs.DoneOrRefused.{IsEither, one_of_two}
 
@@ -12,24 +12,12 @@ module _ (at : Option ℕ) (bytes : List ℕ) where
   pub verdict_made : (status : Status) (text : List ℕ) → Makes (Verdict at) bytes status text → Owes (Verdict at) bytes status
   verdict_made Done text m = m.case
   verdict_made Refused text m = m.cause
-  verdict_made TooLarge text m = absurd m
-  verdict_made Usage text m = absurd m
-  verdict_made ReadFault text m = absurd m
-  verdict_made WriteFault text m = absurd m
-  verdict_made OutOfMemory text m = absurd m
-  verdict_made No text m = absurd m
-  verdict_made TooLong text m = absurd m
+  verdict_made other text m = absurd m
 
   by_status : (status : Status) → Owes (Verdict at) bytes status → IsEither (verdict_case at bytes) status
   by_status Done h = inl (refl, h.found, h.spelled)
   by_status Refused h = inr (refl, h)
-  by_status TooLarge h = absurd h
-  by_status Usage h = absurd h
-  by_status ReadFault h = absurd h
-  by_status WriteFault h = absurd h
-  by_status OutOfMemory h = absurd h
-  by_status No h = absurd h
-  by_status TooLong h = absurd h
+  by_status other h = absurd h
 
   pub verdict_owes_one : IsOne (verdict_case at bytes) → (status due : Status) → Owes (Verdict at) bytes status → Owes (Verdict at) bytes due → status ≡ due
   verdict_owes_one one status due h k = one_of_two (verdict_case at bytes) one status due (by_status status h) (by_status due k)
