@@ -21,7 +21,8 @@ use pricing_graph::GraphFault;
 use residual_keys::root;
 use residual_table::ResidualKey;
 use search_steps::{
-    Bounds, ResidualRows, SearchSteps, least_prices_are_least, reached_states_are_reached,
+    Bounds, ListsAfter, ResidualRows, SearchSteps, least_prices_are_least,
+    reached_states_are_reached,
 };
 use std::alloc::Global;
 
@@ -82,7 +83,7 @@ fn reached_rows(
     reached_states_are_reached();
     limits_are_met();
     steps.case().book.limits();
-    match steps.reached(alloc, key, budget) {
+    match steps.reached(alloc, key, budget, ListsAfter::Kept) {
         Ok(rows) => Ok(rows),
         Err(fault) => Err(fault_of(fault, budget)),
     }

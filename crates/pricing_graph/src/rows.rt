@@ -10,7 +10,9 @@ use crate::GraphFault;
 use fare_rules::limits_are_met;
 use graph_walk::WalkFault;
 use residual_keys::root;
-use search_steps::{ResidualRows, SearchSteps, least_prices_are_least, reached_states_are_reached};
+use search_steps::{
+    ListsAfter, ResidualRows, SearchSteps, least_prices_are_least, reached_states_are_reached,
+};
 use std::alloc::Global;
 
 /// What a search reaches, each once, with the least prices.
@@ -33,7 +35,7 @@ pub fn reached_rows(
     case.book.limits();
     let root = root(case.book, case.request);
     let root = steps.key_of(root)?;
-    match steps.reached(alloc, root, budget) {
+    match steps.reached(alloc, root, budget, ListsAfter::LetGo) {
         Ok(rows) => Ok(rows),
         Err(fault) => Err(fault_of(fault, budget)),
     }

@@ -2,13 +2,11 @@
 use Rattle.std.proofs.Common.{◌≡◌, ◌∙◌, ℕ, ◌≤◌, List, [], ◌∷◌, suc, length, map, Option, Some, None, refl, sym, ap, subst, inl, inr, arith}
 use Rattle.cheap_moves.specs.declared.least.CountedMove.{CountedMove}
 use Rattle.cheap_moves.specs.LeastMoves.{AreLeastMoves as AreCounted, Counts as CountsFor, IsSooner as IsBefore}
-use Rattle.cheap_moves.specs.Within.{rest_of, total_of}
+use Rattle.cheap_moves.specs.Within.{rest_of}
 use Rattle.cheap_moves.proofs.LeastWithin.{total_is}
-use Rattle.fare_law.specs.declared.moves.Move.{Move}
 use Rattle.fare_law.specs.declared.requests.Request.{Request}
 use Rattle.fare_law.specs.Book.{Book}
 use Rattle.fare_law.specs.Lists.{Each, EachPair, IsIn, KLeast}
-use Rattle.residual_keys.specs.declared.residual.Chosen.{Chosen}
 use Rattle.residual_keys.specs.declared.residual.Next.{Next}
 use Rattle.residual_keys.specs.declared.residual.Next.TheVariants.{At, Done}
 use Rattle.residual_keys.specs.Residuals.{State}

@@ -13,3 +13,4 @@ pub mod ListedSteps
 pub mod RowsByNumber
 pub mod SortedKeys
 pub mod KeyedBounds
+pub mod RunSteps

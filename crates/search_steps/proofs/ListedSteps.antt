@@ -1,5 +1,5 @@
 -- Lists of steps, as they grow entry by entry.
-use Rattle.std.proofs.Common.{◌≡◌, ◌≢◌, ◌⊎◌, ◌↔◌, ◌∙◌, ℤ, ◌≤◌, true, List, [], ◌∷◌, ◌++◌, Option, Some, None, IsSome, ap, refl, subst, sym, inl, inr, arith}
+use Rattle.std.proofs.Common.{◌≡◌, ◌≢◌, ◌⊎◌, ◌↔◌, ◌∙◌, ℕ, ℤ, ◌≤◌, false, true, List, [], ◌∷◌, ◌++◌, Option, Some, None, IsSome, ap, refl, subst, sym, inl, inr, arith}
 use Rattle.fare_law.specs.declared.names.Place.{Place}
 use Rattle.fare_law.specs.Lists.{Each, IsIn}
 use Rattle.flight_paths.specs.declared.positions.Position.{Position}
@@ -9,15 +9,18 @@ use Rattle.outlines.specs.declared.marks.Listed.{Listed}
 use Rattle.outlines.specs.declared.marks.Mark.{Mark}
 use Rattle.outlines.specs.declared.outline.Entry.{Entry}
 use Rattle.outlines.specs.Marks.{IsList, mark_of, written}
+use Rattle.outlines.specs.Outcomes.{EntryWithin}
 use Rattle.residual_table.specs.Keys.{Grows, IsSlot, Tables as Numbers}
 use Rattle.search_steps.specs.declared.listing.Doing.{Doing}
 use Rattle.search_steps.specs.declared.listing.Doing.TheVariants.{Alone, Joining, Opening}
 use Rattle.search_steps.specs.declared.listing.Listing.{Listing}
+use Rattle.search_steps.specs.declared.listing.TableSteps.{TableSteps}
 use Rattle.search_steps.specs.declared.numbered.Step.{Step}
-use Rattle.search_steps.specs.Listing.{IsDoing, IsListed, LeavesUnit, StepsOneMore}
-use Rattle.search_steps.specs.Numbers.{AreSteps, AreStepsOf, IsBare, IsStep}
+use Rattle.search_steps.specs.Listing.{AreListed, IsDoing, IsListed, LeavesUnit, StepsOneMore, leaves_by}
+use Rattle.search_steps.specs.Numbers.{AreBare, AreSteps, AreStepsOf, IsBare, IsStep}
+use Rattle.search_steps.specs.Runs.{AreRuns}
 use Rattle.search_steps.specs.Shortening.{HasNoDearer, IsShorter}
-use Rattle.search_steps.proofs.ListsByNumber.{slot_stays, steps_stay}
+use Rattle.search_steps.proofs.ListsByNumber.{bare_stay, slot_stays, steps_stay}
 use Rattle.search_steps.proofs.Shorter.{list_of_steps, mark_one, shorter_steps}
 use Rattle.law_lemmas.proofs.EachOne.{each_more, each_to}
 use Rattle.law_lemmas.proofs.Members.{in_either, in_left, in_right}
@@ -141,6 +144,16 @@ one_mark l e o u leaves is got m h =
     let same : u ≡ w.0 = some_same u w.0 (sym got ∙ (is w.0).1 (subst (IsListed l e) w.1 h)) in
     ap (λ z. mark_of e (Some z)) same ∙ sym w.1
 
+-- one that by its way leaves none open
+pub by_leaves : (l : Listing) (e : Entry) → leaves_by l.doing e.outline.reverse ≡ false → LeavesUnit l e false
+by_leaves l e = by l.doing
+  where
+    by : (d : Doing) → leaves_by d e.outline.reverse ≡ false → (m : Mark) → IsDoing d l.begin l.sale e m → m ≡ mark_of e None
+    by Alone h m is = is.1
+    by Opening h m is = cc
+    by (Joining u) h m (inl g) = let forward = g.0.1.forward in cc
+    by (Joining u) h m (inr c) = c.1
+
 -- and one that may leave none open leaves none
 pub no_mark : (l : Listing) (e : Entry) → LeavesUnit l e true → ((w : OpenUnit) → IsListed l e (mark_of e (Some w)) → ⊥) → (m : Mark) → IsListed l e m → ⊥
 no_mark l e leaves none m h = let w = leaves m h in none w.0 (subst (IsListed l e) w.1 h)
@@ -148,3 +161,15 @@ no_mark l e leaves none m h = let w = leaves m h in none w.0 (subst (IsListed l 
 -- steps of which some are left out that others make idle
 pub steps_shorter : (t : Numbers) (Is : Entry → Mark → Type 0) (table : List Entry) (ss kept : List Step) → IsShorter ss kept → AreStepsOf t Is table ss → AreStepsOf t Is table kept
 steps_shorter t Is table ss kept short h = list_of_steps t Is table h.list kept (shorter_steps t h.list ss kept h.steps short) h.is
+
+-- entries with what they are by numbers, where numbers grew
+pub listed_stay : (t u : Numbers) (table : TableSteps) → Grows t u → AreListed t table → AreListed u table
+listed_stay t u table g h = record { within = h.within; bare = bare_stay t u g table.entries.now table.bare.now h.bare; runs = h.runs }
+
+-- the entries of a table, with what they are and their runs, as they are handed over
+pub listed_of : (t : Numbers) (table : TableSteps) (bare seen : List Step) (runs : List ℕ) → Each EntryWithin table.entries.now → AreBare t table.entries.now bare → AreRuns table.entries.now seen runs → seen ≡ bare → table.bare.now ≡ bare → table.runs.now ≡ runs → AreListed t table
+listed_of t table bare seen runs within are has seen_is bare_is runs_is = record {
+  within = within;
+  bare = subst (AreBare t table.entries.now) (sym bare_is) are;
+  runs = subst (λ z. AreRuns table.entries.now z table.runs.now) (seen_is ∙ sym bare_is) (subst (AreRuns table.entries.now seen) (sym runs_is) has);
+}

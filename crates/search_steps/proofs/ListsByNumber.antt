@@ -156,6 +156,7 @@ position_stays q t u ts us g keeps s h = record {
   alone = marks_stay t u (IsAlone h.table.at.place q.sale) h.table.entries s.alone.items g h.alone;
   opening = marks_stay t u (IsOpening h.table.at.place q.sale) h.table.entries s.opening.items g h.opening;
   bare = bare_stay t u g h.table.entries s.bare.items h.bare;
+  runs = h.runs;
 }
 
 pub list_stays : (q : Request) (t u : Numbers) (ts us : List PositionTable) → Grows t u → KeepsNumbers ts us → (k : UnitSlot) (steps : List Step) → IsUnitList q t ts k steps → IsUnitList q u us k steps

@@ -9,3 +9,4 @@ pub mod Numbers
 pub mod Listing
 pub mod Placed
 pub mod Spreading
+pub mod Runs

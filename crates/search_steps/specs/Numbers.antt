@@ -27,6 +27,7 @@ use Rattle.search_steps.specs.declared.numbered.UnitSlot.{UnitSlot}
 use Rattle.search_steps.specs.declared.numbered.UnitSteps.{UnitSteps}
 use Rattle.search_steps.specs.declared.tables.PositionTable.{PositionTable}
 use Rattle.search_steps.specs.Giving.{GivenBy, LeftBy}
+use Rattle.search_steps.specs.Runs.{AreRuns}
 
 -- The step is this mark with its price, by numbers.
 pub record IsStep (t : Numbers) (x : Listed) (s : Step) : Type 0 where
@@ -106,6 +107,7 @@ pub record ArePositionSteps (q : Request) (t : Numbers) (ts : List PositionTable
   pub alone : AreStepsOf t (IsAlone table.at.place q.sale) table.entries s.alone.items
   pub opening : AreStepsOf t (IsOpening table.at.place q.sale) table.entries s.opening.items
   pub bare : AreBare t table.entries s.bare.items
+  pub runs : AreRuns table.entries s.bare.items s.runs.items
 
 -- These are the list of the open unit of a slot, from the table that stands at a place, by numbers.
 pub record IsUnitList (q : Request) (t : Numbers) (ts : List PositionTable) (k : UnitSlot) (ss : List Step) : Type 0 where

@@ -1,6 +1,6 @@
 //! Lists of steps: what the components of a table are where they stand alone, where they open a unit, and where they go on
 //! in an open unit or close it.
-ghost use Rattle.std.specs.Prelude.{◌≡◌, ◌↔◌, [], IfSome, IsSome, IsTrue, None, OnOk, Some, false, true};
+ghost use Rattle.std.specs.Prelude.{◌≡◌, ◌≤◌, ◌<◌, ◌↔◌, [], IfOk, IfSome, IsSome, IsTrue, None, OnOk, Some, false, length, take, true};
 ghost use Rattle.fare_law.specs.Days.{IsCalendarDay};
 ghost use Rattle.fare_law.specs.Lists.{Each};
 ghost use Rattle.open_unit.specs.declared.units.OpenUnit.{OpenUnit as Unit};
@@ -8,8 +8,8 @@ ghost use Rattle.open_unit.specs.Ranges.{UnitInRanges};
 ghost use Rattle.outlines.specs.Marks.{mark_of};
 ghost use Rattle.outlines.specs.Outcomes.{EntryWithin};
 ghost use Rattle.residual_table.specs.Keys.{Grows, Tables as Numbers};
-ghost use Rattle.search_steps.specs.Listing.{IsListed, KeepsUnit, LeavesUnit, StepsOneMore};
-ghost use Rattle.search_steps.specs.Numbers.{AreBare, AreStepsOf, IsBare};
+ghost use Rattle.search_steps.specs.Listing.{AreListed, IsListed, KeepsUnit, LeavesUnit, StepsOneMore, leaves_by};
+ghost use Rattle.search_steps.specs.Numbers.{AreStepsOf, IsBare};
 ghost use Rattle.search_steps.specs.Shortening.{HasNoDearer};
 
 use crate::numbered::Step;
@@ -36,25 +36,30 @@ pub struct Listing {
     pub sale: i32,
 }
 
-/// Makes the list of a table by numbers, where there is no step yet. For each entry it is given the step that leaves no unit
-/// open.
+/// The entries of a table, each with what it is where it leaves no unit open, and with how many of its run there are from it on.
+#[derive(Clone, Copy)]
+pub struct TableSteps<'a> {
+    pub entries: &'a [Entry],
+    pub bare: &'a [Step],
+    pub runs: &'a [u16],
+}
+
+/// Makes the list of a table by numbers, where there is no step yet.
 pub fn make_list(
     alloc: Global,
     steps: &mut Vec<Step>,
     numbers: &mut ResidualParts,
     listing: &Listing,
-    entries: &[Entry],
-    bare: &[Step],
+    table: &TableSteps<'_>,
 ) -> Result<(), Mem>
     requires empty { steps.old.items ≡ [] }
     requires sale { IsCalendarDay listing.now.sale }
     requires unit { KeepsUnit listing.now.doing }
-    requires within { Each EntryWithin entries.now }
-    requires bare { AreBare numbers.old entries.now bare.now }
-    ensures steps { OnOk result (AreStepsOf numbers.new (IsListed listing.now) entries.now steps.new.items) }
+    requires table { AreListed numbers.old table.now }
+    ensures steps { OnOk result (AreStepsOf numbers.new (IsListed listing.now) table.now.entries.now steps.new.items) }
     ensures grows { Grows numbers.old numbers.new }
 {
-    add_all(steps, numbers, listing, entries, bare)?;
+    add_all(steps, numbers, listing, table)?;
     if !leave_none_open(steps.as_slice()) {
         let kept = shortened(alloc, steps.as_slice())?;
         *steps = kept;
@@ -62,57 +67,61 @@ pub fn make_list(
     Ok(())
 }
 
-/// The same with steps that another of their mark makes idle, unless the one stands right before the other.
+/// The same with steps that another of their mark makes idle, unless the one is right before the other.
 fn add_all(
     steps: &mut Vec<Step>,
     numbers: &mut ResidualParts,
     listing: &Listing,
-    entries: &[Entry],
-    bare: &[Step],
+    table: &TableSteps<'_>,
 ) -> Result<(), Mem>
     requires empty { steps.old.items ≡ [] }
     requires sale { IsCalendarDay listing.now.sale }
     requires unit { KeepsUnit listing.now.doing }
-    requires within { Each EntryWithin entries.now }
-    requires bare { AreBare numbers.old entries.now bare.now }
-    ensures steps { OnOk result (AreStepsOf numbers.new (IsListed listing.now) entries.now steps.new.items) }
+    requires table { AreListed numbers.old table.now }
+    ensures steps { OnOk result (AreStepsOf numbers.new (IsListed listing.now) table.now.entries.now steps.new.items) }
     ensures grows { Grows numbers.old numbers.new }
 {
-    for at in 0..entries.len() {
-        add_step(steps, numbers, listing, &entries[at], &bare[at])?;
+    let mut at = 0;
+    while at < table.entries.len() {
+        at = add_from(steps, numbers, listing, table, at)?;
     }
     Ok(())
+}
+
+/// Adds what the component of the entry at a place is, and tells where to go on. Where a step with its mark is there at no
+/// higher price, all entries of its run are passed over: an open unit takes one of many that close it alike.
+fn add_from(
+    steps: &mut Vec<Step>,
+    numbers: &mut ResidualParts,
+    listing: &Listing,
+    table: &TableSteps<'_>,
+    at: usize,
+) -> Result<usize, Mem>
+    requires at { at < length table.now.entries.now }
+    requires sale { IsCalendarDay listing.now.sale }
+    requires unit { KeepsUnit listing.now.doing }
+    requires table { AreListed numbers.old table.now }
+    ensures later { IfOk result (λ next. at < next) }
+    ensures within { IfOk result (λ next. next ≤ length table.now.entries.now) }
+    ensures steps { IfOk result (λ next. AreStepsOf numbers.old (IsListed listing.now) (take at table.now.entries.now) steps.old.items → AreStepsOf numbers.new (IsListed listing.now) (take next table.now.entries.now) steps.new.items) }
+    ensures grows { Grows numbers.old numbers.new }
+{
+    let entry = &table.entries[at];
+    let bare = &table.bare[at];
+    if leaves_unit(listing, entry) {
+        add_open(steps, numbers, listing, entry, bare)?;
+        return Ok(at + 1);
+    }
+    if is_listed(steps.as_slice(), bare) {
+        return Ok(at + usize::from(table.runs[at]));
+    }
+    add_bare(steps, listing, entry, bare)?;
+    Ok(at + 1)
 }
 
 /// Whether no unit stays open after any of these: then those of one mark mostly stand together, and one of them is there.
 fn leave_none_open(steps: &[Step]) -> bool {
     steps.iter().all(|step| step.unit == 0)
-}
-
-/// Adds what an entry's component is. Of entries with one mark and no unit the first is enough where they stand together
-/// and the cheapest stands first.
-fn add_step(
-    steps: &mut Vec<Step>,
-    numbers: &mut ResidualParts,
-    listing: &Listing,
-    entry: &Entry,
-    bare: &Step,
-) -> Result<(), Mem>
-    requires sale { IsCalendarDay listing.now.sale }
-    requires unit { KeepsUnit listing.now.doing }
-    requires within { EntryWithin entry.now }
-    requires bare { IsBare numbers.old entry.now bare.now }
-    ensures steps { OnOk result (StepsOneMore numbers.old numbers.new (IsListed listing.now) entry.now steps.old.items steps.new.items) }
-    ensures grows { Grows numbers.old numbers.new }
-{
-    if is_listed(steps.as_slice(), bare) && !leaves_unit(listing, entry) {
-        return Ok(());
-    }
-    if leaves_unit(listing, entry) {
-        add_open(steps, numbers, listing, entry, bare)
-    } else {
-        add_bare(steps, listing, entry, bare)
-    }
 }
 
 /// Adds what an entry's component is where it leaves no unit open.
@@ -157,7 +166,8 @@ fn add_open(
 
 /// Whether an entry's component leaves a unit open, if it may stand in the list at all.
 fn leaves_unit(listing: &Listing, entry: &Entry) -> bool
-    ensures { LeavesUnit listing.now entry.now result }
+    ensures leaves { LeavesUnit listing.now entry.now result }
+    ensures by { result ≡ leaves_by listing.now.doing entry.now.outline.reverse }
 {
     match listing.doing {
         Doing::Alone => false,

@@ -30,6 +30,8 @@ pub struct PositionSteps {
     pub opening: Vec<Step>,
     /// For each entry of the table its mark where it leaves no unit open.
     pub bare: Vec<Step>,
+    /// For each entry how many of its run there are from it on.
+    pub runs: Vec<u16>,
 }
 
 /// What they are where they go on in an open unit or close it: a part of the steps of all open units.

@@ -28,6 +28,14 @@ use residual_table::{ResidualKey, ResidualParts, keys_found};
 use std::alloc::Global;
 use std::marker::Model;
 
+/// What becomes of the lists of steps after a walk. Of one search the walk alone needs them, and they take much of its room;
+/// the walks of a calendar's column share them.
+#[derive(Clone, Copy)]
+pub enum ListsAfter {
+    Kept,
+    LetGo,
+}
+
 /// A book and a request, with the tables and lists that were found so far. Contracts see the book, the request and the
 /// numbers.
 #[derive(Drop)]
@@ -156,13 +164,13 @@ impl<'a> NumberedCase<'a> {
         let _ = self.spare.push(outcomes);
     }
 
-    /// All residuals that are reached from that of a key, each once, with the least price of a run from it. The lists
-    /// are let go then: the walk alone needs them.
+    /// All residuals that are reached from that of a key, each once, with the least price of a run from it.
     pub fn reached(
         &mut self,
         alloc: Global,
         root: ResidualKey,
         budget: u32,
+        lists: ListsAfter,
     ) -> Result<ResidualRows, WalkFault>
         requires request { IsRequest self.old.request.now }
         requires live { IsLive self.old.numbers root }
@@ -177,7 +185,10 @@ impl<'a> NumberedCase<'a> {
         ensures large { IfErr result (ExceedsIf (Reached (leads_of self.old.book.now self.old.request.now) (residual_at self.old.numbers root)) budget) }
     {
         let rows = self.walked(alloc, root, budget);
-        self.let_go_lists(alloc);
+        match lists {
+            ListsAfter::Kept => {}
+            ListsAfter::LetGo => self.let_go_lists(alloc),
+        }
         rows
     }
 

@@ -8,8 +8,9 @@ ghost use Rattle.search_steps.specs.Numbers.{AreBare, ArePositionSteps, AreStepL
 ghost use Rattle.search_steps.specs.Tables.{AreTables, HasTable};
 
 use crate::Case;
-use crate::listing::{Doing, Listing, make_list};
+use crate::listing::{Doing, Listing, TableSteps, make_list};
 use crate::numbered::{PositionSteps, StepLists, UnitSlot, UnitSteps};
+use crate::runs::run_lengths;
 use crate::stepping::bare_steps;
 use crate::tables::{PositionTable, Tables};
 use crate::unit_spots::{add_place, find_unit_steps, unit_at};
@@ -203,15 +204,14 @@ impl StepLists {
         };
         let table = &tables.kept[key.place];
         let listing = listing(case, table, Doing::Joining(unit));
+        let steps = &self.positions[at];
+        let entries = TableSteps {
+            entries: table.entries.as_slice(),
+            bare: steps.bare.as_slice(),
+            runs: steps.runs.as_slice(),
+        };
         self.made.clear();
-        make_list(
-            alloc,
-            &mut self.made,
-            &mut self.numbers,
-            &listing,
-            table.entries.as_slice(),
-            self.positions[at].bare.as_slice(),
-        )
+        make_list(alloc, &mut self.made, &mut self.numbers, &listing, &entries)
     }
 }
 
@@ -237,25 +237,25 @@ fn position_steps(
     let table = &tables.kept[place];
     let entries = table.entries.as_slice();
     let bare = bare_steps(alloc, numbers, entries)?;
+    let runs = run_lengths(alloc, entries, bare.as_slice())?;
+    let steps = TableSteps {
+        entries,
+        bare: bare.as_slice(),
+        runs: runs.as_slice(),
+    };
     let mut alone = Vec::new(alloc);
     let doing = listing(case, table, Doing::Alone);
-    make_list(alloc, &mut alone, numbers, &doing, entries, bare.as_slice())?;
+    make_list(alloc, &mut alone, numbers, &doing, &steps)?;
     let mut opening = Vec::new(alloc);
     let doing = listing(case, table, Doing::Opening);
-    make_list(
-        alloc,
-        &mut opening,
-        numbers,
-        &doing,
-        entries,
-        bare.as_slice(),
-    )?;
+    make_list(alloc, &mut opening, numbers, &doing, &steps)?;
     Ok(PositionSteps {
         position,
         place,
         alone,
         opening,
         bare,
+        runs,
     })
 }
 

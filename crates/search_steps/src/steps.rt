@@ -13,7 +13,7 @@ ghost use Rattle.search_steps.specs.Keys.{live, state};
 ghost use Rattle.search_steps.specs.Leads.{leads_of, level_of};
 ghost use Rattle.search_steps.specs.LeastMoves.{AreLeastMoves, BoundBy, LeaveLive, least_as};
 
-use crate::numbered_case::NumberedCase;
+use crate::numbered_case::{ListsAfter, NumberedCase};
 use crate::{Bounds, Case, LeastMove, ResidualRows};
 use fare_book::Book;
 use fare_law::{List, Mem, Request};
@@ -134,6 +134,7 @@ impl<'a> SearchSteps<'a> {
         alloc: Global,
         root: ResidualKey,
         budget: u32,
+        lists: ListsAfter,
     ) -> Result<ResidualRows, WalkFault>
         requires request { IsRequest self.old.case.request.now }
         requires live { live self.old root }
@@ -146,7 +147,7 @@ impl<'a> SearchSteps<'a> {
         ensures keeps { KeepsStates (live self.old) (live self.new) (state self.old) (state self.new) }
         ensures case { IsSameCase self.old self.new }
     {
-        self.case.reached(alloc, root, budget)
+        self.case.reached(alloc, root, budget, lists)
     }
 
     /// Puts rows into the order of their residuals.

@@ -1,4 +1,4 @@
-use Rattle.std.proofs.Common.{take}
+use Rattle.std.proofs.Common.{◌-◌, ◌≤◌, length, take}
 use Rattle.residual_table.specs.Keys.{Grows}
 use Rattle.search_steps.specs.Listing.{IsListed}
 use Rattle.search_steps.specs.Numbers.{AreStepsOf}
@@ -6,6 +6,10 @@ use Rattle.search_steps.proofs.listing.add_all.Given as goal
 
 abbrev pub invariant-loop-at : goal.invariant-loop-at
 invariant-loop-at l = record {
-  steps : AreStepsOf l.numbers (IsListed l.listing) (take l.at l.entries) l.steps.items;
+  within : l.at ≤ length l.table.entries.now;
+  steps : AreStepsOf l.numbers (IsListed l.listing) (take l.at l.table.entries.now) l.steps.items;
   grows : Grows l.initial.numbers l.numbers;
 }
+
+abbrev pub decreases-loop-at : goal.decreases-loop-at
+decreases-loop-at l = length l.table.entries.now - l.at
