@@ -2,8 +2,9 @@
 own: library.py KIT CHECKOUT FILE [PROCESSES], by so many processes: up to three where none is said, which are done sooner, and one takes
 less of the processors.
 
-What is built is a crate that is made here of the heads of the calls of crates/lowfare_c: for each call an export of its name that has its
-clauses and calls it. The compiler proves that crate before it builds it, and rt holds what it says to the rules of each other verdict.
+What is built is a crate that is made here of the heads of the calls over handles of crates/shop_book: for each call an export of its
+name that has its clauses and calls it. The compiler proves that crate before it builds it, and rt holds what it says to the rules of
+each other verdict.
 """
 
 import copy
@@ -18,13 +19,13 @@ HEAD = re.compile(r"^pub fn (lowfare_\w+)\(([^)]*)\)((?: -> \w+)?\n.*?)^\{$", re
 # An import for clauses, and the names that it brings.
 IMPORT = re.compile(r"^ghost use .*\n", re.MULTILINE)
 IMPORTED = re.compile(r"[^\s{},;]+(?=[,};])")
-USES = "\nuse lowfare_c::Handle;\nuse std::alloc::Global;\n"
+USES = "\nuse shop_book::Handle;\nuse std::alloc::Global;\n"
 
 
 def export_of(name, parameters, clauses):
     """The export of a call."""
     given = ", ".join(re.findall(r"(\w+): ", parameters))
-    return f'\n#[unsafe(no_mangle)]\npub extern "C" fn {name}({parameters}){clauses}{{\n    lowfare_c::{name}({given})\n}}\n'
+    return f'\n#[unsafe(no_mangle)]\npub extern "C" fn {name}({parameters}){clauses}{{\n    shop_book::{name}({given})\n}}\n'
 
 
 def is_named(name, text):
@@ -49,14 +50,14 @@ def main(kit, checkout, file, processes=None):
     sys.path.insert(0, os.path.join(kit, "bin"))
     import rtlib
 
-    calls = rtlib.Crate(os.path.join(checkout, "crates", "lowfare_c"), checkout, {})
+    calls = rtlib.Crate(os.path.join(checkout, "crates", "shop_book"), checkout, {})
     exports = copy.copy(calls)
     exports.name, exports.is_static, exports.deps = "lowfare_exports", True, [*calls.deps, calls]
     with tempfile.TemporaryDirectory() as room:
         exports.folder = room
         source = pathlib.Path(room, "src")
         source.mkdir()
-        write_exports(pathlib.Path(calls.folder, "src"), source)
+        write_exports(pathlib.Path(calls.folder, "src", "handles"), source)
         words = exports.words(["--jobs", processes or str(min(os.cpu_count() or 1, 3))], keeps=False)
         words += ["--toolchain", os.path.join(kit, "toolchain"), "--backend", "llvm", "-o", file]
         # Its first call sets a signal's handler, which only the main thread may.

@@ -11,7 +11,7 @@ builder=$(dirname "$(readlink -f "${BASH_SOURCE[0]}")")/library.py
 # that are made of its calls.
 library_sum() {
   local sum
-  sum=$(root_crate=lowfare_c source_sum) || return
+  sum=$(root_crate=shop_book source_sum) || return
   { echo "$sum" && cat "$builder"; } | sha256sum | cut -d ' ' -f 1
 }
 

@@ -1,6 +1,7 @@
 -- What a calendar of a book replies, from what its parts give.
 use Rattle.std.proofs.Common.{◌≡◌, ◌==◌, ℕ, List, [], ◌∷◌, Option, None, Some, Result, Ok, Err, Bool, true, false, IfOk, if◌then◌else◌, length, ap, refl, sym, subst, ◌∙◌, inl, inr}
 use Rattle.std.proofs.lemmas.Bool.{ne_eqb}
+use Rattle.std.proofs.lemmas.Option.{none-some}
 use Rattle.fare_calendar.specs.Calendars.{HasCause, IsSpanned, spans_fit}
 use Rattle.fare_calendar.specs.declared.fault.CalendarFault.{CalendarFault}
 use Rattle.fare_calendar.specs.declared.fault.CalendarFault.TheVariants.{BadRequest, NotTwo, Span, Mem as NoMemory}
@@ -37,18 +38,10 @@ same_spans outs backs (out ∷ back ∷ other ∷ more) = refl
 
 -- a test that holds, or fails
 where_true : {A : Type 0} (test : Bool) (a b : A) → test ≡ true → a ≡ (if test then a else b)
-where_true true a b is = refl
-where_true false a b is = absurd (apart is)
-  where
-    apart : ◌≡◌ {A = Bool} false true → ⊥
-    apart e = cc
+where_true test a b is = subst (λ t. a ≡ (if t then a else b)) (sym is) refl
 
 where_false : {A : Type 0} (test : Bool) (a b : A) → test ≡ false → b ≡ (if test then a else b)
-where_false false a b is = refl
-where_false true a b is = absurd (apart is)
-  where
-    apart : ◌≡◌ {A = Bool} true false → ⊥
-    apart e = cc
+where_false test a b is = subst (λ t. b ≡ (if t then a else b)) (sym is) refl
 
 two_told : (n : ℕ) → n ≡ 2 → (n == 2) ≡ true
 two_told n is = subst (λ n. (n == 2) ≡ true) (sym is) refl
@@ -56,10 +49,7 @@ two_told n is = subst (λ n. (n == 2) ≡ true) (sym is) refl
 module _ (b : Book) (spans : Spans) (bytes : List ℕ) (q : Request) (is : asked b None bytes (Ok q)) where
   -- the fault of a calendar is the refusal of its request
   pub faulted : (fault : CalendarFault) (text : List ℕ) → judged (known_places b) q ≡ None → HasCause b q spans fault → TellsReason (calendar_reason fault) text → IsRefused (calendar_of b spans.outs spans.backs bytes) text
-  faulted (BadRequest why) text right cause told = absurd (apart (sym right ∙ cause))
-    where
-      apart : ◌≡◌ {A = Option Why} None (Some why) → ⊥
-      apart e = cc
+  faulted (BadRequest why) text right cause told = absurd (none-some why (sym right ∙ cause))
   faulted NotTwo text right cause told = record {
     cause = record { refusal = refused_at 1 NotTwoSlices; refused = inr (q, is, inl (where_false (length q.slices == 2) (Ok tt) (Err (refused_at 1 NotTwoSlices)) (ne_eqb (length q.slices) 2 cause.1))) };
     whole = told;

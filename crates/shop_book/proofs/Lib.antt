@@ -4,3 +4,6 @@ pub mod CheckReplies
 pub mod CalendarReplies
 pub mod VerdictReplies
 pub mod RunReplies
+pub mod Values
+pub mod Replying
+pub mod Keeping

@@ -5,6 +5,8 @@
 //!
 //! A text that is asked about stands for the one line, or for the lines, of its section of a case: the lines of a
 //! refusal are counted from 1 in that text.
+//!
+//! `handles` has the same calls for C, over handles by which it holds books and texts.
 #![tactic(auto)]
 
 mod asking;
@@ -12,6 +14,7 @@ mod calendars;
 mod certificates;
 mod checking;
 mod filing;
+mod handles;
 mod limits;
 mod opening;
 mod refusals;
@@ -25,6 +28,11 @@ mod verdicts;
 pub use calendars::calendar_text;
 pub use checking::check_text;
 pub use filing::file;
+pub use handles::{
+    Handle, Kept, Owned, lowfare_book_close, lowfare_book_share, lowfare_calendar, lowfare_check,
+    lowfare_file, lowfare_open, lowfare_run, lowfare_search, lowfare_text_copy, lowfare_text_free,
+    lowfare_text_length, lowfare_verdict, lowfare_version,
+};
 pub use lowfare::Outcome;
 pub use opening::open_book;
 pub use replies::Replied;

@@ -1,5 +1,0 @@
-pub mod Holding
-pub mod Held
-pub mod Told
-pub mod Made
-pub mod Questions
