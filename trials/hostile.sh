@@ -1,7 +1,7 @@
 #!/usr/bin/env bash
 # Runs all that is tried against the program, one part after the other, and prints the tables for docs/RELIABILITY.md:
 # trials/hostile.sh DONE [CASES [PART ..]]. CASES says how many random cases are compared with the reference, or with another program of the
-# same formats that PEER names (100,000), and the parts are memory, streams, damage, limits, differ, fuzz, desks and memcheck. The folder DONE
+# same formats that PEER names (100,000), and the parts are memory, room, streams, damage, limits, differ, fuzz, desks and memcheck. The folder DONE
 # keeps how far each part came: called again with it, a run that was cut off goes on, and what is done isn't done again. JOBS is how many runs
 # there are at a time (1).
 set -euo pipefail
@@ -10,7 +10,7 @@ top=$(cd "$(dirname "$0")/.." && pwd)
 source "$top/trials/survey/program.sh"
 done=$1 cases=${2:-100000}
 parts=("${@:3}")
-[ ${#parts[@]} -gt 0 ] || parts=(memory streams damage limits differ fuzz desks memcheck)
+[ ${#parts[@]} -gt 0 ] || parts=(memory room streams damage limits differ fuzz desks memcheck)
 export LOWFARE=$program DONE=$done
 
 mkdir -p "$done"
@@ -25,7 +25,7 @@ status=0
 for part in "${parts[@]}"; do
   echo "$(date -u +%H:%M:%S) $part"
   case $part in
-    memory | streams | memcheck | damage | limits) "$top/trials/$part.sh" "$done" ;;
+    memory | room | streams | memcheck | damage | limits) "$top/trials/$part.sh" "$done" ;;
     differ | fuzz | desks) "$top/trials/$part.sh" 1 "$cases" ;;
     *) echo "no such part: $part" >&2 && exit 2 ;;
   esac || status=1

@@ -6,6 +6,7 @@ top=$(cd "$(dirname "$0")/.." && pwd)
 # shellcheck source=trials/survey/program.sh
 source "$top/trials/survey/program.sh"
 done=${1:-$(mktemp -d)}
-library=$(mktemp -d)/streams.so
-cc -O2 -Wall -fPIC -shared -o "$library" "$top/trials/streams/streams.c" -ldl
-survey streams/streams.py "$program" "$library" "$done"
+libraries=$(mktemp -d)
+cc -O2 -Wall -fPIC -shared -o "$libraries/streams.so" "$top/trials/streams/streams.c" -ldl
+cc -O2 -Wall -fPIC -shared -o "$libraries/refuse.so" "$top/trials/memory/refuse.c" -ldl -lpthread
+survey streams/streams.py "$program" "$libraries/streams.so $libraries/refuse.so" "$done"

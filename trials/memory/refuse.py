@@ -1,63 +1,58 @@
 #!/usr/bin/env python3
-"""Refuses memory to each command on the worked cases: each allocation alone, and all from each one on; and to a search of a made case
-by less and less room. What comes is the whole text with its status, or status 5 with nothing written.
+"""Refuses memory to each command on the worked cases: each allocation alone, and all from each one on. What comes is the whole text with its
+status, or status 5 with nothing written; and what the program took of the heap and didn't give back is no more than in a run of which nothing
+is refused.
 
 usage: refuse.py PROGRAM LIBRARY DONE   DONE keeps how far each run came, so that a run that was cut off goes on
 """
 import os
-import resource
 import sys
+import tempfile
 
 from survey import Survey, ran, serves
 from worked import two_desks_texts, worked
 
 OUT_OF_MEMORY = 5
-ROOM_STEP = 16 * 1024
 
 
-def judged(got, wholes, what, case):
-    if got == (b"", OUT_OF_MEMORY):
+def refused(program, library, done, words, case, number, **more):
+    """What comes where this allocation is refused, none where it is 0; how many allocations were asked for, and how many blocks are left."""
+    file, name = tempfile.mkstemp(dir=done)
+    os.close(file)
+    got = ran(program, words, case, env=dict(os.environ, LD_PRELOAD=library, REFUSE=str(number), COUNTED=name, **more))
+    with open(name) as held:
+        counts = [int(count) for count in held.read().split()]
+    os.remove(name)
+    return got, *(counts or (0, 0))
+
+
+def judged(run, wholes, most_left, what, case):
+    (text, status), _, left = run
+    if left > most_left:
+        return ["wrong"], (f"{what}: {left} blocks were left, and {most_left} without it", case)
+    if (text, status) == (b"", OUT_OF_MEMORY):
         return ["status 5"], None
-    if got in wholes:
+    if (text, status) in wholes:
         return ["whole text"], None
-    return ["wrong"], (f"{what}: status {got[1]}, {len(got[0])} bytes", case)
-
-
-def refused(program, library, words, case, number, **more):
-    held = dict(os.environ, LD_PRELOAD=library, REFUSE=str(number), **more)
-    return ran(program, words, case, env=held)
+    return ["wrong"], (f"{what}: status {status}, {len(text)} bytes", case)
 
 
 def each_allocation(program, library, done, name, words, case, wholes):
-    counted = f"{done}/counted"
-    whole = refused(program, library, words, case, 0, COUNTED=counted)
+    whole, count, left = refused(program, library, done, words, case, 0)
     if whole not in wholes:
         print(f"memory-{name}: with the library, but nothing refused, it writes something else")
         return False
-    with open(counted) as held:
-        count = int(held.read())
 
     def judge(number):
-        names, wrong = judged(refused(program, library, words, case, number + 1), wholes, f"allocation {number + 1} of {name}", case)
+        one = refused(program, library, done, words, case, number + 1)
+        names, wrong = judged(one, wholes, left, f"allocation {number + 1} of {name}", case)
         if wrong:
             return names, wrong
-        more, wrong = judged(refused(program, library, words, case, number + 1, FROM="1"), wholes, f"from allocation {number + 1} of {name} on", case)
+        all_from = refused(program, library, done, words, case, number + 1, FROM="1")
+        more, wrong = judged(all_from, wholes, left, f"from allocation {number + 1} of {name} on", case)
         return [*names, *(f"{one}, all from one on" for one in more)], wrong
 
     return Survey(done, f"memory-{name}").run(count, judge)
-
-
-def less_room(program, done):
-    """A search with an address space from the least in which the program starts to the first in which it ends."""
-    case = ran(program, ["make", "--seed", "1", "--size", "60"], b"")[0]
-    usage, whole = ran(program, [], b""), ran(program, ["search"], case)
-
-    def within(words, given, steps):
-        return ran(program, words, given, preexec_fn=lambda: resource.setrlimit(resource.RLIMIT_AS, (steps * ROOM_STEP,) * 2))
-
-    least = next(steps for steps in range(1, 100000) if within([], b"", steps) == usage)
-    most = next(steps for steps in range(least, 100000, 16) if within(["search"], case, steps) == whole)
-    return Survey(done, "memory-room").run(most - least, lambda number: judged(within(["search"], case, least + number), [whole], f"room of {least + number} times 16 KB", case))
 
 
 def main():
@@ -74,7 +69,6 @@ def main():
             print(f"memory-{name}: left out, since the program doesn't have this command")
             continue
         right &= each_allocation(program, library, done, name, words, case, wholes)
-    right &= less_room(program, done)
     sys.exit(0 if right else 1)
 
 

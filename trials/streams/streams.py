@@ -1,13 +1,15 @@
 #!/usr/bin/env python3
 """Each command on the worked cases with broken streams. A fault of reading gives status 3 and nothing written, a fault of writing
-status 4 and a front of the text, and a stream that is only slow or takes little at a time the whole text.
+status 4 and a front of the text, and a stream that is only slow or takes little at a time the whole text. Where a library makes the fault, no more
+blocks of the heap are left at the end than in a run without one.
 
-usage: streams.py PROGRAM LIBRARY DONE
+usage: streams.py PROGRAM LIBRARIES DONE
 """
 import collections
 import os
 import subprocess
 import sys
+import tempfile
 import threading
 import time
 
@@ -25,6 +27,8 @@ class Command:
         self.name, self.words, self.case, self.wholes = name, words, case, wholes
         self.reads = not " ".join(words).startswith(READS_NOTHING)
         self.longest = max(len(text) for text, _ in wholes)
+        # How many blocks of the heap are left where no stream has a fault.
+        self.left = 0
 
 
 def whole(command, text, status):
@@ -60,9 +64,19 @@ def run(program, command, **more):
     return done.stdout, done.returncode, done.stderr
 
 
-def preloaded(program, library, command, **faults):
-    held = dict(os.environ, LD_PRELOAD=library, **{name: str(number) for name, number in faults.items()})
-    return run(program, command, input=command.case, env=held)
+def counted(program, libraries, command, **faults):
+    """A run with the libraries, and how many blocks of the heap are left."""
+    with tempfile.NamedTemporaryFile("r") as counts:
+        held = dict(os.environ, LD_PRELOAD=libraries, COUNTED=counts.name, **{name: str(number) for name, number in faults.items()})
+        text, status, said = run(program, command, input=command.case, env=held)
+        return text, status, said, int(counts.read().split()[1])
+
+
+def preloaded(program, libraries, command, **faults):
+    text, status, said, left = counted(program, libraries, command, **faults)
+    if left > command.left:
+        status = f"{status} with {left} blocks left, and {command.left} without a fault,"
+    return text, status, said
 
 
 def from_shell(program, command, redirections):
@@ -159,7 +173,7 @@ def any_fault(command, text, status):
     return text == b"" and status == (READ_FAULT if command.reads else WRITE_FAULT)
 
 
-def trials(program, library, command):
+def trials(program, libraries, command):
     """Name of the stream, how it is run, and what must come."""
     for name, redirections, judge in shell_streams():
         yield name, lambda redirections=redirections: from_shell(program, command, redirections), judge or any_fault
@@ -168,17 +182,17 @@ def trials(program, library, command):
     yield "a slow reader", lambda: slow_reader(program, command), whole
     yield "a reader that has gone", lambda: reader_leaves(program, command, 0), some_front
     for call in range(1, 7):
-        yield "a read that fails", lambda call=call: preloaded(program, library, command, READ_FAILS=call), read_or_not
-        yield "a read that is interrupted", lambda call=call: preloaded(program, library, command, READ_BREAKS=call), read_or_not
-    yield "one byte a read", lambda: preloaded(program, library, command, READ_MOST=1), whole
-    yield "one byte a write", lambda: preloaded(program, library, command, WRITE_MOST=1), whole
+        yield "a read that fails", lambda call=call: preloaded(program, libraries, command, READ_FAILS=call), read_or_not
+        yield "a read that is interrupted", lambda call=call: preloaded(program, libraries, command, READ_BREAKS=call), read_or_not
+    yield "one byte a read", lambda: preloaded(program, libraries, command, READ_MOST=1), whole
+    yield "one byte a write", lambda: preloaded(program, libraries, command, WRITE_MOST=1), whole
     for call in sorted({1, 2, 3, command.longest // 2, command.longest, command.longest + 1}):
-        yield "a write that fails, one byte a write", lambda call=call: preloaded(program, library, command, WRITE_MOST=1, WRITE_FAILS=call), front(call - 1)
-        yield "a write that is interrupted", lambda call=call: preloaded(program, library, command, WRITE_MOST=1, WRITE_BREAKS=call), lambda *got: whole(*got) or some_front(*got)
+        yield "a write that fails, one byte a write", lambda call=call: preloaded(program, libraries, command, WRITE_MOST=1, WRITE_FAILS=call), front(call - 1)
+        yield "a write that is interrupted", lambda call=call: preloaded(program, libraries, command, WRITE_MOST=1, WRITE_BREAKS=call), lambda *got: whole(*got) or some_front(*got)
     sizes = range(command.longest + 1) if command.longest <= 2000 else range(0, command.longest + 1, command.longest // 100)
     for room in sizes:
-        yield "full at a size", lambda room=room: preloaded(program, library, command, WRITE_ROOM=room), front(room)
-        yield "takes nothing after a size", lambda room=room: preloaded(program, library, command, WRITE_ROOM=room, WRITE_NONE=1), front(room)
+        yield "full at a size", lambda room=room: preloaded(program, libraries, command, WRITE_ROOM=room), front(room)
+        yield "takes nothing after a size", lambda room=room: preloaded(program, libraries, command, WRITE_ROOM=room, WRITE_NONE=1), front(room)
 
 
 def commands(program, top):
@@ -190,11 +204,12 @@ def commands(program, top):
 
 
 def main():
-    program, library, done = sys.argv[1:4]
+    program, libraries, done = sys.argv[1:4]
     top = os.path.dirname(os.path.dirname(os.path.dirname(os.path.abspath(__file__))))
     every, told = [], collections.Counter()
     for command in commands(program, top):
-        every += [(command, *trial) for trial in trials(program, library, command)]
+        command.left = counted(program, libraries, command)[3]
+        every += [(command, *trial) for trial in trials(program, libraries, command)]
 
     def judge(number):
         command, name, trial, right = every[number]

@@ -10,6 +10,7 @@ import sys
 
 PARTS = {
     "memory": "`trials/memory.sh`: each allocation refused alone, and all from it on",
+    "room": "`trials/room.sh`: twenty sizes of address space, and of stack",
     "streams": "`trials/streams.sh`: closed, failing, full, broken and slow streams",
     "damage": "`trials/damage.sh`: cases, certificates and tickets with each byte changed, and cut after each",
     "limits": "`trials/limits.sh`: one input at each limit and one past it",
@@ -52,7 +53,7 @@ def main():
             print(f"\n| {part} | Times | What came |\n|---|---|---|")
         for one in every[part]:
             print(f"| {one['name'].removeprefix(part + '-')} | {times(one['reached'])} | {listed(one['seen'])} |")
-    for part in ("streams", "differ", "fuzz", "desks"):
+    for part in ("room", "streams", "differ", "fuzz", "desks"):
         seen = sum((collections.Counter(one["seen"]) for one in every[part]), collections.Counter())
         if seen:
             print(f"\n| {part} | Times |\n|---|---|")
