@@ -23,5 +23,5 @@ mkdir -p "$copy/crates/soak/src"
 cp "$top/trials/soak/main.rt.txt" "$copy/crates/soak/src/main.rt"
 echo 'soak: fare_law fare_io lowfare' >>"$copy/crates.txt"
 "$program" make --seed 1 --size 20 | python3 "$top/trials/soak/case.py" >"$copy/case"
-(cd "$copy/crates/soak" && rt run 1 <"$copy/case" >"$copy/build.txt" 2>&1) || { cat "$copy/build.txt" >&2; exit 1; }
+(cd "$copy/crates/soak" && rt run <"$copy/case" >"$copy/build.txt" 2>&1) || { cat "$copy/build.txt" >&2; exit 1; }
 python3 "$top/trials/soak/watch.py" "$copy/crates/soak/out/soak" "$copy/case" "$seconds"
